@@ -14,6 +14,7 @@
 #include "unit.h"
 #include "driver.h"
 #include "happenings.h"
+#include "held.h"
 
 /* tgtd's TransportIDs: 4 bytes, the name, a zero, the text ",i,0x" and the ISID as it is. In SPC-4,
  * 7.6.4, the ISID is in hexadecimal. */
@@ -139,20 +140,23 @@ static int deliver(struct scsi_cmd *cmd, const mdl_reply *reply)
 static void trace(struct scsi_cmd *cmd, int initiator, const mdl_reply *reply)
 {
     int length = get_scsi_cdb_size(cmd), at;
-    char cdb[2 * TRACED_CDB + 1];
+    char cdb[2 * TRACED_CDB + 1], text[64] = "no reply";
     mdl_sense sense;
 
     for (at = 0; at < length && at < TRACED_CDB; at++)
         sprintf(cdb + 2 * at, "%02x", cmd->scb[at]);
     if (mdl_read_sense(reply->sense, reply->sense_length, &sense))
         memset(&sense, 0, sizeof sense);
-    dprintf("TRACE initiator %d, %s, data-out %u: status %02x, sense %x/%02x/%02x, data-in %zu\n",
-            initiator, cdb, scsi_get_out_length(cmd), reply->status, sense.key, sense.asc,
-            sense.ascq, reply->data_in_length);
+    if (reply->status != MDL_NO_REPLY)
+        snprintf(text, sizeof text, "status %02x, sense %x/%02x/%02x, data-in %zu", reply->status,
+                 sense.key, sense.asc, sense.ascq, reply->data_in_length);
+    dprintf("TRACE initiator %d, %s, data-out %u: %s\n", initiator, cdb, scsi_get_out_length(cmd),
+            text);
 }
 
 /* Called by tgtd for each command, with the whole of its data-out. A port without a number gets
- * BUSY: tgtd asks nobody before it lets a port log in. */
+ * BUSY: tgtd asks nobody before it lets a port log in. tgtd sends the status that is returned,
+ * unless the command is held. */
 static int execute(int tid, struct scsi_cmd *cmd)
 {
     int initiator;
@@ -173,6 +177,10 @@ static int execute(int tid, struct scsi_cmd *cmd)
     }
     if (is_debug)
         trace(cmd, initiator, &reply);
+    if (reply.status == MDL_NO_REPLY) {
+        hold(cmd);
+        return SAM_STAT_GOOD;
+    }
     return deliver(cmd, &reply);
 }
 
@@ -233,6 +241,7 @@ static int open_disk(struct scsi_lu *lu, char *path, int *fd, uint64_t *size)
         return -EINVAL;
     }
     memset(&unit->table, 0, sizeof unit->table);
+    INIT_LIST_HEAD(&unit->held);
     watch(lu, &store);
     *fd = -1;
     *size = blocks * MDL_BLOCK_LENGTH;
@@ -241,6 +250,7 @@ static int open_disk(struct scsi_lu *lu, char *path, int *fd, uint64_t *size)
 
 static void close_disk(struct scsi_lu *lu)
 {
+    end_held(lu, ANY_SESSION, ANY_TAG);
     mdl_free(&unit_of(lu)->disk);
 }
 

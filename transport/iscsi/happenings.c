@@ -5,11 +5,10 @@
 #include <string.h>
 
 #include "happenings.h"
+#include "driver.h"
+#include "held.h"
+#include "words.h"
 #include "iscsi/iscsid.h"
-
-/* While no LOGICAL UNIT RESET has come, `reserve_id` of a logical unit has this value, which is the
- * number of no session. tgtd writes 0 there at the reset, and uses the field for nothing else. */
-#define NO_RESET UINT64_MAX
 
 /* Of session numbers, which have 16 bits and count up. */
 enum { HALF_OF_ALL_SESSIONS = 1 << 15 };
@@ -24,7 +23,28 @@ static const char *name_of(uint32_t kind)
     case MDL_TARGET_RESET: return "target reset";
     case MDL_GROW: return "growth";
     case MDL_ATTENTION: return "unit attention";
+    case MDL_ARM: return "fault";
+    case MDL_DISARM: case MDL_DISARM_ALL: return "heal";
     default: return "I_T nexus loss";
+    }
+}
+
+/* A power cycle and a reset end each command of the disk. A lost nexus ends those of its initiator
+ * (SAM-5, 6.3). Only held commands have not ended by then. */
+static void end_commands(struct scsi_lu *lu, const mdl_happening *happening)
+{
+    uint64_t session;
+
+    switch (happening->kind) {
+    case MDL_POWER_CYCLE: case MDL_LOGICAL_UNIT_RESET: case MDL_TARGET_RESET:
+        end_held(lu, ANY_SESSION, ANY_TAG);
+        break;
+    case MDL_NEXUS_LOSS:
+        session = unit_of(lu)->sessions[happening->initiator];
+        if (session)
+            end_held(lu, session, ANY_TAG);
+        break;
+    default: break;
     }
 }
 
@@ -39,6 +59,7 @@ static int happen(struct scsi_lu *lu, const mdl_happening *happening)
                 name_of(happening->kind), (int)error);
         return 0;
     }
+    end_commands(lu, happening);
     if (is_debug && happening->kind == MDL_NEXUS_LOSS)
         dprintf("TRACE initiator %u, %s\n", happening->initiator, name_of(happening->kind));
     else if (is_debug)
@@ -67,18 +88,8 @@ static unsigned initiators_in_session(struct scsi_lu *lu)
     return found;
 }
 
-/* tgtd keeps a unit attention of its own for each session and each reset, which nobody reads. */
-static void forget_tgtds_attentions(struct scsi_lu *lu)
-{
-    struct it_nexus_lu_info *info;
-
-    list_for_each_entry(info, &lu->lu_itl_info_list, lu_itl_info_siblings)
-        ua_sense_clear(info, ASC_POWERON_RESET);
-}
-
 void notice(struct scsi_lu *lu)
 {
-    static const mdl_happening reset = { .kind = MDL_LOGICAL_UNIT_RESET };
     uint64_t *sessions = unit_of(lu)->sessions;
     unsigned present = initiators_in_session(lu);
     int initiator;
@@ -88,11 +99,6 @@ void notice(struct scsi_lu *lu)
             sessions[initiator] = 0;
             lose_nexus(lu, initiator);
         }
-    if (lu->reserve_id != NO_RESET) {
-        lu->reserve_id = NO_RESET;
-        forget_tgtds_attentions(lu);
-        happen(lu, &reset);
-    }
 }
 
 /* tgtd lets a port log in again without ending its old session. The old one is lost with the first
@@ -108,6 +114,24 @@ void note_session(struct scsi_lu *lu, int initiator, uint64_t session)
     *last = session;
 }
 
+/* tgtd keeps a unit attention of its own for each session and each reset, which nobody reads. */
+static void forget_tgtds_attentions(struct scsi_lu *lu)
+{
+    struct it_nexus_lu_info *info;
+
+    list_for_each_entry(info, &lu->lu_itl_info_list, lu_itl_info_siblings)
+        ua_sense_clear(info, ASC_POWERON_RESET);
+}
+
+static void reset_unit(struct scsi_lu *lu)
+{
+    static const mdl_happening reset = { .kind = MDL_LOGICAL_UNIT_RESET };
+
+    notice(lu);
+    forget_tgtds_attentions(lu);
+    happen(lu, &reset);
+}
+
 /* Tells each disk of a target of its reset. Returns 0 if a disk refuses it. */
 static int reset_target(const struct target *target)
 {
@@ -121,6 +145,66 @@ static int reset_target(const struct target *target)
             is_done &= happen(lu, &reset);
         }
     return is_done;
+}
+
+/* The target of a connection, or null if the connection has no session. */
+static const struct target *target_of(const struct iscsi_connection *connection)
+{
+    const struct iscsi_session *session = connection->session;
+    const struct it_nexus *nexus = NULL;
+
+    if (session)
+        nexus = it_nexus_lookup(session->target->tid, session->tsih);
+    return nexus ? nexus->nexus_target : NULL;
+}
+
+/* Does for a disk what a task management function asks for. tgtd does not know held commands: for
+ * it, a command to be aborted does not exist. */
+static void perform(struct scsi_lu *lu, struct mgmt_req *request, struct iscsi_task *task)
+{
+    struct iscsi_tm *function = (struct iscsi_tm *)&task->req;
+    int is_addressed = scsi_get_devid(lu->tgt->lid, function->lun) == lu->lun;
+    uint64_t session = task->conn->session->tsih;
+
+    if (request->function == ABORT_TASK && end_held(lu, session, function->rtt) > 0)
+        request->result = 0;
+    else if (request->function == ABORT_TASK_SET && is_addressed)
+        end_held(lu, session, ANY_TAG);
+    else if (request->function == LOGICAL_UNIT_RESET && is_addressed)
+        reset_unit(lu);
+}
+
+static int (*end_function)(struct mgmt_req *request);
+
+/* tgtd calls this function in place of its own before it sends the response of a task management
+ * function. */
+static int watch_functions(struct mgmt_req *request)
+{
+    struct iscsi_task *task = (struct iscsi_task *)(uintptr_t)request->mid;
+    const struct target *target = target_of(task->conn);
+    struct scsi_lu *lu;
+
+    if (target)
+        list_for_each_entry(lu, &target->device_list, device_siblings)
+            if (lu->bst == own_store)
+                perform(lu, request, task);
+    return end_function(request);
+}
+
+static size_t (*close_connection)(struct iscsi_connection *connection);
+
+/* tgtd calls this function in place of its own when it closes a connection. It frees the connection
+ * and its session after the last of its commands has ended. */
+static size_t watch_close(struct iscsi_connection *connection)
+{
+    const struct target *target = target_of(connection);
+    struct scsi_lu *lu;
+
+    if (target)
+        list_for_each_entry(lu, &target->device_list, device_siblings)
+            if (lu->bst == own_store)
+                end_held(lu, connection->session->tsih, ANY_TAG);
+    return close_connection(connection);
 }
 
 /* tgtd refuses target resets, without asking anybody. */
@@ -140,100 +224,60 @@ static void (*modify_events)(struct iscsi_connection *connection, int events);
 static void watch_responses(struct iscsi_connection *connection, int events)
 {
     struct iscsi_task *last = list_entry(connection->tx_clist.prev, struct iscsi_task, c_list);
-    struct it_nexus *nexus = NULL;
+    const struct target *target = NULL;
 
-    if (connection->session && !list_empty(&connection->tx_clist) && is_refused_target_reset(last))
-        nexus = it_nexus_lookup(connection->session->target->tid, connection->session->tsih);
-    if (nexus && reset_target(nexus->nexus_target))
+    if (!list_empty(&connection->tx_clist) && is_refused_target_reset(last))
+        target = target_of(connection);
+    if (target && reset_target(target))
         last->result = ISCSI_TMF_RSP_COMPLETE;
     modify_events(connection, events);
 }
 
 /* tgtd's list of transports has no name outside tgtd. A transport that registers is in the list,
  * and TCP's is found from there. */
-static void watch_transport(void)
+static struct iscsi_transport *find_transport(void)
 {
     static struct iscsi_transport probe;
     struct iscsi_transport *transport = &probe;
 
-    if (modify_events)
-        return;
     iscsi_transport_register(&probe);
     do
         transport = list_entry(transport->iscsi_transport_siblings.prev, struct iscsi_transport,
                                iscsi_transport_siblings);
     while (strcmp(transport->name, "iscsi") != 0);
     list_del(&probe.iscsi_transport_siblings);
-    modify_events = transport->ep_event_modify;
-    transport->ep_event_modify = watch_responses;
+    return transport;
 }
 
 void watch(struct scsi_lu *lu, const struct backingstore_template *store)
 {
-    own_store = store;
+    struct tgt_driver *driver = tgt_drivers[lu->tgt->lid];
+    struct iscsi_transport *transport;
+
     memset(unit_of(lu)->sessions, 0, sizeof unit_of(lu)->sessions);
-    lu->reserve_id = NO_RESET;
-    watch_transport();
-}
-
-/* Reads a code such as 2Ah/06h, and the initiator that gets the unit attention; if there is none,
- * each initiator gets it. Returns 0 if `text` is something else. */
-static int read_attention(const char *text, mdl_happening *happening)
-{
-    char initiator[2];
-    int end = 0;
-
-    happening->kind = MDL_ATTENTION;
-    happening->initiators = (1u << MDL_INITIATORS) - 1;
-    sscanf(text, "attention=%2" SCNx8 "h/%2" SCNx8 "h,%n", &happening->asc, &happening->ascq, &end);
-    if (end == 0 && sscanf(text, "attention=%*2xh/%*2xh:%1[0-7],%n", initiator, &end) == 1)
-        happening->initiators = 1u << (initiator[0] - '0');
-    return end > 0 && text[end] == '\0';
-}
-
-/* Reads `name` and a number. Returns 0 if `text` is something else. */
-static int read_count(const char *text, const char *name, uint64_t *count)
-{
-    size_t length = strlen(name);
-    char *end;
-
-    if (strncmp(text, name, length) != 0 || text[length] < '0' || text[length] > '9')
-        return 0;
-    *count = strtoull(text + length, &end, 10);
-    return strcmp(end, ",") == 0;
-}
-
-/* Reads a parameter of `update`. Returns 0 if there is no such parameter. */
-static int read_parameter(const char *text, mdl_happening *happening)
-{
-    uint64_t initiator;
-
-    memset(happening, 0, sizeof *happening);
-    if (strcmp(text, "power=cycle,") == 0) {
-        happening->kind = MDL_POWER_CYCLE;
-    } else if (strcmp(text, "reset=unit,") == 0) {
-        happening->kind = MDL_LOGICAL_UNIT_RESET;
-    } else if (strcmp(text, "reset=target,") == 0) {
-        happening->kind = MDL_TARGET_RESET;
-    } else if (read_count(text, "nexus=", &initiator)) {
-        happening->kind = MDL_NEXUS_LOSS;
-        happening->initiator = initiator < MDL_INITIATORS ? (uint32_t)initiator : MDL_INITIATORS;
-    } else if (read_count(text, "grow=", &happening->blocks)) {
-        happening->kind = MDL_GROW;
-    } else {
-        return read_attention(text, happening);
-    }
-    return 1;
+    if (own_store)
+        return;
+    own_store = store;
+    transport = find_transport();
+    modify_events = transport->ep_event_modify;
+    transport->ep_event_modify = watch_responses;
+    close_connection = transport->ep_close;
+    transport->ep_close = watch_close;
+    end_function = driver->mgmt_end_notify;
+    driver->mgmt_end_notify = watch_functions;
 }
 
 tgtadm_err update(struct scsi_lu *lu, char *params)
 {
     static const char prefix[] = "targetOps ";
+    size_t length = strlen(params);
     mdl_happening happening;
     int is_done;
 
-    if (strncmp(params, prefix, sizeof prefix - 1) != 0
-        || !read_parameter(params + sizeof prefix - 1, &happening))
+    if (strncmp(params, prefix, sizeof prefix - 1) != 0 || params[length - 1] != ',')
+        return TGTADM_UNKNOWN_PARAM;
+    params[length - 1] = '\0';
+    if (!read_happening(params + sizeof prefix - 1, &happening))
         return TGTADM_UNKNOWN_PARAM;
     notice(lu);
     if (happening.kind == MDL_TARGET_RESET)

@@ -1,20 +1,20 @@
 /* Tells disks what happens to them beside commands: resets, lost sessions, and what a person asks
  * for.
  *
- * tgtd calls a backing store only for commands. So this file looks for a LOGICAL UNIT RESET and for
- * lost sessions before each command of the logical unit. No command can see the difference. It sees
- * a reset of the target at once. */
+ * tgtd calls a backing store only for commands. So this file puts functions of its own in places
+ * where tgtd calls others: for the responses of task management functions, and when it closes a
+ * connection. It looks for lost sessions before each command of the logical unit. No command can
+ * see that this is late. */
 #ifndef HAPPENINGS_H
 #define HAPPENINGS_H
 
 #include "unit.h"
 
-/* Begins to look, for a logical unit that tgtd has just opened, and for target resets. `store` is
- * the backing store of the logical units that have disks. */
+/* Begins to look, for a logical unit that tgtd has just opened. `store` is the backing store of the
+ * logical units that have disks. */
 void watch(struct scsi_lu *lu, const struct backingstore_template *store);
 
-/* Tells the disk which sessions were lost and whether the logical unit was reset, since the last
- * call. */
+/* Tells the disk which sessions were lost since the last call. */
 void notice(struct scsi_lu *lu);
 
 /* Notes the session that a command of an initiator comes from. If this initiator's port logged in
@@ -22,7 +22,7 @@ void notice(struct scsi_lu *lu);
 void note_session(struct scsi_lu *lu, int initiator, uint64_t session);
 
 /* Called by tgtd with the parameter of `tgtadm --op update --mode logicalunit`, as tgtadm sends it:
- * "targetOps PARAMETER,". The README lists the parameters under "Several disks". */
+ * "targetOps WORDS,". The words are a script's (docs/SCRIPT.md), such as "fault arrival busy". */
 tgtadm_err update(struct scsi_lu *lu, char *params);
 
 #endif

@@ -16,6 +16,7 @@ struct unit {
     mdl_disk disk;
     struct port_table table;
     uint64_t sessions[PORT_NUMBERS]; /* of the port that has the number; 0: none, or it was lost */
+    struct list_head held;           /* commands without a reply, by their field bs_list */
 };
 
 _Static_assert(PORT_NUMBERS == MDL_INITIATORS, "a number for each initiator");

@@ -1,8 +1,13 @@
 /* Sends commands to a target, from lines, and prints each reply as sgrun does.
- *     initiator [--eight] [--target COMMAND] URL [SCRIPT]
+ *     initiator [--eight] [--bytes] [--target COMMAND] URL [SCRIPT]
  *
  *     raw I CDB [DATA]            sends a CDB of at most 16 bytes, and data-out, in hexadecimal.
  *     fill I LBA COUNT BYTE       sends WRITE(16) of equal blocks. Numbers are 17, 0x11 or 11h.
+ *     send I CDB [DATA]           sends a CDB as `raw` does, without waiting for its reply.
+ *     wait I                      waits for the replies to all that `send` has sent, and prints
+ *                                 them. A command that gets none stays under way.
+ *     abort I                     sends ABORT TASK for the first command of I that is under way.
+ *     abort I all                 sends ABORT TASK SET.
  *     drop I                      closes the connection without a logout.
  *     logout I                    logs out.
  *     again I                     logs in again, and keeps the connection of the old session open.
@@ -11,12 +16,17 @@
  *     warm I, cold I              sends a TARGET WARM RESET, or a TARGET COLD RESET.
  *     power                       runs `COMMAND power`. So do the other words by which something
  *                                 happens to an extended disk: `reset`, `reset target`, `nexus I`,
- *                                 `grow N`, `attention CODE` and `attention CODE I`.
+ *                                 `grow N`, `attention CODE`, `attention CODE I`, and the words of
+ *                                 `fault` and `heal`.
  *     # ..                        is a comment.
  *
  * I is an initiator port, 0 to 9. It logs in with its first line, and again with the first line
  * after `drop` or `logout`. It is the same port then: its name and its ISID follow from I. With
- * --eight, ports 0 to 7 log in at the beginning and send an INQUIRY each, in this order.
+ * --eight, ports 0 to 7 log in at the beginning and send an INQUIRY each, in this order. With
+ * --bytes, sense data is also printed as bytes, and so is data-in that came with it.
+ *
+ * A command without a reply is NO REPLY: the target has replied to a later NOP-Out, twice. `raw`
+ * and `fill` then send ABORT TASK for it.
  *
  * The first reply whose status is not 0 decides the exit status, as for sgrun. A line with a fault
  * ends the script with status 2. */
@@ -31,7 +41,9 @@ enum {
     PORTS = 10,
     EIGHT = 8,
     MOST_LINE = 4 * 1024 * 1024,
-    MOST_WORDS = 5,
+    MOST_WORDS = 64,
+    MOST_SENT = 16,
+    MOST_IMMEDIATE = 8192,
     MOST_COMMAND = 1024,
     MOST_FILL = 256,
     BYTES_OF_A_ROW = 16
@@ -40,11 +52,21 @@ enum {
 /* The status of a line that can't be executed. */
 enum { FAULT = 2 };
 
+/* A sense key. */
+enum { RECOVERED_ERROR = 0x1 };
+
 static const char *url;
 static const char *target_command;
 static struct session *sessions[PORTS];
 static struct session *old_sessions[PORTS]; /* after `again` */
-static struct answer answer;
+
+/* The commands of `send`, with the lines that sent them. Null: none. */
+static struct sent {
+    struct command *command;
+    unsigned long line;
+} sent[PORTS][MOST_SENT];
+
+static int prints_bytes;
 static unsigned long line;
 static int exit_status;
 
@@ -60,30 +82,36 @@ static const char *name_of(int status)
     case MDL_GOOD: return "GOOD";
     case MDL_CHECK_CONDITION: return "CHECK CONDITION";
     case MDL_RESERVATION_CONFLICT: return "RESERVATION CONFLICT";
-    case 0x08: return "BUSY";
+    case MDL_BUSY: return "BUSY";
+    case MDL_TASK_SET_FULL: return "TASK SET FULL";
     default: return "NO REPLY";
     }
 }
 
-static const char *name_of_key(uint8_t key)
+/* Some keys have no name in sgrun. */
+static void print_key(uint8_t key)
 {
     static const char *const names[16] = {
         [0x0] = "NO SENSE", [0x5] = "ILLEGAL REQUEST", [0x6] = "UNIT ATTENTION",
         [0x7] = "DATA PROTECT", [0xB] = "ABORTED COMMAND"
     };
 
-    return key < 16 && names[key] ? names[key] : "OTHER KEY";
+    if (names[key & 15])
+        printf("  sense: %s", names[key & 15]);
+    else
+        printf("  sense: KEY %02Xh", key);
 }
 
-static void print_sense(void)
+static void print_sense(const struct answer *answer)
 {
     mdl_sense sense;
 
-    if (mdl_read_sense(answer.sense, answer.sense_length, &sense)) {
+    if (mdl_read_sense(answer->sense, answer->sense_length, &sense)) {
         puts("  sense: unreadable");
         return;
     }
-    printf("  sense: %s, %02Xh/%02Xh", name_of_key(sense.key), sense.asc, sense.ascq);
+    print_key(sense.key);
+    printf(", %02Xh/%02Xh", sense.asc, sense.ascq);
     if (sense.has_information)
         printf(", information 0x%016" PRIx64, sense.information);
     if (sense.has_pointer)
@@ -91,33 +119,51 @@ static void print_sense(void)
     putchar('\n');
 }
 
-static void print_data_in(void)
+static void print_bytes(const uint8_t *bytes, size_t length)
 {
     size_t at;
 
-    for (at = 0; at < answer.data_in_length; at++) {
+    for (at = 0; at < length; at++) {
         if (at % BYTES_OF_A_ROW == 0)
             printf("  %08zx ", at);
-        printf(" %02x", answer.data_in[at]);
-        if (at % BYTES_OF_A_ROW == BYTES_OF_A_ROW - 1 || at + 1 == answer.data_in_length)
+        printf(" %02x", bytes[at]);
+        if (at % BYTES_OF_A_ROW == BYTES_OF_A_ROW - 1 || at + 1 == length)
             putchar('\n');
     }
 }
 
-/* Data-in and its residual make up the expected length; all data-out is transferred. */
-static void print_answer(const struct request *request)
+/* libiscsi drops the data-in of a recovered error, unless it is printed. */
+static int is_dropped(const struct answer *answer)
 {
-    mdl_reply reply = { .status = (uint8_t)answer.status };
-    size_t transferred = request->direction == DATA_IN ? answer.data_in_length : request->length;
+    mdl_sense sense;
 
-    printf("line %lu: %s\n", line, name_of(answer.status));
-    if (answer.status == MDL_CHECK_CONDITION)
-        print_sense();
-    print_data_in();
-    if (answer.residual < 0 || transferred + (size_t)answer.residual != request->length)
-        printf("  residual: %ld of %zu\n", answer.residual, request->length);
-    reply.sense_length = (uint8_t)answer.sense_length;
-    memcpy(reply.sense, answer.sense, answer.sense_length);
+    return !prints_bytes
+           && !mdl_read_sense(answer->sense, answer->sense_length, &sense)
+           && sense.key == RECOVERED_ERROR;
+}
+
+/* Data-in and its residual make up the expected length; all data-out is transferred. */
+static int has_wrong_residual(const struct answer *answer, const struct request *request)
+{
+    size_t transferred = request->direction == DATA_IN ? answer->data_in_length : request->length;
+
+    return answer->status != NO_REPLY && !is_dropped(answer)
+           && (answer->residual < 0 || transferred + (size_t)answer->residual != request->length);
+}
+
+static void print_answer(unsigned long line, const struct answer *answer)
+{
+    mdl_reply reply = { .status = (uint8_t)answer->status };
+
+    printf("line %lu: %s\n", line, name_of(answer->status));
+    if (answer->status == MDL_CHECK_CONDITION)
+        print_sense(answer);
+    if (prints_bytes)
+        print_bytes(answer->sense, answer->sense_length);
+    if (answer->status == MDL_GOOD || prints_bytes)
+        print_bytes(answer->data_in, answer->data_in_length);
+    reply.sense_length = (uint8_t)answer->sense_length;
+    memcpy(reply.sense, answer->sense, answer->sense_length);
     if (exit_status == 0)
         exit_status = mdl_exit_status(&reply);
 }
@@ -128,11 +174,28 @@ static void log_in(unsigned port)
         fail("no session");
 }
 
+static struct command *begin(unsigned port, const struct request *request)
+{
+    struct command *command;
+
+    log_in(port);
+    command = session_begin(sessions[port], request, prints_bytes);
+    if (!command)
+        fail("the command can't be sent");
+    return command;
+}
+
 static void execute(unsigned port, const struct request *request)
 {
-    log_in(port);
-    session_execute(sessions[port], request, &answer);
-    print_answer(request);
+    struct command *command = begin(port, request);
+    const struct answer *answer = session_settle(sessions[port], command);
+
+    print_answer(line, answer);
+    if (has_wrong_residual(answer, request))
+        printf("  residual: %ld of %zu\n", answer->residual, request->length);
+    if (answer->status == NO_REPLY)
+        session_abort(sessions[port], command);
+    session_forget(sessions[port], command);
 }
 
 static unsigned port_of(const char *word)
@@ -167,7 +230,7 @@ static size_t read_hex(char *word, size_t most)
     return length / 2;
 }
 
-static void raw(char *port, char *cdb, char *data)
+static struct request request_of_words(char *cdb, char *data)
 {
     struct request request = { .direction = DATA_IN, .length = MDL_BUFFER_LENGTH };
 
@@ -180,7 +243,68 @@ static void raw(char *port, char *cdb, char *data)
         request.length = read_hex(data, MOST_LINE);
         request.data_out = (const uint8_t *)data;
     }
+    return request;
+}
+
+static void raw(char *port, char *cdb, char *data)
+{
+    struct request request = request_of_words(cdb, data);
+
     execute(port_of(port), &request);
+}
+
+/* The data-out is sent with the command, so it is not needed after the line. */
+static void send_without_waiting(unsigned port, char *cdb, char *data)
+{
+    struct request request = request_of_words(cdb, data);
+    int at = 0;
+
+    if (data && request.length > MOST_IMMEDIATE)
+        fail("too much data-out");
+    while (at < MOST_SENT && sent[port][at].command)
+        at++;
+    if (at == MOST_SENT)
+        fail("too many commands are under way");
+    sent[port][at] = (struct sent){ begin(port, &request), line };
+    printf("line %lu: SENT\n", line);
+}
+
+/* Forgets the command at a place, and moves the later ones up. */
+static void forget(unsigned port, int at)
+{
+    session_forget(sessions[port], sent[port][at].command);
+    memmove(&sent[port][at], &sent[port][at + 1],
+            (size_t)(MOST_SENT - at - 1) * sizeof sent[port][at]);
+    sent[port][MOST_SENT - 1].command = NULL;
+}
+
+/* Prints the answers of commands in the order in which they were sent. */
+static void wait_for(unsigned port)
+{
+    const struct answer *answer;
+    int at = 0;
+
+    log_in(port);
+    while (at < MOST_SENT && sent[port][at].command) {
+        answer = session_settle(sessions[port], sent[port][at].command);
+        print_answer(sent[port][at].line, answer);
+        if (answer->status == NO_REPLY)
+            at++;
+        else
+            forget(port, at);
+    }
+}
+
+static void abort_command(unsigned port, const char *all)
+{
+    int response;
+
+    if (!all && !sent[port][0].command)
+        fail("no command is under way");
+    log_in(port);
+    response = all ? session_abort_all(sessions[port])
+                   : session_abort(sessions[port], sent[port][0].command);
+    printf("line %lu: ABORT TASK%s, response %d\n", line, all ? " SET" : "", response);
 }
 
 /* As in a script: 17, 0x11 or 11h. */
@@ -238,7 +362,7 @@ static const char *name_of_happening(char **words)
 {
     static const char *const names[][2] = {
         { "power", "POWER" }, { "nexus", "NEXUS LOSS" }, { "grow", "GROW" },
-        { "attention", "ATTENTION" }
+        { "attention", "ATTENTION" }, { "fault", "FAULT" }, { "heal", "HEAL" }
     };
     size_t at;
 
@@ -250,17 +374,13 @@ static const char *name_of_happening(char **words)
     return NULL;
 }
 
-/* A shell runs COMMAND with the words. A number of blocks becomes decimal. */
+/* A shell runs COMMAND with the words. */
 static void happen(char **words)
 {
     static const char plain[] = "0123456789/ABCDEFabcdefghijklmnopqrstuvwxyz";
-    char command[MOST_COMMAND], blocks[21];
+    char command[MOST_COMMAND];
     int at, length = snprintf(command, sizeof command, "%s", target_command ? target_command : "");
 
-    if (strcmp(words[0], "grow") == 0) {
-        snprintf(blocks, sizeof blocks, "%" PRIu64, number(words[1]));
-        words[1] = blocks;
-    }
     for (at = 0; at < MOST_WORDS && words[at] && length < MOST_COMMAND; at++) {
         if (words[at][strspn(words[at], plain)])
             fail("usage");
@@ -273,16 +393,21 @@ static void happen(char **words)
 
 static void log_in_again(unsigned port)
 {
+    while (sent[port][0].command)
+        forget(port, 0);
     session_drop(old_sessions[port]);
     old_sessions[port] = sessions[port];
     sessions[port] = NULL;
     log_in(port);
 }
 
-static void drop(struct session **session)
+/* Commands without a reply end with their session. */
+static void end(unsigned port, void (*how)(struct session *))
 {
-    session_drop(*session);
-    *session = NULL;
+    while (sent[port][0].command)
+        forget(port, 0);
+    how(sessions[port]);
+    sessions[port] = NULL;
 }
 
 static void run_line(char *text)
@@ -306,15 +431,21 @@ static void run_line(char *text)
         reset(port_of(words[1]), LOGICAL_UNIT_RESET);
     } else if (name_of_happening(words)) {
         happen(words);
+    } else if (strcmp(words[0], "send") == 0) {
+        send_without_waiting(port_of(words[1]), words[2], words[3]);
+    } else if (strcmp(words[0], "wait") == 0) {
+        wait_for(port_of(words[1]));
+    } else if (strcmp(words[0], "abort") == 0) {
+        abort_command(port_of(words[1]), words[2]);
     } else if (strcmp(words[0], "drop") == 0) {
-        drop(&sessions[port_of(words[1])]);
+        end(port_of(words[1]), session_drop);
     } else if (strcmp(words[0], "end") == 0) {
-        drop(&old_sessions[port_of(words[1])]);
+        session_drop(old_sessions[port_of(words[1])]);
+        old_sessions[port_of(words[1])] = NULL;
     } else if (strcmp(words[0], "again") == 0) {
         log_in_again(port_of(words[1]));
     } else if (strcmp(words[0], "logout") == 0) {
-        session_log_out(sessions[port_of(words[1])]);
-        sessions[port_of(words[1])] = NULL;
+        end(port_of(words[1]), session_log_out);
     } else {
         fail("unknown verb");
     }
@@ -325,6 +456,7 @@ static void log_in_eight(void)
 {
     static const uint8_t inquiry[6] = { 0x12 };
     struct request request = request_of(inquiry, sizeof inquiry);
+    static struct answer answer;
     unsigned port;
 
     for (port = 0; port < EIGHT; port++) {
@@ -342,9 +474,12 @@ int main(int count, char **words)
     unsigned port;
     FILE *script;
 
+    setvbuf(stdout, NULL, _IOLBF, 0);
     for (; at < count && strncmp(words[at], "--", 2) == 0; at++)
         if (strcmp(words[at], "--eight") == 0)
             eight = 1;
+        else if (strcmp(words[at], "--bytes") == 0)
+            prints_bytes = 1;
         else if (strcmp(words[at], "--target") == 0 && at + 1 < count)
             target_command = words[++at];
         else
@@ -360,6 +495,6 @@ int main(int count, char **words)
         run_line(text);
     }
     for (port = 0; port < PORTS; port++)
-        session_log_out(sessions[port]);
+        end(port, session_log_out);
     return exit_status;
 }

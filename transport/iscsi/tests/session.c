@@ -15,9 +15,13 @@ enum { NO_LUN = -1 };
 /* Of the ISID, so that all are of one kind (RFC 7143, 11.12.5). */
 enum { ISID_RANDOM = 0x4D4448 };
 
+/* Of the reference fields of a task management function that refers to no command. */
+#define NO_TASK UINT32_MAX
+
 struct session {
     struct iscsi_context *context;
     int lun;
+    unsigned nops; /* the NOP-Outs that got a reply */
 };
 
 static struct session *fail(struct session *session, const char *what)
@@ -160,13 +164,137 @@ int session_serve(struct session *session)
            || iscsi_service(session->context, descriptor.revents);
 }
 
+struct command {
+    struct scsi_task *task; /* null when the reply is there */
+    size_t buffered;        /* the length of data-in that goes to the answer's buffer at once */
+    struct answer answer;
+};
+
+static void receive_answer(struct iscsi_context *context, int status, void *data,
+                           void *private_data)
+{
+    struct command *command = private_data;
+    struct scsi_task *task = data;
+
+    (void)context;
+    if (status >= 0 && status <= 0xFF) {
+        read_answer(task, &command->answer);
+        if (command->buffered > 0 && command->answer.residual >= 0)
+            command->answer.data_in_length = command->buffered - (size_t)command->answer.residual;
+    }
+    command->task = NULL;
+    scsi_free_scsi_task(task);
+}
+
+/* Sends all that is queued. libiscsi sends NOP-Outs and task management functions before that. */
+static int flush(struct session *session)
+{
+    while (iscsi_which_events(session->context) & POLLOUT)
+        if (session_serve(session))
+            return 1;
+    return 0;
+}
+
+struct command *session_begin(struct session *session, const struct request *request,
+                              int keeps_data_in)
+{
+    struct iscsi_data data = { request->length, (unsigned char *)(uintptr_t)request->data_out };
+    struct command *command = calloc(1, sizeof *command);
+
+    if (!command)
+        return NULL;
+    command->answer.status = NO_REPLY;
+    command->task = task_of(request);
+    if (keeps_data_in && request->direction == DATA_IN)
+        command->buffered = request->length;
+    if (command->task
+        && (command->buffered == 0
+            || !scsi_task_add_data_in_buffer(command->task, (int)request->length,
+                                             command->answer.data_in))
+        && !iscsi_scsi_command_async(session->context, session->lun, command->task, receive_answer,
+                                     request->direction == DATA_OUT ? &data : NULL, command)
+        && !flush(session))
+        return command;
+    session_forget(session, command);
+    return NULL;
+}
+
+static void receive_nop(struct iscsi_context *context, int status, void *data, void *private_data)
+{
+    struct session *session = private_data;
+
+    (void)context;
+    (void)data;
+    session->nops += status == SCSI_STATUS_GOOD;
+}
+
+const struct answer *session_settle(struct session *session, const struct command *command)
+{
+    int count, is_lost = 0;
+    unsigned before;
+
+    for (count = 0; count < 2 && command->task && !is_lost; count++) {
+        before = session->nops;
+        is_lost = iscsi_nop_out_async(session->context, receive_nop, NULL, 0, session);
+        while (!is_lost && session->nops == before)
+            is_lost = session_serve(session);
+    }
+    return &command->answer;
+}
+
+void session_forget(struct session *session, struct command *command)
+{
+    if (command->task)
+        iscsi_scsi_cancel_task(session->context, command->task);
+    free(command);
+}
+
+static void receive_response(struct iscsi_context *context, int status, void *data,
+                             void *private_data)
+{
+    int *response = private_data;
+
+    (void)context;
+    *response = status == SCSI_STATUS_GOOD && data ? (int)*(const uint32_t *)data : NO_REPLY;
+}
+
+/* Sends a task management function, and returns its response. */
+static int manage(struct session *session, enum iscsi_task_mgmt_funcs function, uint32_t tag,
+                  uint32_t number)
+{
+    enum { PENDING = NO_REPLY - 1 };
+    static int response;
+
+    response = PENDING;
+    if (iscsi_task_mgmt_async(session->context, session->lun, function, tag, number,
+                              receive_response, &response))
+        return NO_REPLY;
+    while (response == PENDING)
+        if (session_serve(session))
+            return NO_REPLY;
+    return response;
+}
+
+int session_abort(struct session *session, const struct command *command)
+{
+    if (!command->task)
+        return NO_REPLY;
+    return manage(session, ISCSI_TM_ABORT_TASK, command->task->itt, command->task->cmdsn);
+}
+
+int session_abort_all(struct session *session)
+{
+    return manage(session, ISCSI_TM_ABORT_TASK_SET, NO_TASK, 0);
+}
+
 int session_reset(struct session *session, enum reset reset)
 {
     switch (reset) {
-    case TARGET_WARM_RESET: return iscsi_task_mgmt_target_warm_reset_sync(session->context);
-    case TARGET_COLD_RESET: return iscsi_task_mgmt_target_cold_reset_sync(session->context);
-    default:
-        return iscsi_task_mgmt_lun_reset_sync(session->context, (uint32_t)session->lun);
+    case TARGET_WARM_RESET:
+        return manage(session, ISCSI_TM_TARGET_WARM_RESET, NO_TASK, 0);
+    case TARGET_COLD_RESET:
+        return manage(session, ISCSI_TM_TARGET_COLD_RESET, NO_TASK, 0);
+    default: return manage(session, ISCSI_TM_LUN_RESET, NO_TASK, 0);
     }
 }
 

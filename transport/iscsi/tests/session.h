@@ -54,10 +54,31 @@ int session_send(struct session *session, const struct request *request, uint8_t
 /* Waits until something can be sent or received, and does it. Returns 1 if the session is lost. */
 int session_serve(struct session *session);
 
+/* A command that was sent without waiting for its reply. */
+struct command;
+
+/* Sends a command without waiting. Null if it can't be sent. Data-out is in use until the reply.
+ * libiscsi drops data-in before CHECK CONDITION, unless `keeps_data_in` is set. The length of
+ * data-in is then only what the residual count says. */
+struct command *session_begin(struct session *session, const struct request *request,
+                              int keeps_data_in);
+
+/* Waits for the reply to a command, or until the target has shown that it sends none: it has
+ * replied to a later NOP-Out, twice, because it may have to ask for data-out first. Its answer then
+ * has the status NO_REPLY. */
+const struct answer *session_settle(struct session *session, const struct command *command);
+
+/* Forgets a command. If its session still waits for its reply, the session ignores it. */
+void session_forget(struct session *session, struct command *command);
+
+/* Sends ABORT TASK for a command, or ABORT TASK SET. Returns as session_reset does. */
+int session_abort(struct session *session, const struct command *command);
+int session_abort_all(struct session *session);
+
 enum reset { LOGICAL_UNIT_RESET, TARGET_WARM_RESET, TARGET_COLD_RESET };
 
-/* Sends a task management function that is a reset. The response of RFC 7143, 11.6.1, where 0 is
- * "function complete", or NO_REPLY. */
+/* Sends a task management function that is a reset. Returns the response of RFC 7143, 11.6.1, where
+ * 0 is "function complete", or NO_REPLY. Commands that were sent before are still waited for. */
 int session_reset(struct session *session, enum reset reset);
 
 /* Logs out, or closes the connection without a word. Null serves. */
