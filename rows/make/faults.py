@@ -76,10 +76,13 @@ class Seen:
     """A command as faults see it. One that a check refuses names no block."""
 
     code: int | None
-    passes: bool
-    extents: list
-    writes: bool
+    extents: list = field(default_factory=list)
+    writes: bool = False
     moves: bool = False  # it is a READ, a WRITE or a WRITE SAME that writes
+
+    def reaches_the_medium(self):
+        """Whether it names a block. Faults at the medium meet only such commands."""
+        return any(count for _, count in self.extents)
 
 
 class Reached(Exception):
@@ -123,10 +126,10 @@ def seen_by_faults(device, initiator, cdb, data_out):
     try:
         probe.data_in(initiator, cdb, data_out)
     except Reached as reached:
-        return Seen(code, True, *reached.found)
+        return Seen(code, *reached.found)
     except (CheckCondition, Conflict):
-        return Seen(code, False, [], False)
-    return Seen(code, True, [], False)
+        pass
+    return Seen(code)  # it is refused, or it does not use blocks
 
 
 class Faults:
@@ -163,7 +166,7 @@ def execute(device, initiator, cdb, data_out):
     fault = faults.ask("arrival", initiator, seen)
     if fault:
         return refused(device, fault)
-    fault = faults.ask("medium", initiator, seen) if seen.passes else None
+    fault = faults.ask("medium", initiator, seen) if seen.reaches_the_medium() else None
     if fault and fault.what == "code":
         return refused(device, fault, fault.first_bad(seen) if fault.blocks else None)
     moved = fault.value if fault else ALL_BLOCKS
