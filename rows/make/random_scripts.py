@@ -8,7 +8,7 @@ import random
 
 from layouts import LAYOUTS
 from modes import CHANGEABLE, DEFAULT
-from random_words import attention_words, show_line, tool_line
+from random_words import attention_words, fault_words, show_line, tool_line
 from reservations import TYPES
 
 INITIATORS = (0, 0, 0, 0, 1, 1, 1, 2, 2, 3, 4, 5, 6, 7)
@@ -25,7 +25,8 @@ TOOL_LINES = ("sg_inq", "sg_inq -l 5", "sg_vpd -p di", "sg_vpd -p bl", "sg_modes
               "sg_modes -L -p 10", "sg_get_lba_status -m 100", "sg_persist -k", "sg_persist -r",
               "sg_persist -s", "sg_persist -c")
 # Verbs of an extended disk
-HAPPENINGS = ("reset", "reset", "reset target", "nexus", "nexus", "grow", *4 * ("attention",))
+HAPPENINGS = ("reset", "reset", "reset target", "nexus", "nexus", "grow", *4 * ("attention",),
+              *7 * ("fault",), "faults", "faults", "heal", "heal")
 
 
 class Script:
@@ -35,6 +36,7 @@ class Script:
         self.capacity = self.blocks  # as it is at the next line, if the disk grows
         self.pool = self.random.choice((1, 4, 9))
         self.type = self.random.choice(TYPES)  # most RESERVE, RELEASE and PREEMPT name it
+        self.bad = 0  # where the blocks of the last fault begin
         theme = self.random.choice(THEMES)
         self.layouts = [
             it for it in LAYOUTS.items() for _ in range(1 + OFTEN * theme.count(it[1].name))]
@@ -43,8 +45,11 @@ class Script:
         return "".join(self.line() + "\n" for _ in range(lines))
 
     def line(self):
-        if self.profile == "extended" and self.is_rare(0.08):
-            return self.happening()
+        if self.profile == "extended":
+            if self.is_rare(0.15):
+                return self.happening()
+            if self.is_rare(0.04):
+                return self.near_bad_blocks()
         initiator, place = self.random.choice(INITIATORS), self.random.random()
         if place < 0.005:
             return "power"
@@ -69,7 +74,26 @@ class Script:
             verb += f" {self.growth()}"
         elif verb == "attention":
             verb += f" {attention_words(self.random, initiator)}"
+        elif verb == "fault":
+            verb += f" {fault_words(self.random, self.bad_address, self.small)}"
+        elif verb == "heal":
+            verb += self.random.choice(("", "", f" {self.random.randrange(9)}"))
         return verb + (self.random.choice((" 8", " x", " 0 0")) if self.is_rare(0.05) else "")
+
+    def bad_address(self):
+        self.bad = self.address()
+        return self.bad
+
+    def near_bad_blocks(self):
+        """A command that names the blocks of the last fault, if it is on blocks."""
+        initiator = self.random.choice(INITIATORS)
+        address, count = max(0, self.bad - self.random.choice((0, 0, 1))), self.small()
+        return self.random.choice((
+            f"fill {initiator} {address} {count} 9",
+            f"raw {initiator} 8800{address:016x}{count:08x}0000",
+            f"{initiator} sg_unmap -l {address} -n 6",
+            f"{initiator} sg_get_lba_status -b -l {address}",
+        ))
 
     def growth(self):
         """A number of blocks near the present one, or far above it, or out of range."""

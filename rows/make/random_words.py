@@ -1,4 +1,5 @@
-"""Random lines of `show`, near to real answers, and random words of tools, near to valid ones."""
+"""Random lines of `show`, near to real answers, and random words of tools and of faults, near to
+valid ones."""
 
 from attentions import CONDITIONS, RESETS
 from sense import code_text
@@ -33,6 +34,19 @@ TEXTS = ["0", "1", "2", "5", "8", "10", "24", "40", "63", "255", "256", "4095", 
          "18446744073709551615", "0x10", "0XfF", "1Fh", "a1", "0xA1", "sn", "di", "bl", "lbpv",
          "sv", "SN", "10,0", "8,255", "0,1", "1,1,1", "0,16", "1,,2", "", "-", "zz", "-1", "=3"]
 
+# What a fault does at each place. CODE is a sense code.
+OUTCOMES = {
+    "arrival": ("busy", "full", "conflict", "silent", "CODE", "deferred CODE"),
+    "medium": (*6 * ("CODE",), "first 0", "first 1", "first 2", "first 4294967295"),
+    "after": ("silent", "CODE", "CODE"),
+}
+SENSE_CODES = ("3/11/00", "3/0C/00", "4/44/00", "1/17/01", "2/04/01", "b/08/01", "6/29/00",
+               "0/00/00", "5/20/00", "5/21/00", "F/ff/fF", "D/3f/0E", "C/11/00")
+OPERATION_CODES = ("00h", "28h", "28h", "2Ah", "8ah", "8Ah", "88h", "41h", "93h", "42h", "9Eh",
+                   "5eh", "5Fh", "12h", "03h", "1ah", "15h", "C1h")
+WRONG_WORDS = ("busy", "once", "to", "8", "code", "28", "blocks", "0", "healed", "times", "65536",
+               "-1", "first", "deferred", "3/11", "medium", "BUSY", "0x")
+
 
 def show_line(random):
     """An answer with some bytes changed, cut or longer, now and then as another kind."""
@@ -58,6 +72,44 @@ def attention_words(random, initiator):
         code = random.choice((code.lower(), code[:-1], code.replace("/", ""), "29h/01h", "00h/00h"))
     others = " ".join(random.choices("01234567", k=random.randrange(1, 9)))
     return random.choice((code, f"{code} {initiator}", f"{code} {initiator} {others}"))
+
+
+def fault_words(random, address, count):
+    """A fault that meets a few commands, now and then with a word too many or too few.
+
+    Its blocks are at the address that `address` returns, and `count` returns small numbers.
+    """
+    place = random.choice(("arrival", "medium", "medium", "medium", "after"))
+    outcome = random.choice(OUTCOMES[place]).replace("CODE", random.choice(SENSE_CODES))
+    options = list(fault_options(random, place, address, count))
+    random.shuffle(options)
+    words = " ".join([place, outcome, *options]).split()
+    if random.random() < 0.06:
+        index = random.randrange(len(words))
+        words[index:index + random.randrange(2)] = random.choice(([], [random.choice(WRONG_WORDS)]))
+    return " ".join(words)
+
+
+def fault_options(random, place, address, count):
+    """A random choice of the options. Most faults are soon used up."""
+    on_blocks = random.random() < (0.3 if place == "arrival" else 0.6)
+    if on_blocks:
+        yield f"blocks {in_any_form(random, address())} {in_any_form(random, count() or 1)}"
+    if random.random() < (0.6 if on_blocks else 0.02):
+        yield "healed"
+    for _ in range(random.choice((0, 0, 1, 1, 1, 2))):
+        yield f"to {random.choice('00112')}"
+    if random.random() < 0.2:
+        yield f"code {random.choice(OPERATION_CODES)}"
+    if random.random() < 0.3:
+        yield f"skip {in_any_form(random, count())}"
+    if random.random() < 0.9:
+        yield f"times {in_any_form(random, random.choice((1, 1, 1, 2, 2, 3)))}"
+
+
+def in_any_form(random, value):
+    """A number as a script may write it."""
+    return random.choice((f"{value}", f"{value}", f"{value:#x}", f"{value:X}h"))
 
 
 def tool_line(random, initiator):
