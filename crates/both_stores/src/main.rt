@@ -1,34 +1,32 @@
-//! `both_stores`: 10,000 commands from a fixed seed over the three stores, with happenings among
-//! them, and armed faults. The replies have to be equal, except for the stores' counts.
+//! `both_stores`: commands over the three stores, with happenings among them, and armed faults. The
+//! replies have to be equal, except for the stores' counts.
+//!
+//! - 10,000 commands come from a fixed seed.
+//! - All lists of three events are run, each on new disks. The lists are run again with faults that
+//!   meet none of their commands. Then the replies have to be those of a disk without faults.
 #![tactic(auto)]
 
+mod disks;
 mod faults;
+mod lists;
 mod random;
 
+use disks::{BLOCKS, Disks, Tally};
 use faults::next_fault;
+use lists::{EACH_REFUSAL, Faults, LISTS, run_lists};
 use random::Random;
-use sg_block_map::BlockMap;
-use sg_extent_map::ExtentMap;
-use sg_pages::Identity;
-use sg_plain_map::PlainMap;
 use sg_store::BLOCK_LENGTH;
-use sg_target::{BUFFER_LENGTH, Config, Happening, Reply, Status, Target};
+use sg_target::Happening;
 use sg_units::{Initiators, UnitAttention};
 use sg_wire::{
     Command, Extent10, GetLbaStatus, GroupNumber, Initiator, OutAction, PersistentReserveOut,
     Unmap, WriteSame16,
 };
-use std::alloc::Global;
+use std::io;
 use std::process::ExitCode;
 use std::rt::Runtime;
 
 const COMMANDS: u64 = 10_000;
-
-/// A small disk with a smaller pool, so that runs of mapped blocks are joined and cut, and the pool
-/// is full at times.
-const BLOCKS: u64 = 256;
-
-const POOL: u32 = 48;
 
 /// The bytes of the longest data-out, eight blocks.
 const LONGEST_LIST: usize = 4_096;
@@ -38,102 +36,6 @@ const EXTENT_LIST: usize = 24;
 
 /// The bytes of the parameter list of PERSISTENT RESERVE OUT.
 const KEY_LIST: usize = 24;
-
-/// The same disk over each store, with the buffers of their data-in.
-#[derive(Drop)]
-struct Disks {
-    plain: Target<PlainMap>,
-    runs: Target<BlockMap>,
-    extents: Target<ExtentMap>,
-    of_plain: [u8; BUFFER_LENGTH],
-    of_runs: [u8; BUFFER_LENGTH],
-    of_extents: [u8; BUFFER_LENGTH],
-}
-
-/// The number of replies that are equal, and how many of these have each status.
-#[derive(Clone, Copy, Default)]
-struct Tally {
-    equal: u64,
-    good: u64,
-    check_condition: u64,
-    conflict: u64,
-    busy: u64,
-    full: u64,
-    unanswered: u64,
-}
-
-/// Whether two replies have the same status and the same sense data.
-fn are_equal(one: &Reply, other: &Reply) -> bool {
-    one.status == other.status && one.sense.as_slice() == other.sense.as_slice()
-}
-
-impl Disks {
-    fn new(alloc: Global) -> Option<Disks> {
-        let config = Config::new(BLOCKS, POOL, Identity::standard()).ok()?;
-        Some(Disks {
-            plain: Target::new(alloc, config).ok()?,
-            runs: Target::new(alloc, config).ok()?,
-            extents: Target::new(alloc, config).ok()?,
-            of_plain: [0; BUFFER_LENGTH],
-            of_runs: [0; BUFFER_LENGTH],
-            of_extents: [0; BUFFER_LENGTH],
-        })
-    }
-
-    /// Executes a command over each, and returns the status if the replies are equal.
-    fn execute(&mut self, initiator: Initiator, cdb: &[u8], data_out: &[u8]) -> Option<Status> {
-        let plain = self
-            .plain
-            .execute(initiator, cdb, data_out, &mut self.of_plain);
-        let runs = self
-            .runs
-            .execute(initiator, cdb, data_out, &mut self.of_runs);
-        let extents = self
-            .extents
-            .execute(initiator, cdb, data_out, &mut self.of_extents);
-        let are_equal = are_equal(&plain, &runs)
-            && are_equal(&plain, &extents)
-            && self.of_plain[..plain.data_in] == self.of_runs[..runs.data_in]
-            && self.of_plain[..plain.data_in] == self.of_extents[..extents.data_in];
-        if are_equal { Some(plain.status) } else { None }
-    }
-
-    /// Lets the same happen to each.
-    fn happen(&mut self, happening: &Happening) {
-        self.plain.happen(*happening);
-        self.runs.happen(*happening);
-        self.extents.happen(*happening);
-    }
-}
-
-impl Tally {
-    fn count(&mut self, status: Option<Status>) {
-        let Some(status) = status else {
-            return;
-        };
-        self.equal = self.equal.saturating_add(1);
-        match status {
-            Status::Good => self.good = self.good.saturating_add(1),
-            Status::CheckCondition => {
-                self.check_condition = self.check_condition.saturating_add(1);
-            }
-            Status::ReservationConflict => self.conflict = self.conflict.saturating_add(1),
-            Status::Busy => self.busy = self.busy.saturating_add(1),
-            Status::TaskSetFull => self.full = self.full.saturating_add(1),
-            Status::NoReply => self.unanswered = self.unanswered.saturating_add(1),
-        }
-    }
-
-    /// Whether each status occurs.
-    fn has_each_status(&self) -> bool {
-        self.good > 0
-            && self.check_condition > 0
-            && self.conflict > 0
-            && self.busy > 0
-            && self.full > 0
-            && self.unanswered > 0
-    }
-}
 
 /// What happens next.
 fn next_happening(random: &mut Random) -> Option<Happening> {
@@ -259,12 +161,10 @@ fn run(disks: &mut Disks) -> Option<Tally> {
     Some(tally)
 }
 
-fn main(rt: HostRuntime) -> ExitCode {
-    let Some(mut disks) = Disks::new(rt.alloc()) else {
-        return ExitCode::from(99);
-    };
-    let Some(tally) = run(&mut disks) else {
-        return ExitCode::from(99);
+/// Runs the commands, and prints a line. Returns whether all replies are equal.
+fn are_equal_at_random(rt: &impl Print, disks: &mut Disks) -> io::Result<bool> {
+    let Some(tally) = run(disks) else {
+        return Ok(false);
     };
     let equal = tally.equal;
     let each = if tally.has_each_status() {
@@ -272,6 +172,43 @@ fn main(rt: HostRuntime) -> ExitCode {
     } else {
         "not each"
     };
-    let _ = println!(rt; "{COMMANDS} commands, {equal} equal replies, {each} status among them");
-    ExitCode::from(u8::from(equal != COMMANDS))
+    println!(rt; "{COMMANDS} commands, {equal} equal replies, {each} status among them")?;
+    Ok(equal == COMMANDS)
+}
+
+/// Runs all lists, and prints a line. Returns whether all replies are equal, and the last READs end
+/// as they have to.
+fn are_equal_in_lists(rt: &HostRuntime, disks: &mut Disks) -> io::Result<bool> {
+    let tally = run_lists(rt.alloc(), disks, Faults::MeetCommands);
+    let (equal, busy, full, conflict) = (tally.equal, tally.busy, tally.full, tally.conflict);
+    print!(rt; "{LISTS} lists of three events, {equal} with equal replies; the last READs: ")?;
+    println!(rt; "{busy} BUSY, {full} TASK SET FULL, {conflict} RESERVATION CONFLICT")?;
+    let as_counted = busy == EACH_REFUSAL && full == EACH_REFUSAL && conflict == EACH_REFUSAL;
+    Ok(equal == LISTS && as_counted)
+}
+
+/// The same with faults that meet no command of the lists: each last READ ends with GOOD.
+fn are_equal_without_faults(rt: &HostRuntime, disks: &mut Disks) -> io::Result<bool> {
+    let tally = run_lists(rt.alloc(), disks, Faults::MeetNone);
+    let (equal, good) = (tally.equal, tally.good);
+    print!(rt; "{LISTS} lists whose faults meet no command, {equal} with equal replies; ")?;
+    println!(rt; "the last READs: {good} GOOD")?;
+    Ok(equal == LISTS && good == LISTS)
+}
+
+fn run_all(rt: &HostRuntime) -> io::Result<bool> {
+    let Some(mut disks) = Disks::new(rt.alloc()) else {
+        return Err(io::Error::from(io::ErrorKind::OutOfMemory));
+    };
+    let at_random = are_equal_at_random(rt, &mut disks)?;
+    let in_lists = are_equal_in_lists(rt, &mut disks)?;
+    let without_faults = are_equal_without_faults(rt, &mut disks)?;
+    Ok(at_random && in_lists && without_faults)
+}
+
+fn main(rt: HostRuntime) -> ExitCode {
+    match run_all(&rt) {
+        Ok(are_equal) => ExitCode::from(u8::from(!are_equal)),
+        Err(_) => ExitCode::from(99),
+    }
 }

@@ -1,0 +1,206 @@
+// All lists of three events: commands of two initiators, each happening, and a fault of each kind.
+use crate::disks::{BLOCKS, Disks, Tally};
+use sg_faults::{Afterwards, AtMedium, BadBlocks, Fault, OnArrival, Outcome, SenseCode};
+use sg_target::{Happening, Status};
+use sg_units::{Initiators, UnitAttention};
+use sg_wire::{Extent, Initiator};
+use std::alloc::Global;
+
+/// The number of different events: 6 commands, 7 happenings and 12 faults.
+const EVENTS: u64 = 25;
+
+/// The number of events in a list.
+const LENGTH: u64 = 3;
+
+/// The number of lists.
+pub(crate) const LISTS: u64 = EVENTS * EVENTS * EVENTS;
+
+/// The number of lists after which the last READ ends with BUSY. After as many it ends with TASK
+/// SET FULL, and after as many with RESERVATION CONFLICT.
+///
+/// The last READ is one of initiator 0. Six events arm a fault on arrival that meets its commands,
+/// and one event takes all faults away. Such a fault is armed after a list if the last of these
+/// seven events in it arms one:
+///
+/// - It is the third event of the list: 25 x 25 x 6 lists.
+/// - It is the second, with one of the 18 other events after it: 25 x 6 x 18 lists.
+/// - It is the first, with two of them after it: 6 x 18 x 18 lists.
+///
+/// These are 8,394 lists. The first such fault that is not taken away decides, and each of the six
+/// does so in as many lists as another.
+pub(crate) const EACH_REFUSAL: u64 = 1_399;
+
+/// A command: the number of its initiator, its CDB and its data-out.
+type Step = (u8, &'static [u8], &'static [u8]);
+
+const READY: &[u8] = &[0, 0, 0, 0, 0, 0];
+
+/// READ(10), WRITE(10) and UNMAP of blocks 0 and 1.
+const READ: &[u8] = &[0x28, 0, 0, 0, 0, 0, 0, 0, 2, 0];
+
+const WRITE: &[u8] = &[0x2A, 0, 0, 0, 0, 0, 0, 0, 2, 0];
+
+const UNMAP: &[u8] = &[0x42, 0, 0, 0, 0, 0, 0, 0, 24, 0];
+
+const UNMAP_LIST: &[u8] = &[
+    0, 22, 0, 16, 0, 0, 0, 0, 0, 0, 0, 0, 0, 0, 0, 0, 0, 0, 0, 2, 0, 0, 0, 0,
+];
+
+const DATA: &[u8] = &[0xB2; 1_024];
+
+const OTHER_DATA: &[u8] = &[0xC3; 1_024];
+
+/// Before a list no unit attention is pending for initiators 0 and 1, and the blocks are written.
+const BEFORE: [Step; 3] = [(0, READY, &[]), (1, READY, &[]), (0, WRITE, &[0xA1; 1_024])];
+
+const COMMANDS: [Step; 6] = [
+    (0, READ, &[]),
+    (1, READ, &[]),
+    (0, WRITE, DATA),
+    (1, WRITE, OTHER_DATA),
+    (0, UNMAP, UNMAP_LIST),
+    (1, READY, &[]),
+];
+
+/// After a list at most three unit attentions are pending for each. The last READ reports none.
+const AFTER: [Step; 8] = [
+    (1, READ, &[]),
+    (0, READ, &[]),
+    (1, READ, &[]),
+    (0, READ, &[]),
+    (1, READ, &[]),
+    (0, READ, &[]),
+    (1, READ, &[]),
+    (0, READ, &[]),
+];
+
+/// Whether the faults of a list meet its commands.
+#[derive(Clone, Copy)]
+pub(crate) enum Faults {
+    MeetCommands,
+    /// They meet none, over each store for another reason: no fault is armed, or it is armed for
+    /// other initiators, or it is taken away at once.
+    MeetNone,
+}
+
+/// The happening with a number.
+fn happening(number: u64) -> Option<Happening> {
+    Some(match number {
+        0 => Happening::Power,
+        1 => Happening::LogicalUnitReset,
+        2 => Happening::TargetReset,
+        3 => Happening::NexusLoss(Initiator::new(0)?),
+        4 => Happening::Grow(2 * BLOCKS),
+        5 => Happening::Establish(UnitAttention::with_code(0x3F, 0x0E)?, Initiators::all()),
+        6 => Happening::DisarmAll,
+        fault => Happening::Arm(fault_of(fault)?),
+    })
+}
+
+/// What the fault does that a happening with this number arms.
+fn outcome(number: u64) -> Option<Outcome> {
+    let code = SenseCode::new(4, 0x44, 0)?;
+    Some(match number {
+        7 => Outcome::OnArrival(OnArrival::Busy),
+        8 => Outcome::OnArrival(OnArrival::TaskSetFull),
+        9 => Outcome::OnArrival(OnArrival::ReservationConflict),
+        10 => Outcome::OnArrival(OnArrival::NoReply),
+        11 => Outcome::OnArrival(OnArrival::CheckCondition(code)),
+        12 => Outcome::OnArrival(OnArrival::DeferredError(code)),
+        13 => Outcome::AtMedium(AtMedium::CheckCondition(code)),
+        14 => Outcome::AtMedium(AtMedium::MovesOnly(1)),
+        15 => Outcome::Afterwards(Afterwards::NoReply),
+        16 => Outcome::Afterwards(Afterwards::CheckCondition(code)),
+        17 => Outcome::AtMedium(AtMedium::CheckCondition(SenseCode::new(3, 0x11, 0)?)),
+        _ => Outcome::OnArrival(OnArrival::Busy),
+    })
+}
+
+/// The fault that a happening with this number arms. The last but one lies on block 1, until a
+/// write of it. The last one meets the second command of initiator 1.
+fn fault_of(number: u64) -> Option<Fault> {
+    let fault = Fault {
+        initiators: Initiators::all(),
+        code: None,
+        blocks: None,
+        skip: 0,
+        times: None,
+        outcome: outcome(number)?,
+    };
+    Some(match number {
+        17 => Fault {
+            blocks: Some(BadBlocks {
+                extent: Extent { lba: 1, count: 1 },
+                healed_by_writes: true,
+            }),
+            ..fault
+        },
+        18 => Fault {
+            initiators: Initiators::none().with(Initiator::new(1)?),
+            skip: 1,
+            times: Some(1),
+            ..fault
+        },
+        _ => fault,
+    })
+}
+
+impl Disks {
+    /// Executes commands. Returns the status of the last one, if all replies are equal.
+    fn execute_each(&mut self, steps: &[Step]) -> Option<Status> {
+        let mut status = None;
+        for step in steps {
+            let (number, cdb, data_out) = step;
+            status = Some(self.execute(Initiator::new(*number)?, cdb, data_out)?);
+        }
+        status
+    }
+
+    /// Arms a fault that meets no command of a list.
+    fn arm_for_none(&mut self, fault: Fault) -> Option<()> {
+        let others = Fault {
+            initiators: Initiators::of_mask(0xFC)?,
+            ..fault
+        };
+        self.runs.happen(Happening::Arm(others));
+        self.extents.happen(Happening::Arm(fault));
+        self.extents.happen(Happening::DisarmAll);
+        Some(())
+    }
+
+    /// Executes the event with a number, or lets it happen.
+    fn take(&mut self, number: u64, faults: Faults) -> Option<()> {
+        if let Some(step) = COMMANDS.get(number as usize) {
+            let (initiator, cdb, data_out) = step;
+            self.execute(Initiator::new(*initiator)?, cdb, data_out)?;
+            return Some(());
+        }
+        match (faults, happening(number.saturating_sub(6))?) {
+            (Faults::MeetNone, Happening::Arm(fault)) => self.arm_for_none(fault)?,
+            (_, happening) => self.happen(&happening),
+        }
+        Some(())
+    }
+
+    /// Runs the list with a number on new disks. Returns the status of the last READ after it, if
+    /// all replies are equal.
+    fn run_list(&mut self, alloc: Global, number: u64, faults: Faults) -> Option<Status> {
+        self.renew(alloc)?;
+        self.execute_each(&BEFORE)?;
+        let mut events = number;
+        for _ in 0..LENGTH {
+            self.take(events % EVENTS, faults)?;
+            events /= EVENTS;
+        }
+        self.execute_each(&AFTER)
+    }
+}
+
+/// Runs all lists, and counts the last READs after them.
+pub(crate) fn run_lists(alloc: Global, disks: &mut Disks, faults: Faults) -> Tally {
+    let mut tally = Tally::default();
+    for number in 0..LISTS {
+        tally.count(disks.run_list(alloc, number, faults));
+    }
+    tally
+}
