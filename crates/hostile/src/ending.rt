@@ -10,13 +10,25 @@ pub(crate) enum Ending {
     /// INVALID FIELD IN CDB, with a field pointer to the byte.
     InvalidField(usize),
     DataPhaseError,
+    Busy,
+    NoReply,
 }
 
 impl Ending {
+    /// The ending if a fault afterwards sends no reply. It meets only commands that end with GOOD.
+    pub(crate) fn without_reply(self) -> Ending {
+        match self {
+            Ending::Good => Ending::NoReply,
+            ending => ending,
+        }
+    }
+
     fn status(self) -> Status {
         match self {
             Ending::Good => Status::Good,
             Ending::Conflict => Status::ReservationConflict,
+            Ending::Busy => Status::Busy,
+            Ending::NoReply => Status::NoReply,
             Ending::PowerOn | Ending::InvalidField(_) | Ending::DataPhaseError => {
                 Status::CheckCondition
             }
@@ -26,7 +38,7 @@ impl Ending {
     /// The sense data in fixed format, of 18 bytes, or none (SPC-4, 4.5.3).
     fn sense(self) -> Option<[u8; 18]> {
         match self {
-            Ending::Good | Ending::Conflict => None,
+            Ending::Good | Ending::Conflict | Ending::Busy | Ending::NoReply => None,
             Ending::PowerOn => Some([
                 0x70, 0, 6, 0, 0, 0, 0, 0x0A, 0, 0, 0, 0, 0x29, 0x00, 0, 0, 0, 0,
             ]),

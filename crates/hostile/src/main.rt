@@ -10,9 +10,13 @@
 //!
 //! The program prints a line with the numbers of tries for each command, and a line for each try
 //! that ends otherwise. Rows that are wrong on purpose show that such tries are found.
+//!
+//! Then it tries all of them again, each with armed faults. A fault on arrival meets each try,
+//! whatever its bytes are. Faults at the medium and afterwards meet no try that the disk refuses.
 #![tactic(auto)]
 
 mod ending;
+mod faults;
 mod table;
 
 ghost use Rattle.std.specs.Prelude.{◌≡◌, ◌<◌, if◌then◌else◌, ◌==◌, ◌&&◌, length};
@@ -43,23 +47,33 @@ struct TestDisk {
     target: Target<PlainMap>,
     initiator: Initiator,
     buf: [u8; BUFFER_LENGTH],
+    has_faults: bool,
 }
 
 impl TestDisk {
-    /// A new disk, after its unit attention was reported.
-    fn new(alloc: Global) -> Option<TestDisk> {
+    /// A new disk, after its unit attention was reported. Its commands may be tried with faults.
+    fn new(alloc: Global, has_faults: bool) -> Option<TestDisk> {
         let config = Config::new(4_096, 4, Identity::standard()).ok()?;
         let mut disk = TestDisk {
             target: Target::new(alloc, config).ok()?,
             initiator: Initiator::new(0)?,
             buf: [0; BUFFER_LENGTH],
+            has_faults,
         };
         let _ = disk.ends(&[0; 6], &[], Ending::Good);
         Some(disk)
     }
 
-    /// Executes a command, and returns whether it has this ending.
+    /// Executes a command, and returns whether it has this ending. If the disk has faults, the
+    /// command is executed once with faults that come late, and once with a fault on arrival.
     fn ends(&mut self, cdb: &[u8], data_out: &[u8], ending: Ending) -> bool {
+        if self.has_faults {
+            return self.ends_with_faults(cdb, data_out, ending);
+        }
+        self.ends_plainly(cdb, data_out, ending)
+    }
+
+    fn ends_plainly(&mut self, cdb: &[u8], data_out: &[u8], ending: Ending) -> bool {
         let reply = self
             .target
             .execute(self.initiator, cdb, data_out, &mut self.buf);
@@ -211,8 +225,8 @@ fn print_tally(rt: &impl Print, name: &str, tally: Tally) -> io::Result<()> {
 }
 
 /// Executes a command on a new disk, and then tries it in each way on the same disk.
-fn try_row(rt: &HostRuntime, row: Row) -> io::Result<Tally> {
-    let Some(mut disk) = TestDisk::new(rt.alloc()) else {
+fn try_row(rt: &HostRuntime, row: Row, has_faults: bool) -> io::Result<Tally> {
+    let Some(mut disk) = TestDisk::new(rt.alloc(), has_faults) else {
         return Err(io::Error::from(io::ErrorKind::OutOfMemory));
     };
     let more = vec![in rt.alloc(); 0; row.data_out.saturating_add(1)]?;
@@ -231,15 +245,17 @@ fn try_row(rt: &HostRuntime, row: Row) -> io::Result<Tally> {
     tally = tally.plus(try_bits(rt, &mut disk, row, data_out)?);
     tally = tally.plus(try_control(rt, &mut disk, row, data_out)?);
     tally = tally.plus(try_data_out(rt, &mut disk, row, &more)?);
-    print_tally(rt, row.name, tally)?;
+    if !has_faults {
+        print_tally(rt, row.name, tally)?;
+    }
     Ok(tally)
 }
 
 /// Tries all rows of a table.
-fn try_rows(rt: &HostRuntime, rows: &[Row]) -> io::Result<Tally> {
+fn try_rows(rt: &HostRuntime, rows: &[Row], has_faults: bool) -> io::Result<Tally> {
     let mut tally = Tally::default();
     for row in rows {
-        tally = tally.plus(try_row(rt, *row)?);
+        tally = tally.plus(try_row(rt, *row, has_faults)?);
     }
     Ok(tally)
 }
@@ -251,14 +267,21 @@ fn exit_status(wrong: u64, found: u64) -> u8
     if wrong == 0 && found == FOUND { 0 } else { 1 }
 }
 
-fn run(rt: &HostRuntime) -> io::Result<u8> {
-    let tally = try_rows(rt, &COMMANDS)?;
-    print_tally(rt, "all commands", tally)?;
+/// Tries all commands, and then the wrong rows. Returns the status.
+fn try_all(rt: &HostRuntime, name: &str, has_faults: bool) -> io::Result<u8> {
+    let tally = try_rows(rt, &COMMANDS, has_faults)?;
+    print_tally(rt, name, tally)?;
     let wrong = tally.wrong;
     println!(rt; "{wrong} tries end otherwise")?;
-    let found = try_rows(rt, &WRONG)?.wrong;
+    let found = try_rows(rt, &WRONG, has_faults)?.wrong;
     println!(rt; "{found} of {FOUND} faults of the wrong rows are found")?;
     Ok(exit_status(wrong, found))
+}
+
+fn run(rt: &HostRuntime) -> io::Result<u8> {
+    let status = try_all(rt, "all commands", false)?;
+    let with_faults = try_all(rt, "all commands, while faults are armed", true)?;
+    Ok(status.max(with_faults))
 }
 
 fn main(rt: HostRuntime) -> ExitCode {
