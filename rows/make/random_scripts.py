@@ -92,6 +92,7 @@ class Script:
             f"fill {initiator} {address} {count} 9",
             f"raw {initiator} 8800{address:016x}{count:08x}0000",
             f"{initiator} sg_unmap -l {address} -n 6",
+            f"{initiator} sg_unmap -l {address + 1},{address} -n 6,6",
             f"{initiator} sg_get_lba_status -b -l {address}",
         ))
 
