@@ -27,6 +27,7 @@ use Rattle.sg_fencing.specs.Registrants.{RegistersItself, is_registrant}
 use Rattle.sg_fencing.specs.WithFaults.{IsDenied, IsKeptAway}
 use Rattle.sg_fencing.proofs.AccessLemmas.{asked-is-allowed, checks-refuse}
 use Rattle.sg_fencing.proofs.FaultUnseenLemmas.{unseen-with-faults}
+use Rattle.sg_fencing.proofs.FaultsLeftLemmas.{faults-left}
 use Rattle.sg_fencing.proofs.OperationLemmas.{class_for}
 use Rattle.sg_fencing.proofs.RegisteringLemmas.{registers-itself}
 use Rattle.sg_fencing.proofs.StandingLemmas.{outcome-stands}
@@ -72,6 +73,7 @@ module _ (stays : RefusedCommandsStayRefused) (disk : Armed) (j : ℕ) (cdb data
     unseen =
         λ contents excludes.
         unseen-with-faults classes disk contents j (reads excludes) writes cdb data_out;
+    faults = λ other apart. faults-left classes disk j writes cdb data_out other apart;
   }
 
 -- ---- What is left

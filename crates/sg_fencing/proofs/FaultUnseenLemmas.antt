@@ -27,7 +27,6 @@ use Rattle.sg_target.specs.Refusal.{fault_sense, first_some, unless_refused}
 use Rattle.sg_target.specs.State.{State, profile_of}
 use Rattle.sg_target.specs.Step.{Answer, Step, check_condition, refused}
 use Rattle.sg_target.specs.declared.operation.Operation.{Operation}
-use Rattle.sg_target.specs.declared.operation.Operation.TheVariants.{Read, Write, Fill}
 use Rattle.sg_target.specs.declared.refusal.Refusal.{Refusal}
 use Rattle.sg_target.specs.declared.reply.Status.{Status}
 use Rattle.sg_target.specs.declared.reply.Status.TheVariants.{Good, NoReply}
@@ -35,7 +34,7 @@ use Rattle.sg_target.proofs.ArmedLemmas.{Holds, holds}
 use Rattle.sg_target.proofs.LiftLemmas.{asked as asked-for}
 use Rattle.sg_fencing.specs.WithFaults.{with_other_blocks}
 use Rattle.sg_fencing.proofs.AccessLemmas.{asked-is-allowed}
-use Rattle.sg_fencing.proofs.OperationLemmas.{class_for}
+use Rattle.sg_fencing.proofs.OperationLemmas.{class_for, first-class}
 use Rattle.sg_fencing.proofs.UnseenLemmas.{operation-alike, parse-same}
 use Rattle.sg_fencing.proofs.UnseenRunLemmas.{operation-differs, refused-differ}
 
@@ -82,10 +81,8 @@ IsBlind operation =
     (class_for operation ≡ Some Reads → ⊥) × (class_for operation ≡ Some Writes → ⊥)
 
 first-blind : (n : ℕ) (operation : Operation) → IsBlind operation → IsBlind (first_blocks n operation)
-first-blind n (Read extent) h = absurd (h.0 refl)
-first-blind n (Write out) h = absurd (h.1 refl)
-first-blind n (Fill extent block) h = absurd (h.1 refl)
-first-blind n _ h = h
+first-blind n operation h =
+    (λ e. h.0 (sym (first-class n operation) ∙ e), λ e. h.1 (sym (first-class n operation) ∙ e))
 
 module _ (disk : Armed) (x : Contents) (j : ℕ) (cdb : List ℕ) where
   abbrev s : State

@@ -38,5 +38,6 @@ mod PersistLemmas
 mod PoweredRunLemmas
 -- Armed faults.
 mod FaultUnseenLemmas
+mod FaultsLeftLemmas
 mod FaultLemmas
 mod FaultRunLemmas

@@ -14,6 +14,7 @@ use Rattle.sg_wire.specs.declared.command.CdbFault.{CdbFault}
 use Rattle.sg_wire.specs.declared.command.out_action.OutAction.{OutAction}
 use Rattle.sg_wire.specs.declared.extent.Extent.{Extent}
 use Rattle.sg_wire.specs.declared.out_list.OutList.{OutList}
+use Rattle.sg_target.specs.Armed.{first_blocks}
 use Rattle.sg_target.specs.Config.{ConfigFields}
 use Rattle.sg_target.specs.Demands.{demands, unmap_extent, unmap_extents}
 use Rattle.sg_target.specs.PrimaryCommands.{inquiry_page}
@@ -48,6 +49,14 @@ class_for (Anchor extents) = Some Writes
 class_for (AnchorExtent extent) = Some Writes
 class_for (ChangeModes width sp list) = Some Writes
 class_for _ = None
+
+-- the first blocks of an operation are of its class
+pub first-class : (n : ℕ) (operation : Operation)
+    → class_for (first_blocks n operation) ≡ class_for operation
+first-class n (Read extent) = refl
+first-class n (Write out) = refl
+first-class n (Fill extent block) = refl
+first-class n _ = refl
 
 -- another command than PERSISTENT RESERVE OUT, or PERSISTENT RESERVE OUT with an action of a kind
 abbrev pub is_of_kind : (OutAction → Bool) → Result Command CdbFault → Bool

@@ -1,9 +1,14 @@
 -- Fencing on a disk with armed faults. A fault can drop a command, cut it short or report it as failed.
 -- It lets no command through a fence.
-use Rattle.std.specs.Prelude.{◌≡◌, ◌≢◌, ℕ, Bool, true, false, List, [], slice_get, take, Some}
+use Rattle.std.specs.Prelude.{◌≡◌, ◌≢◌, ℕ, Bool, true, false, List, [], map, slice_get, take}
+use Rattle.std.specs.Prelude.{Option, Some, None, if◌then◌else◌, option_and_then}
 use Rattle.sg_wire.specs.CdbDecoding.{class_of}
 use Rattle.sg_wire.specs.declared.command.Class.TheVariants.{Reads, Writes}
 use Rattle.sg_store.specs.Disk.{Contents}
+use Rattle.sg_faults.specs.Arming.{count_for, is_spent}
+use Rattle.sg_faults.specs.declared.fault.ArmedFault.{ArmedFault}
+use Rattle.sg_faults.specs.declared.fault.Count.{Count}
+use Rattle.sg_faults.specs.declared.fault.Fault.{Fault}
 use Rattle.sg_units.specs.declared.types.ReservationType.TheVariants.{ExclusiveAccess}
 use Rattle.sg_target.specs.Armed.{Armed, armed_step}
 use Rattle.sg_target.specs.Effect.{with_contents}
@@ -30,9 +35,18 @@ pub record IsDenied (answer : Answer) : Type 0 where
 abbrev pub with_other_blocks : Armed → Contents → Armed
 with_other_blocks disk contents = record disk { state = with_contents disk.state contents }
 
+-- What is left of a fault for an initiator: the fault, and its count for the initiator.
+abbrev pub left_for : (initiator : ℕ) → ArmedFault → Option (Fault × Count)
+left_for initiator a = let count = count_for a initiator in
+    if is_spent count then None else Some (a.fault, count)
+
+-- What is left of the armed faults for an initiator, by their numbers.
+abbrev pub faults_for : Armed → (initiator : ℕ) → List (Option (Fault × Count))
+faults_for disk initiator = map (λ slot. option_and_then (left_for initiator) slot) disk.faults
+
 -- A command of an initiator is denied if it writes. If reading is excluded, a command that reads, such
 -- as READ, is denied too. Then the answer to any command, of whichever class, is the same whatever the
--- blocks are, and whichever are mapped.
+-- blocks are, and whichever are mapped. No command changes what is left of the faults for others.
 pub record IsKeptAway (disk : Armed) (initiator : ℕ) (cdb data_out : List ℕ)
     (excludes_reading : Bool) : Type 0 where
   pub writes : class_of cdb ≡ Some Writes → IsDenied (armed_step disk initiator cdb data_out).answer
@@ -41,6 +55,8 @@ pub record IsKeptAway (disk : Armed) (initiator : ℕ) (cdb data_out : List ℕ)
   pub unseen : (contents : Contents) → excludes_reading ≡ true
       → (armed_step (with_other_blocks disk contents) initiator cdb data_out).answer
       ≡ (armed_step disk initiator cdb data_out).answer
+  pub faults : (other : ℕ) → other ≢ initiator
+      → faults_for (armed_step disk initiator cdb data_out).after other ≡ faults_for disk other
 
 -- ---- One command
 

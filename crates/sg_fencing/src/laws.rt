@@ -373,7 +373,8 @@ pub fn a_holder_is_served_as_if_alone_through_power_cycles()
 /// Faults let nobody through a fence. A reservation of any type is held, and an initiator is not
 /// registered. Whatever faults are armed, none of its commands that write ends with GOOD. Under the
 /// exclusive access types none that reads does, and the answers to it are the same whatever the blocks
-/// are. Each of its commands leaves the view of every other initiator as it was.
+/// are. Each of its commands leaves the view of every other initiator as it was, and what is left of the
+/// faults for it.
 pub fn faults_let_nobody_through()
     ensures { FaultsLetNobodyThrough }
 {
@@ -385,8 +386,9 @@ pub fn faults_let_nobody_through()
 
 /// An initiator holds a write exclusive or an exclusive access reservation. Whatever faults are armed,
 /// no command of another that writes ends with GOOD. Under exclusive access none that reads does, and
-/// the answers to others are the same whatever the blocks are. If the holder still holds after a command
-/// of another, that command leaves the holder's view as it was.
+/// the answers to others are the same whatever the blocks are. A command of another leaves what is left
+/// of the faults for the holder. If the holder still holds after it, it leaves the holder's view as it
+/// was.
 pub fn faults_let_nobody_past_the_holder()
     ensures { FaultsLetNobodyPastTheHolder }
 {
