@@ -116,7 +116,7 @@ typedef struct mdl_identity {
 /* The commands that a disk has. docs/PROFILE.md of the source lists them. */
 typedef enum mdl_profile {
     MDL_PROFILE_BASE = 0,    /* the commands that every disk has */
-    MDL_PROFILE_EXTENDED = 1 /* the same commands so far, and a far larger pool */
+    MDL_PROFILE_EXTENDED = 1 /* these and WRITE LONG(10), and a far larger pool */
 } mdl_profile;
 
 #define MDL_GOOD 0x00
@@ -197,7 +197,7 @@ mdl_error mdl_power_cycle(mdl_disk *disk);
 /* What an armed fault does to a command, and where it meets the command:
  *     - On arrival: before every check of the command. The disk does not execute the command.
  *     - At the medium: after the checks of the CDB, its data-out and its blocks. The fault meets
- *       only commands that pass these checks and name at least one block.
+ *       only commands that pass these checks, and read or write at least one block.
  *     - Afterwards: after the command has ended with MDL_GOOD. The disk has executed it, and its
  *       data-in is in the buffer. */
 typedef enum mdl_fault_outcome {
@@ -224,8 +224,9 @@ typedef struct mdl_fault {
     uint64_t initiators;      /* a mask of the initiators whose commands it meets, not 0. Initiator
                                  i has bit i. */
     uint64_t lba;             /* the address of the first block that it lies on */
-    uint32_t count;           /* the number of these blocks. It meets only commands that name one of
-                                 them. With 0 it lies on none, and meets commands of any kind. */
+    uint32_t count;           /* the number of these blocks. It meets only commands that read
+                                 or write one of them. With 0 it lies on none, and meets commands
+                                 of any kind. */
     uint32_t outcome;         /* one of mdl_fault_outcome */
     uint32_t blocks;          /* MDL_MEDIUM_MOVES_ONLY: the number of blocks that are moved */
     uint16_t skip;            /* the number of commands of each initiator that meet it and pass

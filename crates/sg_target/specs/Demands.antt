@@ -99,7 +99,7 @@ write extent unsupported data_out =
 
 -- WRITE LONG only marks a block, with no data: WR_UNCOR, in byte 1, is 1, and BYTE TRANSFER LENGTH, from
 -- byte 7 on, is 0.
--- Departure (SBC-3, 5.41): without WR_UNCOR a block's data is written there, with its error correction.
+-- Choice (SBC-3, 5.41): without WR_UNCOR a block may be written with its error correction bytes.
 abbrev pub bad_marking : (wr_uncor : Bool) (length : ℕ) → Option ℕ
 bad_marking wr_uncor length =
     if not wr_uncor then Some 1 else (if length == 0 then None else Some 7)

@@ -1,8 +1,8 @@
 // CDBs as SPC-4 and SBC-3 lay them out. Worked rows test their faults and their ignored bits.
 use sg_wire::{
-    Class, Command, Extent10, Extent16, GetLbaStatus, InAction, Inquiry, OutAction,
-    PersistentReserveIn, PersistentReserveOut, ReadCapacity16, RequestSense, ShortExtent,
-    WriteSame10, WriteSame16,
+    CdbFault, Class, Command, Extent10, Extent16, GetLbaStatus, InAction, Inquiry, OutAction,
+    PersistentReserveIn, PersistentReserveOut, Profile, ReadCapacity16, RequestSense, ShortExtent,
+    WriteLong10, WriteSame10, WriteSame16,
 };
 use std::test::Fail;
 
@@ -173,6 +173,24 @@ fn commands_are_read_and_written(rt: HostRuntime) {
         let code = operation_code(cdb);
         assert!(rt; is_read_and_written(cdb, *command), "operation code {code}");
     }
+}
+
+/// A CDB of WRITE LONG(10), and the command.
+const WRITE_LONG_CDB: [u8; 10] = [0x3F, 0xC0, 1, 2, 3, 4, 0, 5, 6, 0];
+
+const WRITE_LONG: Command = Command::WriteLong10(WriteLong10 {
+    cor_dis: true,
+    wr_uncor: true,
+    lba: 0x0102_0304,
+    length: 0x0506,
+});
+
+#[test]
+fn only_the_extended_profile_has_write_long(rt: HostRuntime) {
+    let extended = Command::read_in(Profile::Extended, &WRITE_LONG_CDB);
+    assert!(rt; Command::read(&WRITE_LONG_CDB) == Err(CdbFault::Opcode));
+    assert!(rt; extended == Ok(WRITE_LONG));
+    assert!(rt; WRITE_LONG.write().as_slice() == WRITE_LONG_CDB.as_slice());
 }
 
 /// CDBs of six bytes, with the address and the count that they mean.
