@@ -1,3 +1,5 @@
 pub mod AskingLemmas
 pub mod UnarmedLemmas
-pub mod SparedLemmas
+pub mod QuietLemmas
+mod SparedLemmas
+mod UnmetLemmas

@@ -6,7 +6,7 @@ use Rattle.sg_wire.specs.CdbDecoding.{command_in}
 use Rattle.sg_wire.specs.declared.profile.Profile.{Profile}
 use Rattle.sg_pages.specs.Identity.{IdentityFields}
 use Rattle.sg_faults.specs.Faults.{Faults, asked, decided, disarmed, healed, is_armed}
-use Rattle.sg_faults.specs.Laws.{SparedInitiatorsMeetNoFault, UnarmedFaultsDoNothing, is_spared}
+use Rattle.sg_faults.specs.Laws.{KeepsQuiet, UnarmedFaultsDoNothing}
 use Rattle.sg_faults.specs.Meeting.{Seen, reaches_medium}
 use Rattle.sg_faults.specs.Places.{afterwards, at_medium, on_arrival}
 use Rattle.sg_faults.specs.declared.fault.Fault.{Fault}
@@ -25,6 +25,7 @@ use Rattle.sg_target.specs.Armed.{medium_attempt, refusal_on_arrival, result_at_
 use Rattle.sg_target.specs.Armed.{step_of_checked, with_room}
 use Rattle.sg_target.specs.Checks.{checked_cdb}
 use Rattle.sg_target.specs.Config.{ConfigFields}
+use Rattle.sg_target.specs.FaultLaws.{ArrivalChangesOnlyCounts, AsWithoutFaults}
 use Rattle.sg_target.specs.FaultLaws.{FaultsOnlyDropOrShorten, IsExecutedInPart}
 use Rattle.sg_target.specs.FaultLaws.{OnlyPassedCommandsEndWithGood, RefusedCommandsStayRefused}
 use Rattle.sg_target.specs.FaultLaws.{RunsAsWithoutFaults, StaysRefused, WritesFirstBlocks, is_arming}
@@ -273,6 +274,33 @@ stays-refused disk i cdb data_out refusal e =
     (armed_step_by disk i cdb checked))
     (sym e) (stays-refused-by disk i cdb refusal)
 
+-- ---- On arrival
+
+module _ (state : State) (i : ℕ) (cdb : List ℕ) (command : Seen) (faults : Faults) where
+  abbrev struck_by : OnArrival → Attempt
+  struck_by outcome = record { result = Err (refusal_on_arrival outcome); faults = faults }
+
+  counted-only : (outcome : OnArrival)
+      → (finished_attempt state i cdb (with_room command (struck_by outcome))).after
+      ≡ record { state = state; faults = faults }
+  counted-only arrival.Busy = refl
+  counted-only arrival.TaskSetFull = refl
+  counted-only arrival.ReservationConflict = refl
+  counted-only arrival.NoReply = refl
+  counted-only (arrival.CheckCondition code) = refl
+  counted-only (arrival.DeferredError code) = refl
+
+pub arrival-counts : ArrivalChangesOnlyCounts
+arrival-counts disk i cdb data_out struck e =
+    let checked = checked_cdb disk.state i cdb data_out in
+    let command = seen i cdb checked in
+    let left = asked on_arrival command disk.faults in
+    ap
+    (λ (d : Option (Struck OnArrival)). (finished_attempt disk.state i cdb
+    (with_room command (arrival_attempt d command checked left))).after)
+    e
+    ∙ counted-only disk.state i cdb command left struck.outcome
+
 -- ---- No fault is armed
 
 first-true : (b c : Bool) → (b && c) ≡ true → b ≡ true
@@ -333,20 +361,19 @@ module _ (law : UnarmedFaultsDoNothing) (stays : ConfigurationStays) (profile : 
         state = ap (λ (a : Armed). (after_events armed_disk a events).state) after ∙ next.state;
       }
 
--- ---- Others
+-- ---- Commands that no fault changes
 
-module _ (law : SparedInitiatorsMeetNoFault) (i : ℕ) (cdb : List ℕ) where
-  record Spared (checked : Result Operation Refusal) (tried : Attempt) : Type 0 where
+module _ (condition : Seen → Faults → Bool) (law : KeepsQuiet condition) (i : ℕ) (cdb : List ℕ) where
+  record Untouched (command : Seen) (checked : Result Operation Refusal) (tried : Attempt) : Type 0 where
     result : tried.result ≡ checked
-    faults : is_spared tried.faults i ≡ true
+    faults : condition command tried.faults ≡ true
 
-  checked-spared : (command : Seen) → command.initiator ≡ i → (checked : Result Operation Refusal)
-      (faults : Faults) → is_spared faults command.initiator ≡ true
-      → Spared checked (checked_attempt command checked faults)
-  checked-spared command who (Err refusal) faults e =
-      record { result = refl; faults = ap (is_spared faults) (sym who) ∙ e }
-  checked-spared command who (Ok o) faults e = let idle = law.at_medium command faults e in
-      of-both (Spared (Ok o)) (reaches_medium command)
+  checked-untouched : (command : Seen) (checked : Result Operation Refusal) (faults : Faults)
+      → condition command faults ≡ true
+      → Untouched command checked (checked_attempt command checked faults)
+  checked-untouched command (Err refusal) faults e = record { result = refl; faults = e }
+  checked-untouched command (Ok o) faults e = let idle = law.at_medium command faults e in
+      of-both (Untouched command (Ok o)) (reaches_medium command)
       (record {
         result =
             ap
@@ -354,62 +381,65 @@ module _ (law : SparedInitiatorsMeetNoFault) (i : ℕ) (cdb : List ℕ) where
             (medium_attempt d o (asked at_medium command faults)).result)
             idle.0;
         faults =
-            ap (λ (d : Option (Struck AtMedium)). is_spared
-            (medium_attempt d o (asked at_medium command faults)).faults i) idle.0
-            ∙ (ap (is_spared (asked at_medium command faults)) (sym who) ∙ idle.1);
+            ap (λ (d : Option (Struck AtMedium)). condition command
+            (medium_attempt d o (asked at_medium command faults)).faults) idle.0
+            ∙ idle.1;
       })
-      (record { result = refl; faults = ap (is_spared faults) (sym who) ∙ e })
+      (record { result = refl; faults = e })
 
-  attempt-spared : (command : Seen) → command.initiator ≡ i → (checked : Result Operation Refusal)
-      (faults : Faults) → is_spared faults command.initiator ≡ true
-      → Spared checked (arrival_attempt (decided on_arrival command faults) command checked
+  attempt-untouched : (command : Seen) (checked : Result Operation Refusal) (faults : Faults)
+      → condition command faults ≡ true
+      → Untouched command checked (arrival_attempt (decided on_arrival command faults) command checked
       (asked on_arrival command faults))
-  attempt-spared command who checked faults e =
+  attempt-untouched command checked faults e =
       let idle = law.on_arrival command faults e in
       let left = asked on_arrival command faults in
-      let next = checked-spared command who checked left idle.1 in
       subst
-      (λ (d : Option (Struck OnArrival)). Spared checked (arrival_attempt d command checked left))
-      (sym idle.0) next
+      (λ (d : Option (Struck OnArrival)). Untouched command checked
+      (arrival_attempt d command checked left))
+      (sym idle.0) (checked-untouched command checked left idle.1)
 
-  finished-spared : (status : Status) (command : Seen) → command.initiator ≡ i → (faults : Faults)
-      (done : Step) → is_spared faults i ≡ true
+  finished-untouched : (status : Status) (command : Seen) (faults : Faults) (done : Step)
+      → condition command faults ≡ true
       → (finished_if_good status None command faults done).answer ≡ done.answer
-  finished-spared Good command who faults done e =
-      let here = ap (is_spared faults) who ∙ e in
+  finished-untouched Good command faults done e =
       let left = healed command faults in
-      let idle = law.afterwards command left (law.healing command faults here) in
+      let idle = law.afterwards command left (law.healing command faults e) in
       ap (λ (d : Option (Struck Afterwards)). (afterwards_step d done (asked afterwards command left)).answer)
       idle.0
-  finished-spared _ command who faults done e = refl
+  finished-untouched _ command faults done e = refl
 
-  pub spared-step : (disk : Armed) (data_out : List ℕ) → is_spared disk.faults i ≡ true
+  pub untouched-step : (disk : Armed) (data_out : List ℕ)
+      → condition (seen i cdb (checked_cdb disk.state i cdb data_out)) disk.faults ≡ true
       → is_write_long (command_in (profile_of disk.state) cdb) ≡ false
-      → ((armed_step disk i cdb data_out).answer ≡ (step disk.state i cdb data_out).answer)
-      × ((armed_step disk i cdb data_out).after.state ≡ (step disk.state i cdb data_out).state)
-  spared-step disk data_out e other =
+      → AsWithoutFaults disk i cdb data_out
+  untouched-step disk data_out e other =
       let checked = checked_cdb disk.state i cdb data_out in
       let command = seen i cdb checked in
       let none = only-write-long disk.state i cdb data_out other in
       let met =
       arrival_attempt (decided on_arrival command disk.faults) command checked
       (asked on_arrival command disk.faults) in
-      let spared = attempt-spared command refl checked disk.faults e in
-      let unmarked = ap marked_by spared.result ∙ none in
+      let untouched = attempt-untouched command checked disk.faults e in
+      let unmarked = ap marked_by untouched.result ∙ none in
       let tried = attempt disk.faults command checked in
       let is : tried ≡ met = unmarked-stays command met unmarked in
       let done = step_of_checked disk.state i met.result in
-      let same = ap (step_of_checked disk.state i) spared.result in
+      let same = ap (step_of_checked disk.state i) untouched.result in
       let seen_again = seen i cdb met.result in
+      let again = ap (λ r. condition (seen i cdb r) met.faults) untouched.result ∙ untouched.faults in
       let given : armed_step disk i cdb data_out
       ≡ finished_if_good done.answer.status None seen_again met.faults done =
       ap (finished_attempt disk.state i cdb) is
       ∙ ap (λ (m : Option Fault). finished_if_good done.answer.status m seen_again met.faults done)
-      unmarked in (
-        ap (λ (s : ArmedStep). s.answer) given
-            ∙ (finished-spared done.answer.status seen_again refl met.faults done spared.faults
-            ∙ ap (λ (s : Step). s.answer) same),
-        ap (λ (s : ArmedStep). s.after.state) given
+      unmarked in
+      record {
+        answer =
+            ap (λ (s : ArmedStep). s.answer) given
+            ∙ (finished-untouched done.answer.status seen_again met.faults done again
+            ∙ ap (λ (s : Step). s.answer) same);
+        state =
+            ap (λ (s : ArmedStep). s.after.state) given
             ∙ (finished-state done.answer.status None seen_again met.faults done
-            ∙ ap (λ (s : Step). s.state) same),
-      )
+            ∙ ap (λ (s : Step). s.state) same);
+      }

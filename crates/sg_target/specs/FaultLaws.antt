@@ -1,16 +1,19 @@
 -- Laws of armed faults.
-use Rattle.std.specs.Prelude.{◌≡◌, ◌⊎◌, ℕ, Bool, true, false, List, not, Result, Ok, Err}
+use Rattle.std.specs.Prelude.{◌≡◌, ◌⊎◌, ℕ, Bool, true, false, List, not, Some, Result, Ok}
+use Rattle.std.specs.Prelude.{Err}
 use Rattle.std.specs.List.{list_all}
 use Rattle.sg_wire.specs.CdbDecoding.{command_in}
 use Rattle.sg_wire.specs.declared.command.CdbFault.{CdbFault}
 use Rattle.sg_wire.specs.declared.command.Command.{Command}
 use Rattle.sg_wire.specs.declared.command.Command.TheVariants as command
 use Rattle.sg_wire.specs.declared.profile.Profile.{Profile}
-use Rattle.sg_faults.specs.Faults.{is_armed}
-use Rattle.sg_faults.specs.Laws.{is_spared}
+use Rattle.sg_faults.specs.Faults.{asked, decided, is_armed}
+use Rattle.sg_faults.specs.Laws.{is_spared, meets_none}
+use Rattle.sg_faults.specs.Places.{on_arrival}
 use Rattle.sg_faults.specs.declared.outcome.OnArrival.{OnArrival}
+use Rattle.sg_faults.specs.declared.outcome.Struck.{Struck}
 use Rattle.sg_target.specs.Armed.{Armed, ArmedStep, armed_step, first_blocks, refusal_on_arrival}
-use Rattle.sg_target.specs.Armed.{step_of_checked}
+use Rattle.sg_target.specs.Armed.{seen, step_of_checked}
 use Rattle.sg_target.specs.Checks.{checked_cdb}
 use Rattle.sg_target.specs.Runs.{after_events, answers_to, answers_to_events, armed_disk}
 use Rattle.sg_target.specs.Runs.{state_after_events}
@@ -57,18 +60,30 @@ WithoutFaultsARunIsSound =
     → list_all (λ e. not (is_arming (profile_of disk.state) e)) events ≡ true
     → RunsAsWithoutFaults disk events
 
--- ---- Others
+-- ---- Commands that no fault changes
 
--- A fault changes only commands of initiators that it names. If nothing is left of any armed fault for
--- an initiator, its command is answered as on a disk without faults, which leaves the same state. But a
--- WRITE LONG needs a number that no armed fault has.
+-- A command is answered as on a disk without faults, which leaves the same state.
+pub record AsWithoutFaults (disk : Armed) (initiator : ℕ) (cdb data_out : List ℕ) : Type 0 where
+  pub answer : (armed_step disk initiator cdb data_out).answer
+      ≡ (step disk.state initiator cdb data_out).answer
+  pub state : (armed_step disk initiator cdb data_out).after.state
+      ≡ (step disk.state initiator cdb data_out).state
+
+-- A fault changes only commands of initiators that it names: if nothing is left of any armed fault for
+-- an initiator, none changes its command. But a WRITE LONG needs a number that no armed fault has.
 abbrev pub OthersMeetNoFault : Type 0
 OthersMeetNoFault =
     (disk : Armed) (initiator : ℕ) (cdb data_out : List ℕ) → is_spared disk.faults initiator ≡ true
     → is_write_long (command_in (profile_of disk.state) cdb) ≡ false
-    → let done = step disk.state initiator cdb data_out in
-    let given = armed_step disk initiator cdb data_out in
-    (given.answer ≡ done.answer) × (given.after.state ≡ done.state)
+    → AsWithoutFaults disk initiator cdb data_out
+
+-- A fault changes only commands that it meets: those with its operation code, and with one of its blocks.
+abbrev pub OnlyMetCommandsChange : Type 0
+OnlyMetCommandsChange =
+    (disk : Armed) (initiator : ℕ) (cdb data_out : List ℕ)
+    → meets_none (seen initiator cdb (checked_cdb disk.state initiator cdb data_out)) disk.faults ≡ true
+    → is_write_long (command_in (profile_of disk.state) cdb) ≡ false
+    → AsWithoutFaults disk initiator cdb data_out
 
 -- ---- What faults can do
 
@@ -129,3 +144,12 @@ OnlyPassedCommandsEndWithGood =
     (disk : Armed) (initiator : ℕ) (cdb data_out : List ℕ)
     → (armed_step disk initiator cdb data_out).answer.status ≡ Good
     → IsExecutedInPart disk.state initiator cdb data_out (armed_step disk initiator cdb data_out)
+
+-- What a fault on arrival changes is the count alone, whatever it answers.
+abbrev pub ArrivalChangesOnlyCounts : Type 0
+ArrivalChangesOnlyCounts =
+    (disk : Armed) (initiator : ℕ) (cdb data_out : List ℕ) (struck : Struck OnArrival)
+    → let command = seen initiator cdb (checked_cdb disk.state initiator cdb data_out) in
+    decided on_arrival command disk.faults ≡ Some struck
+    → (armed_step disk initiator cdb data_out).after
+    ≡ record disk { faults = asked on_arrival command disk.faults }

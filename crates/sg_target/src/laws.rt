@@ -5,9 +5,9 @@ ghost use Rattle.sg_target.specs.CommandLaws.{WriteSamesLeaveTheirBlock, WritesL
 ghost use Rattle.sg_target.specs.CommandLaws.{WritesOverUsedAddressesHaveSpace};
 ghost use Rattle.sg_target.specs.Laws.{AnchorsEachExtent, ConfigurationStays};
 ghost use Rattle.sg_target.specs.Laws.{FoundRefusalsChangeNothing, HappeningsLeaveTheRest};
-ghost use Rattle.sg_target.specs.FaultLaws.{FaultsOnlyDropOrShorten, OthersMeetNoFault};
-ghost use Rattle.sg_target.specs.FaultLaws.{OnlyPassedCommandsEndWithGood};
-ghost use Rattle.sg_target.specs.FaultLaws.{RefusedCommandsStayRefused};
+ghost use Rattle.sg_target.specs.FaultLaws.{ArrivalChangesOnlyCounts, FaultsOnlyDropOrShorten};
+ghost use Rattle.sg_target.specs.FaultLaws.{OnlyMetCommandsChange, OnlyPassedCommandsEndWithGood};
+ghost use Rattle.sg_target.specs.FaultLaws.{OthersMeetNoFault, RefusedCommandsStayRefused};
 ghost use Rattle.sg_target.specs.FaultLaws.{WithoutFaultsARunIsSound, WithoutFaultsNothingChanges};
 ghost use Rattle.sg_target.specs.Laws.{LimitsAreKept, UnmapsEachExtent};
 
@@ -46,6 +46,20 @@ pub fn others_meet_no_fault()
 {
     sg_faults::laws::spared_initiators_meet_no_fault();
 }
+
+/// A fault changes only commands that it meets: those with its operation code, and with one of its blocks.
+/// A WRITE LONG may find no room for another fault.
+pub fn only_met_commands_change()
+    ensures { OnlyMetCommandsChange }
+{
+    sg_faults::laws::unmet_faults_do_nothing();
+}
+
+/// What a fault on arrival changes is the count alone, whatever it answers. So BUSY and TASK SET FULL
+/// leave the blocks, the mode pages, the unit attentions, the registrations and the reservation.
+pub fn arrival_changes_only_counts()
+    ensures { ArrivalChangesOnlyCounts }
+{}
 
 /// Whatever faults are armed, a command leaves the state before it, the state in which a disk without
 /// faults leaves it, or the state after the first blocks of a WRITE or a WRITE SAME that passes the
