@@ -69,7 +69,7 @@ static mdl_error let_happen(mdl_disk *disk, const uint8_t *bytes)
     return mdl_happen(disk, &happening);
 }
 
-/* Executes a whole request, and leaves its reply to be sent. */
+/* Executes a whole request, and leaves its reply to be sent, if it has one. */
 static void execute(struct client *client, mdl_disk *disk)
 {
     const struct request_header *request = &client->header;
@@ -91,12 +91,13 @@ static void execute(struct client *client, mdl_disk *disk)
                                              client->reply + REPLY_HEADER_LENGTH,
                                              MDL_BUFFER_LENGTH, &reply);
     header.status = reply.status;
+    header.tag = client->is_last ? 0 : request->tag;
     header.sense_length = reply.sense_length;
     memcpy(header.sense, reply.sense, MDL_SENSE_LENGTH);
     header.data_in_length = (uint32_t)reply.data_in_length;
     put_reply_header(client->reply, &header);
     client->sent = 0;
-    client->to_send = REPLY_HEADER_LENGTH + reply.data_in_length;
+    client->to_send = reply.status == MDL_NO_REPLY ? 0 : REPLY_HEADER_LENGTH + reply.data_in_length;
 }
 
 static enum progress send_reply(struct client *client)

@@ -118,21 +118,55 @@ static int receive_all(int connection, uint8_t *bytes, size_t length, int64_t en
     return 0;
 }
 
-/* Sends a request and reads its reply. Half an exchange would leave the connection without a known
- * place in the stream, so a failure shuts it down. */
-static int exchange_bytes(int connection, const uint8_t *request, size_t length, int timeout,
+/* Reads the rest of a reply of which a byte has come. `data_in` has MDL_BUFFER_LENGTH bytes. */
+static int receive_reply(int connection, int64_t end, struct reply_header *reply, uint8_t *data_in)
+{
+    uint8_t header[REPLY_HEADER_LENGTH];
+    int error = receive_all(connection, header, sizeof header, end);
+
+    if (error)
+        return error;
+    if (get_reply_header(header, reply) == 0)
+        return ENODEV;
+    return receive_all(connection, data_in, reply->data_in_length, end);
+}
+
+/* The next tag of this process. It begins at another number than that of a process before it, whose
+ * connection this one may have inherited. */
+static uint8_t next_tag(void)
+{
+    static uint8_t last;
+
+    if (last == 0)
+        last = (uint8_t)getpid();
+    last++;
+    return last;
+}
+
+/* Sends a request and reads its reply. It passes over late replies to earlier requests. Part of a
+ * request or of a reply would leave the connection without a known place in the stream, so it is
+ * shut down then. If no byte of the reply has come in time, the connection may be used on. */
+static int exchange_bytes(int connection, uint8_t *request, size_t length, int timeout,
                           struct reply_header *reply, uint8_t *data_in)
 {
-    int64_t end = timeout < 0 ? -1 : milliseconds_now() + timeout;
-    uint8_t header[REPLY_HEADER_LENGTH];
-    int error = send_all(connection, request, length, end);
+    static uint8_t unwanted[MDL_BUFFER_LENGTH];
+    const int64_t end = timeout < 0 ? -1 : milliseconds_now() + timeout;
+    const uint8_t tag = next_tag();
+    int error;
 
-    if (!error)
-        error = receive_all(connection, header, sizeof header, end);
-    if (!error && get_reply_header(header, reply) == 0)
+    request[TAG_AT] = tag;
+    error = send_all(connection, request, length, end);
+    while (!error) {
+        error = wait_for(connection, POLLIN, end);
+        if (error == ETIMEDOUT)
+            return error;
+        if (!error)
+            error = receive_reply(connection, end, reply, data_in ? data_in : unwanted);
+        if (!error && reply->tag == tag)
+            break;
+    }
+    if (!error && reply->data_in_length > 0 && !data_in)
         error = ENODEV;
-    if (!error && reply->data_in_length > 0)
-        error = data_in ? receive_all(connection, data_in, reply->data_in_length, end) : ENODEV;
     if (error)
         shutdown(connection, SHUT_RDWR);
     return error;
@@ -141,7 +175,7 @@ static int exchange_bytes(int connection, const uint8_t *request, size_t length,
 int exchange_command(int connection, struct exchange *exchange)
 {
     static uint8_t request[MOST_REQUEST];
-    const struct request_header header = { COMMAND, exchange->initiator, exchange->cdb_length,
+    const struct request_header header = { COMMAND, exchange->initiator, 0, exchange->cdb_length,
                                            exchange->data_out_length };
     size_t length = REQUEST_HEADER_LENGTH;
 
@@ -158,7 +192,7 @@ int exchange_command(int connection, struct exchange *exchange)
 
 int exchange_power_cycle(int connection, struct reply_header *reply)
 {
-    const struct request_header header = { POWER_CYCLE, 0, 0, 0 };
+    const struct request_header header = { POWER_CYCLE, 0, 0, 0, 0 };
     uint8_t request[REQUEST_HEADER_LENGTH];
 
     put_request_header(request, &header);
@@ -168,7 +202,7 @@ int exchange_power_cycle(int connection, struct reply_header *reply)
 int exchange_happening(int connection, const mdl_happening *happening, int timeout,
                        struct reply_header *reply)
 {
-    const struct request_header header = { HAPPENING, 0, 0, HAPPENING_LENGTH };
+    const struct request_header header = { HAPPENING, 0, 0, 0, HAPPENING_LENGTH };
     uint8_t request[REQUEST_HEADER_LENGTH + HAPPENING_LENGTH];
 
     put_request_header(request, &header);

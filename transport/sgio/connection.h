@@ -10,7 +10,7 @@ struct exchange {
     const uint8_t *cdb;
     uint32_t data_out_length;  /* at most MOST_DATA_OUT */
     const uint8_t *data_out;
-    uint8_t *data_in;          /* MDL_BUFFER_LENGTH bytes */
+    uint8_t *data_in;          /* MDL_BUFFER_LENGTH bytes, written */
     int timeout;               /* in milliseconds, or -1 */
     struct reply_header reply; /* written */
 };
@@ -23,9 +23,11 @@ int connect_to(const char *path, int flags);
  * duplicate of one is, and so is an inherited one. errno stays as it was. */
 int is_connected_to(int descriptor, const char *path);
 
-/* Sends a command and reads its reply. Returns 0, or an errno. After an errno the connection is of
- * no use. ETIMEDOUT means that the time is over. ENODEV means that the server is gone, or sends
- * something that is no reply. One thread at a time: all connections of a process share a buffer. */
+/* Sends a command and reads its reply. Returns 0, or an errno. ETIMEDOUT means that the time is
+ * over. The next exchange then passes over the late reply, if one comes. But if part of the request
+ * was sent or part of the reply had come, the connection is of no use. ENODEV means that the server
+ * is gone, or sends something that is no reply. After it the connection is of no use. One thread at
+ * a time: all connections of a process share a buffer. */
 int exchange_command(int connection, struct exchange *exchange);
 
 /* The same for a power cycle. `reply` is written. */

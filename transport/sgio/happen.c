@@ -1,5 +1,5 @@
 /* Not proved. Lets something happen to the disk, with MDL_SOCKET in the environment. The words are
- * those of a script's line, and `attention` takes more than one initiator:
+ * those of a script's line on an extended disk (docs/SCRIPT.md), which the proved library reads:
  *
  *     happen power                    takes the power away and gives it back, as `power` does
  *     happen reset                    resets the logical unit
@@ -8,129 +8,116 @@
  *     happen grow N                   the disk has N blocks from then on
  *     happen attention CODE [I ...]   initiators, by default all, get the unit attention with this
  *                                     code, such as 2Ah/06h
+ *     happen fault PLACE WHAT [OPTION ...]   arms a fault, such as `fault arrival busy times 2`
+ *     happen heal [N]                 takes all faults away, or the one with a number
  *
  * Status 0; 1 if the words are none of these, or if the disk refuses what they ask for; 15 where no
  * server does it. */
-#include <ctype.h>
 #include <stdio.h>
 #include <stdlib.h>
 #include <string.h>
 #include <unistd.h>
 
 #include "connection.h"
-#include "options.h"
 #include "tell.h"
 
-enum { REFUSED = 1, CODE_LENGTH = 7 };
+enum { REFUSED = 1 };
 
-static int read_initiator(const char *word, uint32_t *initiator)
+/* What each verb takes, and what that is. */
+static const struct {
+    const char *verb, *operands, *help;
+} verbs[] = {
+    { "power", "", "" },
+    { "reset", " [target]", "" },
+    { "nexus", " I", ", an initiator from 0 to 7" },
+    { "grow", " N", ", a number of blocks from 1 to 2^40" },
+    { "attention", " CODE [I ...]", ", a code such as 2Ah/06h and initiators from 0 to 7" },
+    { "fault", " PLACE WHAT [OPTION ...]", ", as docs/SCRIPT.md says" },
+    { "heal", " [N]", ", the number of a fault from 0 to 7" },
+};
+enum { VERBS = sizeof verbs / sizeof verbs[0] };
+
+/* The words with a blank between two. Returns null if there is no memory. */
+static char *join_words(int count, char **words)
 {
-    uint64_t number;
-
-    if (!read_number(word, MDL_INITIATORS - 1, &number))
-        return 0;
-    *initiator = (uint32_t)number;
-    return 1;
-}
-
-static uint8_t byte_of(const char *digits)
-{
-    const char two[3] = { digits[0], digits[1], '\0' };
-
-    return (uint8_t)strtoul(two, NULL, 16);
-}
-
-/* A code as sgrun prints it, such as 2Ah/06h. */
-static int read_code(const char *word, mdl_happening *happening)
-{
-    static const char form[] = "..h/..h";
-    size_t at;
-
-    if (strlen(word) != CODE_LENGTH)
-        return 0;
-    for (at = 0; at < CODE_LENGTH; at++)
-        if (form[at] == '.' ? !isxdigit((unsigned char)word[at]) : word[at] != form[at])
-            return 0;
-    happening->asc = byte_of(word);
-    happening->ascq = byte_of(word + 4);
-    return 1;
-}
-
-/* The initiators after a code, or each if there are none. */
-static int read_initiators(int count, char **words, mdl_happening *happening)
-{
-    uint32_t initiator;
+    size_t length = 1;
+    char *text;
     int at;
 
-    happening->initiators = count > 0 ? 0 : (1u << MDL_INITIATORS) - 1;
-    for (at = 0; at < count; at++) {
-        if (!read_initiator(words[at], &initiator))
-            return 0;
-        happening->initiators |= 1u << initiator;
-    }
-    return 1;
+    for (at = 0; at < count; at++)
+        length += strlen(words[at]) + 1;
+    text = calloc(length, 1);
+    for (at = 0; text && at < count; at++)
+        strcat(strcat(text, at ? " " : ""), words[at]);
+    return text;
 }
 
-/* Reads the words after the program's name. Returns 0 if they ask for nothing. */
-static int read_words(int count, char **words, mdl_happening *happening)
+static int print_verbs(void)
 {
-    static const struct {
-        const char *verb;
-        mdl_happening_kind kind;
-    } verbs[] = {
-        { "power", MDL_POWER_CYCLE },  { "reset", MDL_LOGICAL_UNIT_RESET },
-        { "nexus", MDL_NEXUS_LOSS },   { "grow", MDL_GROW },
-        { "attention", MDL_ATTENTION },
-    };
-    size_t at = 0, verb_count = sizeof verbs / sizeof verbs[0];
+    size_t at;
 
-    while (count > 0 && at < verb_count && strcmp(words[0], verbs[at].verb) != 0)
-        at++;
-    if (count == 0 || at == verb_count)
+    fputs("usage: happen", stderr);
+    for (at = 0; at < VERBS; at++)
+        fprintf(stderr, "%s %s%s", at ? " |" : "", verbs[at].verb, verbs[at].operands);
+    fputc('\n', stderr);
+    return REFUSED;
+}
+
+/* The verb of words that are a usage fault. */
+static int print_usage(const char *text)
+{
+    size_t at, length;
+
+    text += strspn(text, " \t");
+    length = strcspn(text, " \t");
+    for (at = 0; at < VERBS; at++)
+        if (strlen(verbs[at].verb) == length && memcmp(text, verbs[at].verb, length) == 0)
+            fprintf(stderr, "usage: happen %s%s%s\n", verbs[at].verb, verbs[at].operands,
+                    verbs[at].help);
+    return REFUSED;
+}
+
+/* Why the words ask for nothing. */
+static int refuse_words(const char *text, mdl_error error)
+{
+    switch (error) {
+    case MDL_UNKNOWN_VERB: return print_verbs();
+    case MDL_USAGE: return print_usage(text);
+    case MDL_TOO_MANY_WORDS: fail("happen", "there are more than 64 words"); return REFUSED;
+    default: fail("happen", "a byte is neither printable ASCII nor a tab"); return REFUSED;
+    }
+}
+
+/* Asks the server, and says why the disk refuses it. */
+static int let_happen(const mdl_happening *happening)
+{
+    struct reply_header reply;
+    int connection = open_server("happen"), error;
+
+    if (connection < 0)
+        return NO_SERVER;
+    error = exchange_happening(connection, happening, -1, &reply);
+    close(connection);
+    if (error)
+        return fail("happen", strerror(error));
+    if (reply.result == MDL_OK)
         return 0;
-    memset(happening, 0, sizeof *happening);
-    happening->kind = verbs[at].kind;
-    switch (verbs[at].kind) {
-    case MDL_NEXUS_LOSS: return count == 2 && read_initiator(words[1], &happening->initiator);
-    case MDL_GROW: return count == 2 && read_number(words[1], UINT64_MAX, &happening->blocks);
-    case MDL_ATTENTION:
-        return count > 1 && read_code(words[1], happening) &&
-               read_initiators(count - 2, words + 2, happening);
-    case MDL_LOGICAL_UNIT_RESET:
-        if (count != 2 || strcmp(words[1], "target") != 0)
-            return count == 1;
-        happening->kind = MDL_TARGET_RESET;
-        return 1;
-    default: return count == 1;
-    }
-}
-
-/* Why the disk refuses it, by the result of mdl_happen. */
-static int refuse(uint8_t result)
-{
-    fail("happen", result == MDL_UNKNOWN_CONDITION ? "the disk has no condition with this code"
-                   : result == MDL_BLOCKS          ? "the number of blocks is not 1 to 2^40"
-                                                   : "the disk refuses it");
+    fail("happen", reply.result == MDL_FAULTS ? "a fault is armed under each number"
+                                              : "the disk refuses it");
     return REFUSED;
 }
 
 int main(int count, char **words)
 {
+    char *text = join_words(count - 1, words + 1);
     mdl_happening happening;
-    struct reply_header reply;
-    int connection, error;
+    mdl_error error;
+    int status;
 
-    if (!read_words(count - 1, words + 1, &happening)) {
-        fputs("usage: happen power | reset [target] | nexus I | grow N | attention CODE [I ...]\n",
-              stderr);
-        return REFUSED;
-    }
-    connection = open_server("happen");
-    if (connection < 0)
-        return NO_SERVER;
-    error = exchange_happening(connection, &happening, -1, &reply);
-    close(connection);
-    if (error)
-        return fail("happen", strerror(error));
-    return reply.result == MDL_OK ? 0 : refuse(reply.result);
+    if (!text)
+        return fail("happen", "there is no memory");
+    error = mdl_read_happening(text, &happening);
+    status = error ? refuse_words(text, error) : let_happen(&happening);
+    free(text);
+    return status;
 }

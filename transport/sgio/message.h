@@ -6,9 +6,9 @@
  *
  * A request has these bytes:
  *     - 0: KIND, 1 for a command, 2 for a power cycle and 3 for a happening. If it is 2, all other
- *       bytes are 0. If it is 3, the bytes 1 to 3 are 0, and DATA-OUT LENGTH is 26.
+ *       bytes are 0, except TAG. If it is 3, the bytes 1 and 3 are 0, and DATA-OUT LENGTH is 65.
  *     - 1: INITIATOR, 0 to 7.
- *     - 2: reserved, 0.
+ *     - 2: TAG, any byte. The reply has it, too.
  *     - 3: CDB LENGTH, 0 to 255.
  *     - 4 to 7: DATA-OUT LENGTH, 0 to 262,144.
  *     - 8 on: the CDB, CDB LENGTH bytes.
@@ -21,22 +21,39 @@
  *     - 16 to 23: blocks.
  *     - 24: asc.
  *     - 25: ascq.
- *
- * It has no fault, so its other fields are 0, and mdl_happen refuses MDL_ARM.
+ *     - 26: number.
+ *     - 27 to 64: the fields of its mdl_fault:
+ *           - 27 to 34: initiators.
+ *           - 35 to 42: lba.
+ *           - 43 to 46: count.
+ *           - 47 to 50: outcome.
+ *           - 51 to 54: blocks.
+ *           - 55 and 56: skip.
+ *           - 57 and 58: times.
+ *           - 59: has_code.
+ *           - 60: code.
+ *           - 61: healed_by_writes.
+ *           - 62: key.
+ *           - 63: asc.
+ *           - 64: ascq.
  *
  * A reply has these bytes:
  *     - 0: RESULT, an mdl_error, or 255. It is 0 if the request was executed.
  *     - 1: STATUS, the SCSI status.
- *     - 2: reserved, 0.
+ *     - 2: TAG, the request's.
  *     - 3: SENSE LENGTH, 0 to 20.
  *     - 4 to 7: DATA-IN LENGTH, 0 to 131,072.
  *     - 8 to 27: sense data, SENSE LENGTH bytes, and zeros after them.
  *     - 28 on: data-in, DATA-IN LENGTH bytes.
  *
- * If RESULT is not 0, nothing was executed, and all other bytes are 0. RESULT 255 says that the
- * request is none of these. The server then closes the connection, because it can't know where the
- * next request begins. A request is executed when its last byte has arrived. If the client closes
- * before that, it is not executed.
+ * If RESULT is not 0, nothing was executed, and all other bytes except TAG are 0. RESULT 255 says
+ * that the request is none of these, and its TAG is 0. The server then closes the connection, because
+ * it can't know where the next request begins. A request is executed when its last byte has arrived.
+ * If the client closes before that, it is not executed.
+ *
+ * If the disk never replies to a command (MDL_NO_REPLY), the server sends nothing for it, and goes on
+ * with the client's next request. So a client has to wait for a reply for a limited time. It knows
+ * a late reply to an earlier command by its TAG.
  */
 #ifndef MESSAGE_H
 #define MESSAGE_H
@@ -49,7 +66,7 @@
 enum {
     REQUEST_HEADER_LENGTH = 8,
     REPLY_HEADER_LENGTH = 28,
-    HAPPENING_LENGTH = 26,
+    HAPPENING_LENGTH = 65,
     MOST_CDB = 255,
     /* Twice what a WRITE may carry, so that the disk itself refuses one that is too long. */
     MOST_DATA_OUT = 2 * MDL_BUFFER_LENGTH,
@@ -57,17 +74,20 @@ enum {
     MOST_REPLY = REPLY_HEADER_LENGTH + MDL_BUFFER_LENGTH
 };
 
+/* Where TAG is in both headers. */
+enum { TAG_AT = 2 };
+
 enum request_kind { COMMAND = 1, POWER_CYCLE = 2, HAPPENING = 3 };
 
 enum { RESULT_MALFORMED = 255 };
 
 struct request_header {
-    uint8_t kind, initiator, cdb_length;
+    uint8_t kind, initiator, tag, cdb_length;
     uint32_t data_out_length;
 };
 
 struct reply_header {
-    uint8_t result, status, sense_length, sense[MDL_SENSE_LENGTH];
+    uint8_t result, status, tag, sense_length, sense[MDL_SENSE_LENGTH];
     uint32_t data_in_length;
 };
 

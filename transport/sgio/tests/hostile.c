@@ -99,12 +99,13 @@ static void receive_reply(int connection, struct reply_header *reply)
 static size_t put_request(uint64_t *seed, uint8_t *bytes)
 {
     static struct random_command command;
-    struct request_header header = { COMMAND, (uint8_t)below(seed, MDL_INITIATORS), 0, 0 };
+    struct request_header header = { COMMAND, (uint8_t)below(seed, MDL_INITIATORS), 0, 0, 0 };
     uint32_t list_length;
     uint8_t *at = bytes + REQUEST_HEADER_LENGTH;
 
     put_random_command(seed, MOST_DATA_OUT, &command);
     header.initiator = (uint8_t)(below(seed, 64) ? header.initiator : MDL_INITIATORS);
+    header.tag = (uint8_t)below(seed, 256);
     header.cdb_length = command.cdb_length;
     header.data_out_length = command.data_out_length;
     put_request_header(bytes, &header);
@@ -167,6 +168,7 @@ static void send_one(uint64_t *seed, int connection)
     send_bytes(connection, request, length);
     receive_reply(connection, &reply);
     WANT((reply.result == MDL_NO_INITIATOR) == (request[1] > 7));
+    WANT(reply.tag == request[TAG_AT]);
     WANT(reply.result <= MDL_NO_INITIATOR);
     look_at(&reply);
 }
@@ -185,19 +187,22 @@ static void execute(int connection, uint8_t initiator, const uint8_t *cdb, uint8
 /* Something happens, or is refused for the right reason. */
 static void send_happening(uint64_t *seed, int connection)
 {
+    static const mdl_happening heal = { .kind = MDL_DISARM_ALL };
     mdl_happening happening;
     const mdl_error result = put_random_happening(seed, &happening);
     struct reply_header reply;
 
     WANT(exchange_happening(connection, &happening, TIMEOUT, &reply) == 0 && reply.result == result);
     look_at(&reply);
+    /* no command meets the fault, so each reply is one of a sound disk */
+    WANT(exchange_happening(connection, &heal, TIMEOUT, &reply) == 0 && reply.result == MDL_OK);
 }
 
 /* A request cut after each of its bytes lets nothing happen; sent byte by byte it does. */
 static void cut_a_happening(void)
 {
     static const uint8_t reset[] = { HAPPENING, 0, 0, 0, 0, 0, 0, HAPPENING_LENGTH,
-                                     0, 0, 0, MDL_LOGICAL_UNIT_RESET, [33] = 0 };
+                                     0, 0, 0, MDL_LOGICAL_UNIT_RESET, [72] = 0 };
     struct reply_header reply;
     int connection = open_connection(), other;
     size_t cut, at;
@@ -225,7 +230,7 @@ static void cut_a_write(void)
 {
     static const uint8_t write_7[10] = { 0x2A, 0, 0, 0, 0, 7, 0, 0, 1, 0 };
     static const uint8_t status_7[16] = { 0x9E, 0x12, 0, 0, 0, 0, 0, 0, 0, 7, 0, 0, 0, 24 };
-    const struct request_header header = { COMMAND, 0, sizeof write_7, MDL_BLOCK_LENGTH };
+    const struct request_header header = { COMMAND, 0, 0, sizeof write_7, MDL_BLOCK_LENGTH };
     const size_t length = REQUEST_HEADER_LENGTH + sizeof write_7 + MDL_BLOCK_LENGTH;
     struct reply_header reply;
     int connection = open_connection(), other;
@@ -257,7 +262,7 @@ static void open_many(void)
 {
     int connections[MANY], at, refused = 0;
     uint8_t header[REQUEST_HEADER_LENGTH];
-    const struct request_header command = { COMMAND, 0, 0, 0 };
+    const struct request_header command = { COMMAND, 0, 0, 0, 0 };
 
     put_request_header(header, &command);
     for (at = 0; at < MANY; at++)
@@ -276,7 +281,7 @@ static void open_many(void)
 static void ask_and_read_late(int count)
 {
     static const uint8_t read_256[10] = { 0x28, 0, 0, 0, 0, 0, 0, 1, 0, 0 };
-    const struct request_header header = { COMMAND, 1, sizeof read_256, 0 };
+    const struct request_header header = { COMMAND, 1, 0, sizeof read_256, 0 };
     int late = open_connection(), other = open_connection(), at;
     struct reply_header reply;
 
@@ -300,7 +305,7 @@ static void ask_and_read_late(int count)
  * TRANSFER LENGTH. One byte more of data-out is no request. */
 static void send_longest(void)
 {
-    struct request_header header = { COMMAND, 3, MOST_CDB, MOST_DATA_OUT };
+    struct request_header header = { COMMAND, 3, 0, MOST_CDB, MOST_DATA_OUT };
     struct reply_header reply;
     int connection = open_connection();
 

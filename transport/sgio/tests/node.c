@@ -325,8 +325,8 @@ static void serves_threads(void)
     WANT(pthread_join(threads[0], NULL) == 0 && pthread_join(threads[1], NULL) == 0);
 }
 
-/* A server that is stopped costs the time that the header has, and the descriptor; one that is gone
- * is no device. */
+/* A server that is stopped costs the time that the header has. Its late reply is not the one to the
+ * next command. A server that is gone is no device. */
 static void misses_the_server(pid_t server)
 {
     sg_io_hdr_t header = header_of(test_unit_ready, 6, SG_DXFER_NONE, 0);
@@ -337,7 +337,10 @@ static void misses_the_server(pid_t server)
     WANT(ioctl(node, SG_IO, &header) == 0 && header.host_status == 3 && header.info == SG_INFO_CHECK);
     WANT(header.duration >= SHORT_TIMEOUT && header.duration < 20 * SHORT_TIMEOUT);
     WANT(kill(server, SIGCONT) == 0);
-    WANT(ioctl(node, SG_IO, &header) < 0 && errno == ENODEV);
+    header = header_of(inquiry, 6, SG_DXFER_FROM_DEV, INQUIRY_LENGTH);
+    WANT(ioctl(node, SG_IO, &header) == 0 && header.host_status == 0 && header.info == SG_INFO_OK);
+    WANT(header.resid == 0 && buffer[4] == INQUIRY_LENGTH - 5);
+    expect_ready(node);
     WANT(close(node) == 0);
     node = open(path, O_RDWR);
     WANT(node >= 0);

@@ -105,6 +105,51 @@ void put_random_command(uint64_t *seed, uint32_t most_data_out, struct random_co
     }
 }
 
+/* The result of mdl_happen for a fault, if a number is free. */
+static mdl_error result_of_fault(const mdl_fault *it)
+{
+    switch (it->outcome) {
+    case MDL_ARRIVAL_CHECK_CONDITION:
+    case MDL_ARRIVAL_DEFERRED_ERROR:
+    case MDL_MEDIUM_CHECK_CONDITION:
+    case MDL_AFTER_CHECK_CONDITION:
+        if (it->key > 15 || it->key == 12)
+            return MDL_SENSE_KEY;
+        break;
+    default:
+        if (it->outcome > MDL_AFTER_CHECK_CONDITION)
+            return MDL_UNKNOWN_FAULT;
+    }
+    if (it->initiators == 0 || it->initiators >> MDL_INITIATORS)
+        return MDL_NO_INITIATOR;
+    if (it->has_code > 1 || it->healed_by_writes > (it->count > 0))
+        return MDL_FAULT_FLAG;
+    return MDL_OK;
+}
+
+/* A fault that mdl_happen accepts, or one of whose fields it may refuse. */
+static void put_random_fault(uint64_t *seed, mdl_fault *it)
+{
+    memset(it, 0, sizeof *it);
+    it->initiators = 1 + below(seed, (1 << MDL_INITIATORS) - 1);
+    it->outcome = below(seed, MDL_AFTER_CHECK_CONDITION + 1);
+    it->count = below(seed, 2);
+    it->healed_by_writes = (uint8_t)below(seed, it->count + 1);
+    it->has_code = (uint8_t)below(seed, 2);
+    it->key = (uint8_t)below(seed, 16);
+    random_bytes(seed, &it->code, 1);
+    switch (below(seed, 12)) {
+    case 0: it->initiators <<= 8 * below(seed, 7); break;
+    case 1: it->outcome += 1u << below(seed, 31); break;
+    case 2: it->count <<= 8 * below(seed, 4); break;
+    case 3: it->healed_by_writes = (uint8_t)below(seed, 256); break;
+    case 4: it->has_code = (uint8_t)below(seed, 256); break;
+    case 5: it->key = (uint8_t)below(seed, 256); break;
+    case 6: it->initiators = 0; break;
+    default: break;
+    }
+}
+
 /* The result of mdl_happen for a record. */
 static mdl_error result_of(const mdl_happening *it, int has_known_code)
 {
@@ -118,8 +163,9 @@ static mdl_error result_of(const mdl_happening *it, int has_known_code)
             return MDL_UNKNOWN_CONDITION;
         return it->initiators >> MDL_INITIATORS ? MDL_NO_INITIATOR : MDL_OK;
     case MDL_GROW: return it->blocks > 0 && it->blocks <= (uint64_t)1 << 40 ? MDL_OK : MDL_BLOCKS;
-    /* the message has no fault, so the fault's mask is 0 */
-    case MDL_ARM: return MDL_NO_INITIATOR;
+    case MDL_ARM: return result_of_fault(&it->fault);
+    case MDL_DISARM: return it->number < MDL_MOST_FAULTS ? MDL_OK : MDL_FAULT_NUMBER;
+    case MDL_DISARM_ALL: return MDL_OK;
     default: return MDL_UNKNOWN_HAPPENING;
     }
 }
@@ -129,7 +175,10 @@ mdl_error put_random_happening(uint64_t *seed, mdl_happening *it)
 {
     const int has_known_code = below(seed, 4) > 0;
 
-    it->kind = below(seed, MDL_GROW + 2);
+    memset(it, 0, sizeof *it);
+    it->kind = below(seed, MDL_DISARM_ALL + 2);
+    it->number = (uint8_t)below(seed, MDL_MOST_FAULTS + 1);
+    put_random_fault(seed, &it->fault);
     it->initiator = below(seed, MDL_INITIATORS + 1);
     it->initiators = below(seed, (1 << MDL_INITIATORS) + 1);
     it->blocks = below(seed, 8) ? 4096 + below(seed, 512) : 0;
