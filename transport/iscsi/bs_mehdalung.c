@@ -23,6 +23,9 @@ enum { TRANSPORT_ID_HEADER = 4, ISID_SEPARATOR = 5 };
 /* The length of the longest CDB of a command of the disk. */
 enum { TRACED_CDB = 16 };
 
+/* The bits of byte 1 that are SERVICE ACTION. */
+enum { SERVICE_ACTION_BITS = 0x1F };
+
 static uint8_t data_in[MDL_BUFFER_LENGTH];
 
 static struct backingstore_template store;
@@ -154,6 +157,34 @@ static void trace(struct scsi_cmd *cmd, int initiator, const mdl_reply *reply)
             text);
 }
 
+static uint32_t registered_initiators(struct scsi_lu *lu)
+{
+    uint32_t mask = 0;
+
+    mdl_registered(&unit_of(lu)->disk, &mask);
+    return mask;
+}
+
+/* Executes a command, and notes its initiator's session. PREEMPT AND ABORT ends the held commands
+ * of initiators that lose their registrations (SPC-4, 5.13). */
+static mdl_error execute_of_session(struct scsi_cmd *cmd, int initiator, mdl_reply *reply)
+{
+    int preempts = cmd->scb[0] == PERSISTENT_RESERVE_OUT
+                   && (cmd->scb[1] & SERVICE_ACTION_BITS) == PR_OUT_PREEMPT_AND_ABORT;
+    uint32_t lost = preempts ? registered_initiators(cmd->dev) : 0;
+    mdl_error error;
+    int other;
+
+    note_session(cmd->dev, initiator, cmd->it_nexus->itn_id);
+    error = execute_command(cmd, (uint32_t)initiator, reply);
+    if (preempts)
+        lost &= ~registered_initiators(cmd->dev);
+    for (other = 0; other < PORT_NUMBERS; other++)
+        if (lost >> other & 1)
+            end_held_of(cmd->dev, other);
+    return error;
+}
+
 /* Called by tgtd for each command, with the whole of its data-out. A port without a number gets
  * BUSY: tgtd asks nobody before it lets a port log in. tgtd sends the status that is returned,
  * unless the command is held. */
@@ -169,8 +200,7 @@ static int execute(int tid, struct scsi_cmd *cmd)
         scsi_set_in_resid_by_actual(cmd, 0);
         return SAM_STAT_BUSY;
     }
-    note_session(cmd->dev, initiator, cmd->it_nexus->itn_id);
-    if (execute_command(cmd, (uint32_t)initiator, &reply)) {
+    if (execute_of_session(cmd, initiator, &reply)) {
         scsi_set_in_resid_by_actual(cmd, 0);
         sense_data_build(cmd, HARDWARE_ERROR, ASC_INTERNAL_TGT_FAILURE);
         return SAM_STAT_CHECK_CONDITION;

@@ -33,16 +33,12 @@ static const char *name_of(uint32_t kind)
  * (SAM-5, 6.3). Only held commands have not ended by then. */
 static void end_commands(struct scsi_lu *lu, const mdl_happening *happening)
 {
-    uint64_t session;
-
     switch (happening->kind) {
     case MDL_POWER_CYCLE: case MDL_LOGICAL_UNIT_RESET: case MDL_TARGET_RESET:
         end_held(lu, ANY_SESSION, ANY_TAG);
         break;
     case MDL_NEXUS_LOSS:
-        session = unit_of(lu)->sessions[happening->initiator];
-        if (session)
-            end_held(lu, session, ANY_TAG);
+        end_held_of(lu, (int)happening->initiator);
         break;
     default: break;
     }

@@ -28,3 +28,11 @@ unsigned end_held(struct scsi_lu *lu, uint64_t session, uint64_t tag)
     }
     return ended;
 }
+
+void end_held_of(struct scsi_lu *lu, int initiator)
+{
+    uint64_t session = unit_of(lu)->sessions[initiator];
+
+    if (session)
+        end_held(lu, session, ANY_TAG);
+}

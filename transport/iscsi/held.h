@@ -19,4 +19,7 @@ void hold(struct scsi_cmd *cmd);
  * Returns how many these are. */
 unsigned end_held(struct scsi_lu *lu, uint64_t session, uint64_t tag);
 
+/* Ends the commands that are kept for a logical unit and came in the session of an initiator. */
+void end_held_of(struct scsi_lu *lu, int initiator);
+
 #endif

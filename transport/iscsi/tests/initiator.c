@@ -170,7 +170,10 @@ static void print_answer(unsigned long line, const struct answer *answer)
 
 static void log_in(unsigned port)
 {
-    if (!sessions[port] && !(sessions[port] = session_open(url, port, port)))
+    if (sessions[port])
+        return;
+    sessions[port] = session_open(url, port, port);
+    if (!sessions[port] || session_ping(sessions[port]))
         fail("no session");
 }
 
@@ -253,7 +256,8 @@ static void raw(char *port, char *cdb, char *data)
     execute(port_of(port), &request);
 }
 
-/* The data-out is sent with the command, so it is not needed after the line. */
+/* Data-out is sent with the command, so it is not needed after the line. The target has received
+ * the command before it replies to the NOP-Out. */
 static void send_without_waiting(unsigned port, char *cdb, char *data)
 {
     struct request request = request_of_words(cdb, data);
@@ -266,6 +270,8 @@ static void send_without_waiting(unsigned port, char *cdb, char *data)
     if (at == MOST_SENT)
         fail("too many commands are under way");
     sent[port][at] = (struct sent){ begin(port, &request), line };
+    if (session_ping(sessions[port]))
+        fail("no session");
     printf("line %lu: SENT\n", line);
 }
 

@@ -228,17 +228,25 @@ static void receive_nop(struct iscsi_context *context, int status, void *data, v
     session->nops += status == SCSI_STATUS_GOOD;
 }
 
+int session_ping(struct session *session)
+{
+    unsigned before = session->nops;
+
+    if (iscsi_nop_out_async(session->context, receive_nop, NULL, 0, session))
+        return 1;
+    while (session->nops == before)
+        if (session_serve(session))
+            return 1;
+    return 0;
+}
+
 const struct answer *session_settle(struct session *session, const struct command *command)
 {
-    int count, is_lost = 0;
-    unsigned before;
+    int count;
 
-    for (count = 0; count < 2 && command->task && !is_lost; count++) {
-        before = session->nops;
-        is_lost = iscsi_nop_out_async(session->context, receive_nop, NULL, 0, session);
-        while (!is_lost && session->nops == before)
-            is_lost = session_serve(session);
-    }
+    for (count = 0; count < 2 && command->task; count++)
+        if (session_ping(session))
+            break;
     return &command->answer;
 }
 

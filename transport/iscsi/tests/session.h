@@ -54,6 +54,10 @@ int session_send(struct session *session, const struct request *request, uint8_t
 /* Waits until something can be sent or received, and does it. Returns 1 if the session is lost. */
 int session_serve(struct session *session);
 
+/* Sends a NOP-Out and waits for its reply. Returns 1 if the session is lost. After a login tgtd
+ * allows only two commands, until it has replied to something. */
+int session_ping(struct session *session);
+
 /* A command that was sent without waiting for its reply. */
 struct command;
 
