@@ -7,7 +7,6 @@
 #include "happenings.h"
 #include "driver.h"
 #include "held.h"
-#include "words.h"
 #include "iscsi/iscsid.h"
 
 /* Of session numbers, which have 16 bits and count up. */
@@ -273,7 +272,7 @@ tgtadm_err update(struct scsi_lu *lu, char *params)
     if (strncmp(params, prefix, sizeof prefix - 1) != 0 || params[length - 1] != ',')
         return TGTADM_UNKNOWN_PARAM;
     params[length - 1] = '\0';
-    if (!read_happening(params + sizeof prefix - 1, &happening))
+    if (mdl_read_happening(params + sizeof prefix - 1, &happening))
         return TGTADM_UNKNOWN_PARAM;
     notice(lu);
     if (happening.kind == MDL_TARGET_RESET)
