@@ -6,7 +6,7 @@
  *     send I CDB [DATA]           sends a CDB as `raw` does, without waiting for its reply.
  *     wait I                      waits for the replies to all that `send` has sent, and prints
  *                                 them. A command that gets none stays under way.
- *     abort I                     sends ABORT TASK for the first command of I that is under way.
+ *     abort I [N]                 sends ABORT TASK for command N of I that is under way, from 0.
  *     abort I all                 sends ABORT TASK SET.
  *     drop I                      closes the connection without a logout.
  *     logout I                    logs out.
@@ -301,18 +301,6 @@ static void wait_for(unsigned port)
     }
 }
 
-static void abort_command(unsigned port, const char *all)
-{
-    int response;
-
-    if (!all && !sent[port][0].command)
-        fail("no command is under way");
-    log_in(port);
-    response = all ? session_abort_all(sessions[port])
-                   : session_abort(sessions[port], sent[port][0].command);
-    printf("line %lu: ABORT TASK%s, response %d\n", line, all ? " SET" : "", response);
-}
-
 /* As in a script: 17, 0x11 or 11h. */
 static uint64_t number(const char *word)
 {
@@ -349,6 +337,19 @@ static void fill(char *port, char *address, char *count, char *byte)
     request.length = (size_t)length * MDL_BLOCK_LENGTH;
     request.data_out = blocks;
     execute(port_of(port), &request);
+}
+
+static void abort_command(unsigned port, const char *which)
+{
+    int all = which && strcmp(which, "all") == 0, response;
+    uint64_t at = which && !all ? number(which) : 0;
+
+    if (!all && (at >= MOST_SENT || !sent[port][at].command))
+        fail("the command is not under way");
+    log_in(port);
+    response = all ? session_abort_all(sessions[port])
+                   : session_abort(sessions[port], sent[port][at].command);
+    printf("line %lu: ABORT TASK%s, response %d\n", line, all ? " SET" : "", response);
 }
 
 static void reset(unsigned port, enum reset reset)
