@@ -147,11 +147,13 @@ def header(command, parameters):
 
 
 def check_descriptor(device, parameters, place, length):
-    """A descriptor is the disk's own, or has a number of blocks of 0. Returns its end."""
+    """A descriptor is the disk's own, or has a number of blocks of 0. Returns its end.
+
+    If the list ends within the number and has only zeros of it, the number may be 0.
+    """
     if length:
         own = block_descriptor(device, length == 16)
         count_length = length // 2
-        present(parameters, place + count_length)  # whether it is 0 is in all of its bytes
         if not any(parameters[place:place + count_length]):
             own = bytes(count_length) + own[count_length:]
         need_equal(parameters, place, own)
