@@ -12,6 +12,8 @@ from sense import (
     ILLEGAL_REQUEST,
     LOGICAL_BLOCK_ADDRESS_OUT_OF_RANGE,
     LOGICAL_UNIT_SOFTWARE_WRITE_PROTECTED,
+    READ_ERROR_LBA_MARKED_BAD_BY_APPLICATION_CLIENT,
+    UNRECOVERED_READ_ERROR,
     CheckCondition,
     invalid_field_in_parameter_list,
     parameter_list_length_error,
@@ -101,9 +103,21 @@ def write_same(device, _initiator, command, data_out):
 
 def synchronize_cache(device, _initiator, command, _data_out):
     """SYNCHRONIZE CACHE(10) (SBC-3, 5.26): nothing is cached, and 0 blocks are no block"""
-    extents = [(command["address"], command["count"])]
-    check_addresses(device, extents)
-    device.provisioning.synchronize(extents)
+    check_addresses(device, [(command["address"], command["count"])])
+    return b""
+
+
+def write_long(device, _initiator, command, _data_out):
+    """WRITE LONG(10) (SBC-3, 5.41): with WR_UNCOR 1 it marks a block as bad, and writes no data"""
+    if not command["wr_uncor"]:
+        raise command.unsupported("wr_uncor")
+    if command["transfer_length"]:
+        raise command.unsupported("transfer_length")
+    check_addresses(device, [(command["address"], 1)])
+    check_write_protection(device)
+    device.provisioning.mark(
+        command["address"], READ_ERROR_LBA_MARKED_BAD_BY_APPLICATION_CLIENT
+        if command["cor_dis"] else UNRECOVERED_READ_ERROR)
     return b""
 
 

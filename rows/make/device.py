@@ -78,12 +78,12 @@ class Device:
             self.raise_attention(INITIATORS, sense.CAPACITY_DATA_HAS_CHANGED)
 
     def execute(self, initiator, cdb, data_out):
-        if any(self.faults.slots):
+        if self.profile == "extended":
             return Reply(*faults.execute(self, initiator, cdb, data_out))
         return Reply(*self.executed(initiator, cdb, data_out))
 
     def executed(self, initiator, cdb, data_out):
-        """The status, the data-in and the sense data of a command that meets no fault."""
+        """The status, the data-in and the sense data of a command that no fault stops."""
         try:
             return GOOD, self.data_in(initiator, cdb, data_out), b""
         except reservations.Conflict:
@@ -97,7 +97,7 @@ class Device:
             raise invalid_field_in_cdb(0)
         if self.attentions[initiator] and cdb[0] not in (INQUIRY, REQUEST_SENSE):  # 2
             raise CheckCondition(sense.UNIT_ATTENTION, self.attentions[initiator].pop(0))
-        if cdb[0] not in OPERATION_CODES:  # 3
+        if cdb[0] not in OPERATION_CODES[self.profile]:  # 3
             raise CheckCondition(sense.ILLEGAL_REQUEST, sense.INVALID_COMMAND_OPERATION_CODE)
         layout = layout_of(cdb)
         if layout and not self.reservations.allow(initiator, layout.reservation_class):  # 4
@@ -134,6 +134,7 @@ OPERATIONS = {
     "READ(10)": blocks.read,
     "WRITE(10)": blocks.write,
     "SYNCHRONIZE CACHE(10)": blocks.synchronize_cache,
+    "WRITE LONG(10)": blocks.write_long,
     "WRITE SAME(10)": blocks.write_same,
     "UNMAP": blocks.unmap,
     "MODE SELECT(10)": modes.mode_select,

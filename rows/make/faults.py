@@ -9,7 +9,7 @@ from dataclasses import dataclass, field
 
 from provisioning import ALL_BLOCKS
 from reservations import Conflict
-from sense import CheckCondition, Sense
+from sense import ILLEGAL_REQUEST, INSUFFICIENT_RESOURCES, MEDIUM_ERROR, CheckCondition, Sense
 
 MOST_FAULTS = 8
 BUSY, TASK_SET_FULL, NO_REPLY = 0x08, 0x28, 0xFF  # SAM-5, the table of statuses; FFh is none of it
@@ -43,7 +43,7 @@ class Fault:
             for address, count in seen.extents)
 
     def first_bad(self, seen):
-        """The first bad block that the command names, in the first extent that has one."""
+        """The first bad block that it reads or writes, in the first extent that has one."""
         for address, count in seen.extents:
             first = max(address, self.blocks[0])
             if first < min(address + count, sum(self.blocks)):
@@ -73,27 +73,28 @@ class Fault:
 
 @dataclass
 class Seen:
-    """A command as faults see it. One that a check refuses names no block."""
+    """A command as faults see it. Its extents are what it reads or writes, after its checks."""
 
     code: int | None
     extents: list = field(default_factory=list)
     writes: bool = False
     moves: bool = False  # it is a READ, a WRITE or a WRITE SAME that writes
+    marks: int | None = None  # it is a WRITE LONG: READs of its block end with this code then
 
     def reaches_the_medium(self):
-        """Whether it names a block. Faults at the medium meet only such commands."""
+        """Whether it reads or writes a block. Faults at the medium meet only such commands."""
         return any(count for _, count in self.extents)
 
 
 class Reached(Exception):
-    """The checks have passed a command that names blocks."""
+    """The checks have passed a command that reads or writes blocks."""
 
-    def __init__(self, extents, writes, moves=False):
-        self.found = list(extents), writes, moves
+    def __init__(self, extents, writes, moves=False, marks=None):
+        self.found = list(extents), writes, moves, marks
 
 
 class Probe:
-    """Provisioning of which only the capacity is known. Whatever uses its blocks is told."""
+    """Provisioning of which only the capacity is known. It reports what reads or writes blocks."""
 
     def __init__(self, capacity):
         self.capacity = capacity
@@ -110,11 +111,11 @@ class Probe:
     def anchor(self, extents):
         raise Reached(extents, True)
 
-    def synchronize(self, extents):
-        raise Reached(extents, False)
+    def mark(self, address, code):
+        raise Reached([(address, 1)], True, marks=code)
 
-    def status_extents(self, start):
-        raise Reached([(start, 1)], False)
+    def status_extents(self, _start):
+        return []  # it reads no block
 
 
 def seen_by_faults(device, initiator, cdb, data_out):
@@ -129,7 +130,7 @@ def seen_by_faults(device, initiator, cdb, data_out):
         return Seen(code, *reached.found)
     except (CheckCondition, Conflict):
         pass
-    return Seen(code)  # it is refused, or it does not use blocks
+    return Seen(code)  # it is refused, or it reads and writes no block
 
 
 class Faults:
@@ -154,13 +155,14 @@ class Faults:
                     return fault
         return None
 
-    def heal(self, seen):
-        self.slots = [None if fault and fault.blocks and fault.heals(seen) else fault
-                      for fault in self.slots]
+    def healed(self, seen):
+        """The faults that a command leaves if it ends with GOOD, by their numbers."""
+        return [None if fault and fault.blocks and fault.heals(seen) else fault
+                for fault in self.slots]
 
 
 def execute(device, initiator, cdb, data_out):
-    """The status, the data-in and the sense data of a command on a disk with armed faults."""
+    """The status, the data-in and the sense data of a command on a disk that may have faults."""
     faults = device.faults
     seen = seen_by_faults(device, initiator, cdb, data_out)
     fault = faults.ask("arrival", initiator, seen)
@@ -169,6 +171,9 @@ def execute(device, initiator, cdb, data_out):
     fault = faults.ask("medium", initiator, seen) if seen.reaches_the_medium() else None
     if fault and fault.what == "code":
         return refused(device, fault, fault.first_bad(seen) if fault.blocks else None)
+    if seen.marks and None not in faults.healed(seen):  # no number is free for another fault
+        sense = Sense(ILLEGAL_REQUEST, INSUFFICIENT_RESOURCES)
+        return CHECK_CONDITION, b"", sense.data(device.modes.d_sense)
     moved = fault.value if fault else ALL_BLOCKS
     if seen.moves:
         seen.extents = [(address, min(count, moved)) for address, count in seen.extents]
@@ -177,7 +182,10 @@ def execute(device, initiator, cdb, data_out):
     device.provisioning.most_moved = ALL_BLOCKS
     if status != GOOD:
         return status, data_in, sense
-    faults.heal(seen)
+    faults.slots = faults.healed(seen)
+    if seen.marks:
+        faults.arm(Fault("medium", "code", (MEDIUM_ERROR, seen.marks),
+                         blocks=seen.extents[0], healed=True))
     fault = faults.ask("after", initiator, seen)
     if not fault:
         return status, data_in, sense

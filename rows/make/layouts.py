@@ -25,6 +25,8 @@ TABLE = """
 28    | READ(10)               | reads   | address 2-5, count 7-8                      | 1:1A, 6:1F
 2A    | WRITE(10)              | writes  | address 2-5, count 7-8                      | 1:1A, 6:1F
 35    | SYNCHRONIZE CACHE(10)  | writes  | address 2-5, count 7-8                      | 1:06, 6:1F
+3F    | WRITE LONG(10)         | writes  | cor_dis 1:80, wr_uncor 1:40, address 2-5, \
+                                           transfer_length 7-8                         |
 41    | WRITE SAME(10)         | writes  | anchor 1:10, unmap 1:08, address 2-5, \
                                            count 7-8                                   | 6:1F
 42    | UNMAP                  | writes  | anchor 1:01, group_number 6:1F, \
@@ -42,6 +44,9 @@ TABLE = """
 9E.10 | READ CAPACITY(16)      | allowed | allocation_length 10-13                     |
 9E.12 | GET LBA STATUS         | reads   | address 2-9, allocation_length 10-13        |
 """
+
+# Operation codes that only a disk of the extended profile knows.
+OF_EXTENDED = {0x3F}
 
 # These two have a name for each service action, from 00h on.
 SERVICE_ACTIONS = {
@@ -117,7 +122,8 @@ def read_table():
 
 
 LAYOUTS = read_table()
-OPERATION_CODES = {code for code, _ in LAYOUTS}
+OPERATION_CODES = {"extended": {code for code, _ in LAYOUTS}}  # that a disk of a profile knows
+OPERATION_CODES["base"] = OPERATION_CODES["extended"] - OF_EXTENDED
 CODES_WITH_ACTIONS = {code for code, action in LAYOUTS if action is not None}
 
 

@@ -37,8 +37,8 @@ class Provisioning:
         for offset in range(count):
             self.contents[address + offset] = block(offset)
 
-    def synchronize(self, _extents):
-        """Nothing is cached."""
+    def mark(self, _address, _code):
+        """SBC-3, 4.18.2: no block changes. `faults.execute` arms a fault that lies on the block."""
 
     def unmap(self, extents):
         """Deallocates the addresses, and gives their blocks back to the pool."""

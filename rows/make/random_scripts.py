@@ -6,7 +6,7 @@ and then a bit is turned. So most states of a small disk come up within some hun
 
 import random
 
-from layouts import LAYOUTS
+from layouts import LAYOUTS, OPERATION_CODES
 from modes import CHANGEABLE, DEFAULT
 from random_words import attention_words, fault_words, show_line, tool_line
 from reservations import TYPES
@@ -39,7 +39,8 @@ class Script:
         self.bad = 0  # where the blocks of the last fault begin
         theme = self.random.choice(THEMES)
         self.layouts = [
-            it for it in LAYOUTS.items() for _ in range(1 + OFTEN * theme.count(it[1].name))]
+            it for it in LAYOUTS.items() if it[0][0] in OPERATION_CODES[profile]
+            for _ in range(1 + OFTEN * theme.count(it[1].name))]
 
     def text(self, lines):
         return "".join(self.line() + "\n" for _ in range(lines))
