@@ -17,7 +17,7 @@ THEMES = (
     3 * ("REGISTER", "REGISTER AND IGNORE EXISTING KEY", "RESERVE")
     + ("RELEASE", "PREEMPT", "READ RESERVATION", "READ FULL STATUS", "TEST UNIT READY"),
     ("MODE SELECT(6)", "MODE SENSE(6)", "MODE SELECT(10)", "MODE SENSE(10)"),
-    ("WRITE SAME(10)", "UNMAP", "WRITE SAME(16)", "GET LBA STATUS"),
+    ("WRITE SAME(10)", "UNMAP", "WRITE SAME(16)", "GET LBA STATUS", "WRITE LONG(10)"),
     (),
 )
 OFTEN = 6
@@ -36,7 +36,7 @@ class Script:
         self.capacity = self.blocks  # as it is at the next line, if the disk grows
         self.pool = self.random.choice((1, 4, 9))
         self.type = self.random.choice(TYPES)  # most RESERVE, RELEASE and PREEMPT name it
-        self.bad = 0  # where the blocks of the last fault begin
+        self.bad = 0  # where the blocks of the last fault begin, or of the last WRITE LONG
         theme = self.random.choice(THEMES)
         self.layouts = [
             it for it in LAYOUTS.items() if it[0][0] in OPERATION_CODES[profile]
@@ -86,12 +86,13 @@ class Script:
         return self.bad
 
     def near_bad_blocks(self):
-        """A command that names the blocks of the last fault, if it is on blocks."""
+        """A command that reads, writes or marks the blocks of the last fault, if it is on blocks."""
         initiator = self.random.choice(INITIATORS)
         address, count = max(0, self.bad - self.random.choice((0, 0, 1))), self.small()
         return self.random.choice((
             f"fill {initiator} {address} {count} 9",
             f"raw {initiator} 8800{address:016x}{count:08x}0000",
+            f"raw {initiator} 3f40{address % 2**32:08x}00000000",
             f"{initiator} sg_unmap -l {address} -n 6",
             f"{initiator} sg_unmap -l {address + 1},{address} -n 6,6",
             f"{initiator} sg_get_lba_status -b -l {address}",
@@ -109,6 +110,8 @@ class Script:
         """A CDB with data-out, of any layout, rarely with a wrong bit or too short."""
         (code, action), layout = self.random.choice(self.layouts)
         values = {name: self.value(name, layout.name) for name in layout.fields}
+        if layout.name == "WRITE LONG(10)":
+            self.bad = values["address"]
         data_out = self.data_out(layout.name, values)
         if "list_length" in values:
             if self.is_rare(0.1):
@@ -146,6 +149,8 @@ class Script:
             "page_code": self.random.choice(pages),
             "subpage_code": self.random.choice((0, 0, 0xFF)),
             "pf": 1,
+            "wr_uncor": 1,
+            "transfer_length": 0,
             "scope": 0,
             "type": self.random.choice((self.type, self.type, self.random.choice(TYPES))),
         }
