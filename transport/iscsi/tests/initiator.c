@@ -35,6 +35,7 @@
 #include <stdlib.h>
 #include <string.h>
 
+#include "print.h"
 #include "session.h"
 
 enum {
@@ -45,8 +46,7 @@ enum {
     MOST_SENT = 16,
     MOST_IMMEDIATE = 8192,
     MOST_COMMAND = 1024,
-    MOST_FILL = 256,
-    BYTES_OF_A_ROW = 16
+    MOST_FILL = 256
 };
 
 /* The status of a line that can't be executed. */
@@ -76,62 +76,6 @@ static void fail(const char *what)
     exit(FAULT);
 }
 
-static const char *name_of(int status)
-{
-    switch (status) {
-    case MDL_GOOD: return "GOOD";
-    case MDL_CHECK_CONDITION: return "CHECK CONDITION";
-    case MDL_RESERVATION_CONFLICT: return "RESERVATION CONFLICT";
-    case MDL_BUSY: return "BUSY";
-    case MDL_TASK_SET_FULL: return "TASK SET FULL";
-    default: return "NO REPLY";
-    }
-}
-
-/* Some keys have no name in sgrun. */
-static void print_key(uint8_t key)
-{
-    static const char *const names[16] = {
-        [0x0] = "NO SENSE", [0x5] = "ILLEGAL REQUEST", [0x6] = "UNIT ATTENTION",
-        [0x7] = "DATA PROTECT", [0xB] = "ABORTED COMMAND"
-    };
-
-    if (names[key & 15])
-        printf("  sense: %s", names[key & 15]);
-    else
-        printf("  sense: KEY %02Xh", key);
-}
-
-static void print_sense(const struct answer *answer)
-{
-    mdl_sense sense;
-
-    if (mdl_read_sense(answer->sense, answer->sense_length, &sense)) {
-        puts("  sense: unreadable");
-        return;
-    }
-    print_key(sense.key);
-    printf(", %02Xh/%02Xh", sense.asc, sense.ascq);
-    if (sense.has_information)
-        printf(", information 0x%016" PRIx64, sense.information);
-    if (sense.has_pointer)
-        printf(", %s byte %u", sense.in_command ? "command" : "list", sense.byte);
-    putchar('\n');
-}
-
-static void print_bytes(const uint8_t *bytes, size_t length)
-{
-    size_t at;
-
-    for (at = 0; at < length; at++) {
-        if (at % BYTES_OF_A_ROW == 0)
-            printf("  %08zx ", at);
-        printf(" %02x", bytes[at]);
-        if (at % BYTES_OF_A_ROW == BYTES_OF_A_ROW - 1 || at + 1 == length)
-            putchar('\n');
-    }
-}
-
 /* libiscsi drops the data-in of a recovered error, unless it is printed. */
 static int is_dropped(const struct answer *answer)
 {
@@ -151,17 +95,12 @@ static int has_wrong_residual(const struct answer *answer, const struct request 
            && (answer->residual < 0 || transferred + (size_t)answer->residual != request->length);
 }
 
-static void print_answer(unsigned long line, const struct answer *answer)
+/* Prints an answer. The first status that is not 0 decides the exit status. */
+static void report(unsigned long line, const struct answer *answer)
 {
     mdl_reply reply = { .status = (uint8_t)answer->status };
 
-    printf("line %lu: %s\n", line, name_of(answer->status));
-    if (answer->status == MDL_CHECK_CONDITION)
-        print_sense(answer);
-    if (prints_bytes)
-        print_bytes(answer->sense, answer->sense_length);
-    if (answer->status == MDL_GOOD || prints_bytes)
-        print_bytes(answer->data_in, answer->data_in_length);
+    print_answer(line, answer, prints_bytes);
     reply.sense_length = (uint8_t)answer->sense_length;
     memcpy(reply.sense, answer->sense, answer->sense_length);
     if (exit_status == 0)
@@ -193,7 +132,7 @@ static void execute(unsigned port, const struct request *request)
     struct command *command = begin(port, request);
     const struct answer *answer = session_settle(sessions[port], command);
 
-    print_answer(line, answer);
+    report(line, answer);
     if (has_wrong_residual(answer, request))
         printf("  residual: %ld of %zu\n", answer->residual, request->length);
     if (answer->status == NO_REPLY)
@@ -293,7 +232,7 @@ static void wait_for(unsigned port)
     log_in(port);
     while (at < MOST_SENT && sent[port][at].command) {
         answer = session_settle(sessions[port], sent[port][at].command);
-        print_answer(sent[port][at].line, answer);
+        report(sent[port][at].line, answer);
         if (answer->status == NO_REPLY)
             at++;
         else
