@@ -282,7 +282,7 @@ module _ (Related : ReservationState → ReservationState → Type 0) (s : State
   operation-agrees (Read extent) c = leaving (reading s extent) (reading t extent) refl refl refl refl refl
   operation-agrees (Write out) c = leaving (writing s out) (writing t out) refl refl refl refl refl
   operation-agrees (Synchronize extent) c = leaving (no_effect s) (no_effect t) refl refl refl refl refl
-  operation-agrees (MarkBad lba code) c = leaving (no_effect s) (no_effect t) refl refl refl refl refl
+  operation-agrees (MarkBad lba cor_dis) c = leaving (no_effect s) (no_effect t) refl refl refl refl refl
   operation-agrees (Fill extent block) c =
       leaving (filling s extent block) (filling t extent block) refl refl refl refl refl
   operation-agrees (Unmap extents) c =

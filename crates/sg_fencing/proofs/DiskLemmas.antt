@@ -41,13 +41,13 @@ operation-leaves state i (ChangeModes width sp list) h =
 operation-leaves state i (ChangeReservations action scope_type list) h =
     sound-leaves state.disk (reservation_change state i action scope_type list)
     (changing_reservations state i) (λ change. refl)
-operation-leaves state i (MarkBad lba code) h = refl
+operation-leaves state i (MarkBad lba cor_dis) h = refl
 operation-leaves state i _ h = cc
 
 -- an operation that does not write to the medium changes none
 pub changes-none : (operation : Operation) → (medium_use operation).writes ≡ false
     → changes_blocks operation ≡ false
-changes-none (MarkBad lba code) h = refl
+changes-none (MarkBad lba cor_dis) h = refl
 changes-none _ h = h
 
 -- ---- A command

@@ -171,7 +171,7 @@ first-writes-nothing n operation h = λ e. h (sym (first-class n operation) ∙ 
 no-writes : (o : Operation) → WritesNothing o → (medium_use o).writes ≡ false
 no-writes (operation.Write out) h = absurd (h refl)
 no-writes (operation.Fill extent block) h = absurd (h refl)
-no-writes (operation.MarkBad lba code) h = absurd (h refl)
+no-writes (operation.MarkBad lba cor_dis) h = absurd (h refl)
 no-writes (operation.Unmap extents) h = absurd (h refl)
 no-writes (operation.UnmapExtent extent) h = absurd (h refl)
 no-writes (operation.Anchor extents) h = absurd (h refl)
@@ -185,7 +185,7 @@ seen-writes (Err refusal) h = refl
 
 -- and marks no block as bad
 no-mark : (o : Operation) → WritesNothing o → fault_by o ≡ None
-no-mark (operation.MarkBad lba code) h = absurd (h refl)
+no-mark (operation.MarkBad lba cor_dis) h = absurd (h refl)
 no-mark _ h = refl
 
 unmarked : (result : Result Operation Refusal) → Holds WritesNothing first-writes-nothing result

@@ -42,7 +42,7 @@ class_for (Read extent) = Some Reads
 class_for (ReturnLbaStatus start n) = Some Reads
 class_for (Write out) = Some Writes
 class_for (Fill extent block) = Some Writes
-class_for (MarkBad lba code) = Some Writes
+class_for (MarkBad lba cor_dis) = Some Writes
 class_for (Unmap extents) = Some Writes
 class_for (UnmapExtent extent) = Some Writes
 class_for (Anchor extents) = Some Writes
@@ -153,7 +153,7 @@ listed action scope_type false list short operation e = cc
 
 -- WRITE LONG writes to the medium, and leaves each block with its data and its status
 abbrev pub changes_blocks : Operation → Bool
-changes_blocks (MarkBad lba code) = false
+changes_blocks (MarkBad lba cor_dis) = false
 changes_blocks operation = (medium_use operation).writes
 
 -- the command may change blocks if the operation does

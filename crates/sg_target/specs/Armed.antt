@@ -10,6 +10,7 @@ use Rattle.sg_faults.specs.Arming.{unrecovered_error}
 use Rattle.sg_faults.specs.Faults.{Faults, asked, decided, have_room_after, healed, with_fault}
 use Rattle.sg_faults.specs.Meeting.{Seen, reaches_medium}
 use Rattle.sg_faults.specs.Places.{afterwards, at_medium, on_arrival}
+use Rattle.sg_faults.specs.SenseCode.{sense_code}
 use Rattle.sg_faults.specs.declared.fault.Fault.{Fault}
 use Rattle.sg_faults.specs.declared.outcome.Afterwards.{Afterwards}
 use Rattle.sg_faults.specs.declared.outcome.Afterwards.TheVariants as after
@@ -18,6 +19,8 @@ use Rattle.sg_faults.specs.declared.outcome.AtMedium.TheVariants as medium
 use Rattle.sg_faults.specs.declared.outcome.OnArrival.{OnArrival}
 use Rattle.sg_faults.specs.declared.outcome.OnArrival.TheVariants as arrival
 use Rattle.sg_faults.specs.declared.outcome.Struck.{Struck}
+use Rattle.sg_faults.specs.declared.sense_code.SenseCode.{SenseCode}
+use Rattle.sg_faults.specs.declared.sense_code.SenseKey.TheVariants.{MediumError}
 use Rattle.sg_target.specs.BlockCommands.{blocks_out}
 use Rattle.sg_target.specs.Checks.{checked_cdb}
 use Rattle.sg_target.specs.Refusal.{checked_next, fault_sense}
@@ -106,9 +109,14 @@ arrival_attempt None command checked faults = checked_attempt command checked fa
 arrival_attempt (Some struck) command checked faults =
     record { result = Err (refusal_on_arrival struck.outcome); faults = faults }
 
+-- UNRECOVERED READ ERROR, or READ ERROR - LBA MARKED BAD BY APPLICATION CLIENT if COR_DIS says that the
+-- disk is not to try to correct it (SBC-3, 4.18.2).
+abbrev pub marked_code : (cor_dis : Bool) → SenseCode
+marked_code cor_dis = sense_code MediumError 0x11 (if cor_dis then 0x14 else 0x00)
+
 -- A WRITE LONG arms a fault.
 abbrev pub fault_by : Operation → Option Fault
-fault_by (MarkBad lba code) = Some (unrecovered_error lba code)
+fault_by (MarkBad lba cor_dis) = Some (unrecovered_error lba (marked_code cor_dis))
 fault_by operation = None
 
 abbrev pub marked_by : Result Operation Refusal → Option Fault

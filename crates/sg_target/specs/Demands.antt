@@ -2,9 +2,6 @@
 -- demands depend on the disk only by its configuration, which never changes.
 use Rattle.std.specs.Prelude.{ℕ, ◌==◌, List, Bool, false, ◌&&◌, not, Option, Some, None, Result, Ok}
 use Rattle.std.specs.Prelude.{nat_le, nat_lt, if◌then◌else◌, ok_or}
-use Rattle.sg_faults.specs.SenseCode.{sense_code}
-use Rattle.sg_faults.specs.declared.sense_code.SenseCode.{SenseCode}
-use Rattle.sg_faults.specs.declared.sense_code.SenseKey.TheVariants.{MediumError}
 use Rattle.sg_wire.specs.declared.command.Command.{Command}
 use Rattle.sg_wire.specs.declared.command.Command.TheVariants as command
 use Rattle.sg_wire.specs.declared.command.block.WriteLong10.{WriteLong10}
@@ -104,14 +101,9 @@ abbrev pub bad_marking : (wr_uncor : Bool) (length : ℕ) → Option ℕ
 bad_marking wr_uncor length =
     if not wr_uncor then Some 1 else (if length == 0 then None else Some 7)
 
--- UNRECOVERED READ ERROR, or READ ERROR - LBA MARKED BAD BY APPLICATION CLIENT if COR_DIS says that the
--- disk is not to try to correct it (SBC-3, 4.18.2).
-abbrev pub marked_code : (cor_dis : Bool) → SenseCode
-marked_code cor_dis = sense_code MediumError 0x11 (if cor_dis then 0x14 else 0x00)
-
 abbrev pub write_long : WriteLong10 → Demands
 write_long c =
-    takes_no_data (bad_marking c.wr_uncor c.length) (Ok (operation.MarkBad c.lba (marked_code c.cor_dis)))
+    takes_no_data (bad_marking c.wr_uncor c.length) (Ok (operation.MarkBad c.lba c.cor_dis))
 
 -- Without UNMAP no block is anchored: ANCHOR, in byte 1, is not supported then.
 abbrev pub bad_anchor : (anchor unmap : Bool) → (otherwise : Option ℕ) → Option ℕ

@@ -3,8 +3,9 @@ ghost use Rattle.std.specs.Prelude.{◌≡◌, ◌≤◌, [], ◌∷◌, Ok, IfO
 ghost use Rattle.sg_faults.specs.Faults.{asked, decided};
 ghost use Rattle.sg_faults.specs.Places.{afterwards};
 ghost use Rattle.sg_target.specs.Armed.{accessed, armed_step_by, attempt, checked_attempt};
-ghost use Rattle.sg_target.specs.Armed.{faults_left, first_blocks, first_of, marked_by, medium_of};
-ghost use Rattle.sg_target.specs.Armed.{refusal_on_arrival, result_at_medium, seen, step_of_checked};
+ghost use Rattle.sg_target.specs.Armed.{faults_left, first_blocks, first_of, marked_by, marked_code};
+ghost use Rattle.sg_target.specs.Armed.{medium_of, refusal_on_arrival, result_at_medium, seen};
+ghost use Rattle.sg_target.specs.Armed.{step_of_checked};
 ghost use Rattle.sg_target.specs.Charge.{ChargesCommand, TakesArmedStep, TakesStep, armed_ranges};
 ghost use Rattle.sg_target.specs.Charge.{cost_bounds};
 ghost use Rattle.sg_target.specs.DataInBound.{checked_bound, longest_data_in, needed_buffer};
@@ -24,7 +25,9 @@ use crate::refusal::{Reason, Refusal};
 use crate::reply::{Reply, Status};
 use crate::room::data_in_bound;
 use crate::target::Target;
-use sg_faults::{Afterwards, ArmedFault, AtMedium, Fault, OnArrival, SeenCommand};
+use sg_faults::{
+    Afterwards, ArmedFault, AtMedium, Fault, OnArrival, SeenCommand, SenseCode, SenseKey,
+};
 use sg_store::{Counts, MAX_CAPACITY, Store};
 use sg_wire::{Extent, Initiator, UnmapList};
 
@@ -112,8 +115,21 @@ fn marked_by(checked: &Result<Operation<'_>, Refusal>) -> Option<Fault>
     ensures { result ≡ marked_by checked.now }
 {
     match checked {
-        Ok(Operation::MarkBad { lba, code }) => Some(Fault::unrecovered_error(*lba, *code)),
+        Ok(Operation::MarkBad { lba, cor_dis }) => {
+            Some(Fault::unrecovered_error(*lba, marked_code(*cor_dis)))
+        }
         _ => None,
+    }
+}
+
+/// The sense code of a marked block (SBC-3, 4.18.2).
+fn marked_code(cor_dis: bool) -> SenseCode
+    ensures { result ≡ marked_code cor_dis }
+{
+    SenseCode {
+        key: SenseKey::MediumError,
+        asc: 0x11,
+        ascq: if cor_dis { 0x14 } else { 0x00 },
     }
 }
 
@@ -183,7 +199,7 @@ impl<S: Store> Target<S> {
         self.faults.as_slice()
     }
 
-    /// Executes a command while faults are armed.
+    /// Executes a command while faults are armed, or one that arms one.
     #[cold]
     pub(crate) fn execute_armed(
         &mut self,
@@ -206,10 +222,9 @@ impl<S: Store> Target<S> {
         self.conclude_armed(initiator, cdb, checked, buf)
     }
 
-    /// Executes a command that the checks have passed, or refuses it, while faults are armed, or if it arms
+    /// Executes a command that the checks have passed, or refuses it, while faults are armed or if it arms
     /// one.
-    #[cold]
-    pub(crate) fn conclude_armed(
+    fn conclude_armed(
         &mut self,
         initiator: Initiator,
         cdb: &[u8],

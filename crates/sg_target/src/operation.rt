@@ -30,7 +30,6 @@ use crate::reply::Reply;
 use crate::reservation::{check_reserve_in, check_reserve_out};
 use crate::target::Target;
 use crate::write_long::check_write_long_10;
-use sg_faults::SenseCode;
 use sg_store::{MAX_CAPACITY, Store};
 use sg_units::OutList;
 use sg_wire::{CdbWidth, Command, Extent, Format, InAction, Initiator, ListedExtents, OutAction};
@@ -88,7 +87,8 @@ pub enum Operation<'a> {
     /// WRITE LONG.
     MarkBad {
         lba: u64,
-        code: SenseCode,
+        /// Whether the disk is not to try to correct the error.
+        cor_dis: bool,
     },
     /// Unmaps blocks, extent by extent.
     Unmap(ListedExtents<'a>),

@@ -153,7 +153,7 @@ impl<S: Store> Target<S> {
         limits_are_kept();
         sg_faults::laws::unarmed_faults_do_nothing();
         if arms_fault(&checked) {
-            return self.conclude_armed(call.initiator, call.cdb, checked, buf);
+            return self.execute_armed(call.initiator, call.cdb, call.data_out, buf);
         }
         match checked {
             Ok(operation) => self.execute_checked(call.initiator, operation, buf),

@@ -1,11 +1,10 @@
 // WRITE LONG (SBC-3, 5.41), which marks a block as bad.
 ghost use Rattle.std.specs.Prelude.{◌≡◌, []};
 ghost use Rattle.sg_target.specs.Checks.{requested};
-ghost use Rattle.sg_target.specs.Demands.{marked_code, write_long};
+ghost use Rattle.sg_target.specs.Demands.{write_long};
 
 use crate::operation::Operation;
 use crate::refusal::{Reason, Refusal};
-use sg_faults::{SenseCode, SenseKey};
 use sg_wire::WriteLong10;
 
 /// WRITE LONG(10). It has to mark its block, with no data.
@@ -20,17 +19,6 @@ pub(crate) fn check_write_long_10(fields: WriteLong10) -> Result<Operation<'stat
     }
     Ok(Operation::MarkBad {
         lba: u64::from(fields.lba),
-        code: marked_code(fields.cor_dis),
+        cor_dis: fields.cor_dis,
     })
-}
-
-/// The sense code of a marked block (SBC-3, 4.18.2).
-fn marked_code(cor_dis: bool) -> SenseCode
-    ensures { result ≡ marked_code cor_dis }
-{
-    SenseCode {
-        key: SenseKey::MediumError,
-        asc: 0x11,
-        ascq: if cor_dis { 0x14 } else { 0x00 },
-    }
 }

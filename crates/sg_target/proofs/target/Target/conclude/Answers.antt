@@ -36,12 +36,6 @@ none-by : (mark : Option Fault) → false ≡ is_some mark → mark ≡ None
 none-by None e = refl
 none-by (Some fault) e = cc
 
-pub returns-then-arms_fault-clause-executed : goal.returns-then-arms_fault-clause-executed
-returns-then-arms_fault-clause-executed g c =
-    executed c.limits_are_kept.ensures (cost_bounds g.S.Store.price g.S.Store.least) _ _ _
-    c.args.checked c.args.self.now _ _ _ _ c.requires.checked _ c.requires.limits
-    c.conclude_armed.ensures
-
 pub returns-in-Ok-clause-executed : goal.returns-in-Ok-clause-executed
 returns-in-Ok-clause-executed g c =
     executed c.limits_are_kept.ensures (cost_bounds g.S.Store.price g.S.Store.least) _ _ _
