@@ -1,5 +1,6 @@
 -- Faults that do nothing to a command, each by a condition on it alone.
 use Rattle.std.proofs.Common.{◌≡◌, Bool, true, false, ◌&&◌, [], ◌∷◌, Option, Some, None, refl, ap, ◌∙◌}
+use Rattle.std.proofs.lemmas.Bool.{and_parts}
 use Rattle.std.specs.List.{list_all}
 use Rattle.std.specs.Prelude.{if◌then◌else◌, is_some, option_and_then}
 use Rattle.sg_faults.specs.Arming.{is_healed_by, lasts}
@@ -9,18 +10,6 @@ use Rattle.sg_faults.specs.Meeting.{Seen}
 use Rattle.sg_faults.specs.Places.{At}
 use Rattle.sg_faults.specs.declared.fault.ArmedFault.{ArmedFault}
 use Rattle.sg_faults.specs.declared.outcome.Struck.{Struck}
-
-pub and-false : (b c : Bool) → c ≡ false → (b && c) ≡ false
-and-false true c e = e
-and-false false c e = refl
-
-first-true : (b c : Bool) → (b && c) ≡ true → b ≡ true
-first-true true c e = refl
-first-true false c e = cc
-
-second-true : (b c : Bool) → (b && c) ≡ true → c ≡ true
-second-true true c e = e
-second-true false c e = cc
 
 both-true : (b c : Bool) → b ≡ true → c ≡ true → (b && c) ≡ true
 both-true true c e f = f
@@ -50,8 +39,8 @@ module _ (command : Seen) (quiet : Option ArmedFault → Bool) (none : quiet Non
         → (decided at command faults ≡ None) × (list_all quiet (asked at command faults) ≡ true)
     all-quiet [] e = (refl, refl)
     all-quiet (slot ∷ faults) e =
-        let here = first-true (quiet slot) (list_all quiet faults) e in
-        let rest = all-quiet faults (second-true (quiet slot) (list_all quiet faults) e) in
+        let here = (and_parts (quiet slot) (list_all quiet faults) e).0 in
+        let rest = all-quiet faults (and_parts (quiet slot) (list_all quiet faults) e).1 in
         let undecided = ap is_some (idle slot here) in (
           ap (λ b. if b then struck_in at command slot else decided at command faults) undecided ∙ rest.0,
           ap
@@ -77,5 +66,5 @@ module _ (command : Seen) (quiet : Option ArmedFault → Bool) (none : quiet Non
   healed-quiet [] e = refl
   healed-quiet (slot ∷ faults) e =
       both-true (quiet (healed_slot command slot)) (list_all quiet (healed command faults))
-      (healed-slot-quiet slot (first-true (quiet slot) (list_all quiet faults) e))
-      (healed-quiet faults (second-true (quiet slot) (list_all quiet faults) e))
+      (healed-slot-quiet slot (and_parts (quiet slot) (list_all quiet faults) e).0)
+      (healed-quiet faults (and_parts (quiet slot) (list_all quiet faults) e).1)

@@ -2,6 +2,7 @@
 use Rattle.std.proofs.Common.{◌≡◌, ℕ, zero, suc, Bool, true, false, not, ◌&&◌, List, [], ◌∷◌}
 use Rattle.std.proofs.Common.{Option, Some, None, refl, ap, get_or, set, arith}
 use Rattle.std.proofs.lemmas.Bool.Decides.{nat_tests}
+use Rattle.std.proofs.lemmas.Bool.{and_right}
 use Rattle.std.specs.Prelude.{◌==◌, ◌-◌, if◌then◌else◌, is_some, nat_lt, option_map}
 use Rattle.std.specs.Option.{option_map_or}
 use Rattle.sg_faults.specs.Arming.{count_for, counted, is_due, is_spent, next_count, spent}
@@ -11,12 +12,12 @@ use Rattle.sg_faults.specs.Meeting.{Seen, meets}
 use Rattle.sg_faults.specs.Places.{At}
 use Rattle.sg_faults.specs.declared.fault.ArmedFault.{ArmedFault}
 use Rattle.sg_faults.specs.declared.fault.Count.{Count}
-use Rattle.sg_faults.proofs.QuietLemmas.{all-quiet, and-false, not-struck}
+use Rattle.sg_faults.proofs.QuietLemmas.{all-quiet, not-struck}
 
 -- ---- A count of which nothing is left
 
 is-undue : (count : Count) → is_spent count ≡ true → is_due count ≡ false
-is-undue count e = and-false (count.skip == 0) (not (is_spent count)) (ap not e)
+is-undue count e = and_right (count.skip == 0) (not (is_spent count)) (ap not e)
 
 fewer-spent : (times : Option ℕ) → option_map_or (λ n. n == 0) times false ≡ true
     → option_map_or (λ n. n == 0) (option_map (λ n. n - 1) times) false ≡ true
@@ -46,7 +47,7 @@ module _ {A : Type 0} (at : At A) (command : Seen) where
   slot-idle None e = refl
   slot-idle (Some a) e =
       not-struck (at a.fault.outcome) (meets command a.fault && is_due (count_for a command.initiator)) _
-      (and-false (meets command a.fault) (is_due (count_for a command.initiator))
+      (and_right (meets command a.fault) (is_due (count_for a command.initiator))
       (is-undue (count_for a command.initiator) e))
 
   met-spent : (a : ArmedFault) → is_spent (count_for a command.initiator) ≡ true

@@ -1,6 +1,7 @@
 -- The laws of armed faults.
-use Rattle.std.proofs.Common.{◌≡◌, ◌⊎◌, inl, inr, ℕ, Bool, true, false, not, ◌&&◌, List, [], ◌∷◌}
+use Rattle.std.proofs.Common.{◌≡◌, ◌⊎◌, inl, inr, ℕ, Bool, true, false, not, List, [], ◌∷◌}
 use Rattle.std.proofs.Common.{Option, Some, None, Result, Ok, Err, refl, sym, ap, ◌∙◌, subst, zero, suc}
+use Rattle.std.proofs.lemmas.Bool.{and_parts, not-true}
 use Rattle.std.specs.List.{list_all}
 use Rattle.sg_wire.specs.CdbDecoding.{command_in}
 use Rattle.sg_wire.specs.declared.profile.Profile.{Profile}
@@ -303,14 +304,6 @@ arrival-counts disk i cdb data_out struck e =
 
 -- ---- No fault is armed
 
-first-true : (b c : Bool) → (b && c) ≡ true → b ≡ true
-first-true true c e = refl
-first-true false c e = cc
-
-second-true : (b c : Bool) → (b && c) ≡ true → c ≡ true
-second-true true c e = e
-second-true false c e = cc
-
 none-set : (faults : Faults) (n : ℕ) → is_armed faults ≡ false → is_armed (disarmed faults n) ≡ false
 none-set [] zero e = refl
 none-set [] (suc n) e = refl
@@ -326,18 +319,14 @@ still-unarmed profile (Disarm n) faults h e = none-set faults n e
 still-unarmed profile DisarmAll faults h e = refl
 still-unarmed profile _ faults h e = e
 
-not-true : (b : Bool) → not b ≡ true → b ≡ false
-not-true true e = cc
-not-true false e = refl
-
 module _ (law : UnarmedFaultsDoNothing) (stays : ConfigurationStays) (profile : Profile) where
   pub runs-sound : (disk : Armed) (events : List Event) → profile_of disk.state ≡ profile
       → is_armed disk.faults ≡ false → list_all (λ e. not (is_arming profile e)) events ≡ true
       → RunsAsWithoutFaults disk events
   runs-sound disk [] p e h = record { answers = refl; state = refl }
   runs-sound disk (event.Happen happening ∷ events) p e h =
-      let here = first-true (not (is_arming profile (event.Happen happening))) _ h in
-      let rest = second-true (not (is_arming profile (event.Happen happening))) _ h in
+      let here = (and_parts (not (is_arming profile (event.Happen happening))) _ h).0 in
+      let rest = (and_parts (not (is_arming profile (event.Happen happening))) _ h).1 in
       let same = ap (λ (i : IdentityFields). i.profile) (stays.growth happening disk.state).identity in
       let next = runs-sound (armed_after_happening disk happening) events (same ∙ p)
       (still-unarmed profile happening disk.faults here e) rest in
@@ -346,13 +335,13 @@ module _ (law : UnarmedFaultsDoNothing) (stays : ConfigurationStays) (profile : 
       let i = call.initiator in
       let cdb = call.cdb.now in
       let data_out = call.data_out.now in
-      let here = not-true (is_arming profile (event.Call call)) (first-true _ _ h) in
+      let here = not-true (is_arming profile (event.Call call)) (and_parts _ _ h).0 in
       let done = step disk.state i cdb data_out in
       let other = ap (λ q. is_write_long (command_in q cdb)) p ∙ here in
       let is = step-unarmed law disk i cdb data_out e other in
       let same = ap (λ (c : ConfigFields). c.identity.profile) (stays.command disk.state i cdb data_out) in
       let next = runs-sound (record disk { state = done.state }) events (same ∙ p) e
-      (second-true (not (is_arming profile (event.Call call))) _ h) in
+      (and_parts (not (is_arming profile (event.Call call))) _ h).1 in
       let after = ap (λ (s : ArmedStep). s.after) is in
       record {
         answers =
