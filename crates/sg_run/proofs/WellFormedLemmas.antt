@@ -159,6 +159,12 @@ named-with others initiator below has =
       with-somebody (unwrap_or others no_initiators) initiator below masked,
     )
 
+-- what is known of the fields does not speak of these
+free-fields : (options : FaultOptions) (code skip : Option ℕ) (healed : Bool) → HasFields options
+    → HasFields (record options { code = code; skip = skip; is_healed = healed })
+free-fields options code skip healed has =
+    record { initiators = has.initiators; blocks = has.blocks; times = has.times }
+
 with-fields : (options : FaultOptions) (o : FaultOption) → HasFields options → HasOperand o
     → IfSome (with_option options o) HasFields
 with-fields options (option.To initiator) has below = record {
@@ -166,27 +172,18 @@ with-fields options (option.To initiator) has below = record {
   blocks = has.blocks;
   times = has.times;
 }
-with-fields options (option.Code code) has operand = unless options.code _ (record {
-  initiators = has.initiators;
-  blocks = has.blocks;
-  times = has.times;
-})
+with-fields options (option.Code code) has operand =
+    unless options.code _ (free-fields options (Some code) options.skip options.is_healed has)
 with-fields options (option.Blocks extent) has operand = unless options.blocks _ (record {
   initiators = has.initiators;
   blocks = operand;
   times = has.times;
 })
 with-fields options option.Healed has operand =
-    either HasFields options.is_healed None _ tt (record {
-      initiators = has.initiators;
-      blocks = has.blocks;
-      times = has.times;
-    })
-with-fields options (option.Skip n) has operand = unless options.skip _ (record {
-  initiators = has.initiators;
-  blocks = has.blocks;
-  times = has.times;
-})
+    either HasFields options.is_healed None _ tt
+    (free-fields options options.code options.skip true has)
+with-fields options (option.Skip n) has operand =
+    unless options.skip _ (free-fields options options.code (Some n) options.is_healed has)
 with-fields options (option.Times n) has operand = unless options.times _ (record {
   initiators = has.initiators;
   blocks = has.blocks;

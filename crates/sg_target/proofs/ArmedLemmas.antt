@@ -119,6 +119,13 @@ finished-state Good mark command faults done =
     afterwards-state (decided afterwards command left) done (asked afterwards command left)
 finished-state _ mark command faults done = refl
 
+-- a fault afterwards does not meet a command that has not ended with GOOD
+pub finished-bad : (status : Status) (mark : Option Fault) (command : Seen) (faults : Faults)
+    (done : Step) → (status ≡ Good → ⊥)
+    → finished_if_good status mark command faults done ≡ afterwards_step None done faults
+finished-bad Good mark command faults done bad = absurd (bad refl)
+finished-bad _ mark command faults done bad = refl
+
 -- what is known of an operation that the checks pass is known of what is executed
 module _ (P : Operation → Type 0)
     (first : (n : ℕ) (o : Operation) → P o → P (first_blocks n o)) where

@@ -28,9 +28,8 @@ use Rattle.sg_target.specs.declared.operation.Operation.{Operation}
 use Rattle.sg_target.specs.declared.refusal.Refusal.{Refusal}
 use Rattle.sg_target.specs.declared.reply.Reply.{Reply}
 use Rattle.sg_target.specs.declared.reply.Status.{Status}
-use Rattle.sg_target.specs.declared.reply.Status.TheVariants.{Good, CheckCondition, ReservationConflict}
-use Rattle.sg_target.specs.declared.reply.Status.TheVariants.{Busy, TaskSetFull, NoReply}
-use Rattle.sg_target.proofs.ArmedLemmas.{attempt-unarmed, step-by-unarmed}
+use Rattle.sg_target.specs.declared.reply.Status.TheVariants.{Good, CheckCondition, NoReply}
+use Rattle.sg_target.proofs.ArmedLemmas.{attempt-unarmed, finished-bad, step-by-unarmed}
 
 -- ---- What the checks have passed or refused
 
@@ -205,21 +204,12 @@ module _ (bounds : CostBounds) (i : ℕ) (cdb : List ℕ) (checked : Result Oper
       (ap (λ s. s.disk.pool) state) takes.charge)
 
   -- it does not end with GOOD
-  not-good : (status : Status) → step.answer.status ≡ status → (status ≡ Good → ⊥)
-      → finished_if_good step.answer.status mark command tried.faults step
-      ≡ afterwards_step None step tried.faults
-  not-good Good e h = absurd (h refl)
-  not-good CheckCondition e h = ap (λ s. finished_if_good s mark command tried.faults step) e
-  not-good ReservationConflict e h = ap (λ s. finished_if_good s mark command tried.faults step) e
-  not-good Busy e h = ap (λ s. finished_if_good s mark command tried.faults step) e
-  not-good TaskSetFull e h = ap (λ s. finished_if_good s mark command tried.faults step) e
-  not-good NoReply e h = ap (λ s. finished_if_good s mark command tried.faults step) e
-
   pub takes-refused : (reply.status ≡ Good → ⊥)
       → TakesArmedStep bounds (armed_step_by (disk_of old) i cdb checked)
       (armed_ranges (disk_of old) i cdb checked) old done reply buffer buffer'
   takes-refused h =
-      let is = not-good step.answer.status refl (λ good. h (takes.answer.status ∙ good)) in
+      let bad : step.answer.status ≡ Good → ⊥ = λ good. h (takes.answer.status ∙ good) in
+      let is = finished-bad step.answer.status mark command tried.faults step bad in
       record {
         answer =
             subst (λ (a : Answer). Carries a reply buffer buffer')

@@ -45,11 +45,21 @@ use Rattle.sg_target.specs.declared.operation.Operation.TheVariants as operation
 use Rattle.sg_target.specs.declared.refusal.Refusal.{Refusal}
 use Rattle.sg_target.specs.declared.reply.Status.{Status}
 use Rattle.sg_target.specs.declared.reply.Status.TheVariants.{Good}
-use Rattle.sg_target.proofs.ArmedLemmas.{finished-state, of-both, step-unarmed}
+use Rattle.sg_target.proofs.ArmedLemmas.{finished-bad, finished-state, of-both, step-unarmed}
 use Rattle.sg_target.proofs.LiftLemmas.{not_good}
 use Rattle.sg_target.proofs.MarkingLemmas.{only-write-long, unmarked-stays}
 
 -- ---- What faults can do
+
+-- a fault on arrival leaves the state
+arrival-stays : (state : State) (i : ℕ) (outcome : OnArrival)
+    → (refused state i (refusal_on_arrival outcome)).state ≡ state
+arrival-stays state i arrival.Busy = refl
+arrival-stays state i arrival.TaskSetFull = refl
+arrival-stays state i arrival.ReservationConflict = refl
+arrival-stays state i arrival.NoReply = refl
+arrival-stays state i (arrival.CheckCondition code) = refl
+arrival-stays state i (arrival.DeferredError code) = refl
 
 module _ (state : State) (i : ℕ) (cdb data_out : List ℕ) where
   abbrev state_by : Result Operation Refusal → State
@@ -72,14 +82,6 @@ module _ (state : State) (i : ℕ) (cdb data_out : List ℕ) where
   abbrev Tried : Result Operation Refusal → Type 0
   Tried result =
       (result ≡ checked_cdb state i cdb data_out) ⊎ (IsDropped result ⊎ IsCutShort result)
-
-  by-arrival : (outcome : OnArrival) → state_by (Err (refusal_on_arrival outcome)) ≡ state
-  by-arrival arrival.Busy = refl
-  by-arrival arrival.TaskSetFull = refl
-  by-arrival arrival.ReservationConflict = refl
-  by-arrival arrival.NoReply = refl
-  by-arrival (arrival.CheckCondition code) = refl
-  by-arrival (arrival.DeferredError code) = refl
 
   by-outcome : (o : Operation) → checked_cdb state i cdb data_out ≡ Ok o → (bad : Option ℕ)
       (outcome : AtMedium) → Tried (result_at_medium o bad outcome)
@@ -111,7 +113,7 @@ module _ (state : State) (i : ℕ) (cdb data_out : List ℕ) where
       inr (inl (record {
         refusal = refusal_on_arrival struck.outcome;
         is = refl;
-        left = by-arrival struck.outcome;
+        left = arrival-stays state i struck.outcome;
       }))
 
   -- ---- the state afterwards
@@ -191,12 +193,6 @@ finished-good Good mark command faults done e =
     answer-if-good (decided afterwards command left) done (asked afterwards command left) e
 finished-good _ mark command faults done e = refl
 
--- nor does it meet a command that has not ended with GOOD
-finished-bad : (status : Status) (command : Seen) (faults : Faults) (done : Step) → (status ≡ Good → ⊥)
-    → (finished_if_good status None command faults done).answer ≡ done.answer
-finished-bad Good command faults done h = absurd (h refl)
-finished-bad _ command faults done h = refl
-
 module _ (disk : Armed) (i : ℕ) (cdb data_out : List ℕ) where
   abbrev tried_by : Attempt
   tried_by = attempt_of disk i cdb data_out
@@ -252,7 +248,9 @@ module _ (disk : Armed) (i : ℕ) (cdb : List ℕ) (by_checks : Refusal) where
       record {
         refusal = refusal;
         whose = whose;
-        answer = finished-bad done.answer.status command faults done (not_good disk.state i refusal);
+        answer =
+            ap (λ (s : ArmedStep). s.answer)
+            (finished-bad done.answer.status None command faults done (not_good disk.state i refusal));
         after = finished-state done.answer.status None command faults done;
       }
 
@@ -284,12 +282,12 @@ module _ (state : State) (i : ℕ) (cdb : List ℕ) (command : Seen) (faults : F
   counted-only : (outcome : OnArrival)
       → (finished_attempt state i cdb (with_room command (struck_by outcome))).after
       ≡ record { state = state; faults = faults }
-  counted-only arrival.Busy = refl
-  counted-only arrival.TaskSetFull = refl
-  counted-only arrival.ReservationConflict = refl
-  counted-only arrival.NoReply = refl
-  counted-only (arrival.CheckCondition code) = refl
-  counted-only (arrival.DeferredError code) = refl
+  counted-only outcome =
+      let refusal = refusal_on_arrival outcome in
+      let done = refused state i refusal in
+      let bad = not_good state i refusal in
+      ap (λ (s : ArmedStep). s.after) (finished-bad done.answer.status None _ faults done bad)
+      ∙ ap (λ (s : State). record { state = s; faults = faults }) (arrival-stays state i outcome)
 
 pub arrival-counts : ArrivalChangesOnlyCounts
 arrival-counts disk i cdb data_out struck e =
