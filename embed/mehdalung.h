@@ -164,7 +164,8 @@ void mdl_free(mdl_disk *disk);
  *     cdb       cdb_length bytes, which the call reads. You may send any bytes.
  *     data_out  data_out_length bytes, which the call reads.
  *     data_in   data_in_length bytes. The call writes data-in to the first reply->data_in_length of
- *               them. The bytes after these stay as they were.
+ *               them. The bytes after these stay as they were, except with the fault
+ *               MDL_AFTER_SHORT_DATA_IN: then the rest of data-in follows.
  *     reply     The call writes it.
  * Each of the first three may be null if its length is 0.
  *
@@ -198,8 +199,8 @@ mdl_error mdl_power_cycle(mdl_disk *disk);
  *     - On arrival: before every check of the command. The disk does not execute the command.
  *     - At the medium: after the checks of the CDB, its data-out and its blocks. The fault meets
  *       only commands that pass these checks, and read or write at least one block.
- *     - Afterwards: after the command has ended with MDL_GOOD. The disk has executed it, and its
- *       data-in is in the buffer. */
+ *     - Afterwards: after the command has ended with MDL_GOOD. The disk has executed it, and all of
+ *       its data-in is in the buffer. */
 typedef enum mdl_fault_outcome {
     MDL_ARRIVAL_BUSY = 0,                 /* MDL_BUSY */
     MDL_ARRIVAL_TASK_SET_FULL = 1,        /* MDL_TASK_SET_FULL */
@@ -214,8 +215,10 @@ typedef enum mdl_fault_outcome {
     MDL_MEDIUM_MOVES_ONLY = 7,            /* MDL_GOOD, but a READ, WRITE or WRITE SAME moves only
                                              its first blocks. With 0 blocks a WRITE is lost. */
     MDL_AFTER_NO_REPLY = 8,               /* MDL_NO_REPLY, after data-in */
-    MDL_AFTER_CHECK_CONDITION = 9         /* MDL_CHECK_CONDITION with a sense key and code, after
+    MDL_AFTER_CHECK_CONDITION = 9,        /* MDL_CHECK_CONDITION with a sense key and code, after
                                              data-in, as for a RECOVERED ERROR */
+    MDL_AFTER_SHORT_DATA_IN = 10          /* MDL_GOOD, but only the first bytes of data-in arrive.
+                                             The reply counts only these. */
 } mdl_fault_outcome;
 
 /* A fault, for MDL_ARM: the commands that it meets, and what it does to them. If all fields after
@@ -228,7 +231,8 @@ typedef struct mdl_fault {
                                  or write one of them. With 0 it lies on none, and meets commands
                                  of any kind. */
     uint32_t outcome;         /* one of mdl_fault_outcome */
-    uint32_t blocks;          /* MDL_MEDIUM_MOVES_ONLY: the number of blocks that are moved */
+    uint32_t blocks;          /* MDL_MEDIUM_MOVES_ONLY: the number of blocks that are moved.
+                                 MDL_AFTER_SHORT_DATA_IN: the number of bytes that arrive. */
     uint16_t skip;            /* the number of commands of each initiator that meet it and pass
                                  first */
     uint16_t times;           /* the number of commands of each initiator after these that do not

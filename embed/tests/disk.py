@@ -106,13 +106,16 @@ with Disk(64, 4) as disk:
     disk.arm(FaultOutcome.AFTER_NO_REPLY, [4])
     reply = disk.execute(4, READ_FIVE)
     assert (reply.status, reply.data_in) == (NO_REPLY, bytes(5 * 512))
+    disk.arm(FaultOutcome.AFTER_SHORT_DATA_IN, [6], times=1, blocks=700)
+    reply = disk.execute(6, READ_FIVE)
+    assert (reply.status, reply.data_in) == (GOOD, bytes(700))
     for _ in range(6):
         disk.arm(FaultOutcome.ARRIVAL_BUSY, [5])
     assert refusal(disk.arm, FaultOutcome.ARRIVAL_BUSY, [5]) == Error.FAULTS
     assert disk.execute(5, TEST_UNIT_READY).status == BUSY
     disk.disarm_all()
     assert codes(disk) == NONE
-    for call, why in (((disk.arm, 10), Error.UNKNOWN_FAULT), ((disk.arm, -1), ValueError),
+    for call, why in (((disk.arm, 11), Error.UNKNOWN_FAULT), ((disk.arm, -1), ValueError),
                       ((disk.arm, 4, None, None, 0, 0, False, 0, 0, 16), Error.SENSE_KEY),
                       ((disk.arm, 0, []), Error.NO_INITIATOR),
                       ((disk.arm, 0, [8]), Error.NO_INITIATOR),

@@ -189,6 +189,19 @@ static void stop_afterwards(void)
     WANT(is_filled(5, 0x77) && happens(MDL_DISARM_ALL) == MDL_OK);
 }
 
+/* Only the first bytes of data-in arrive. A command with fewer returns all of its data-in. */
+static void stop_short(void)
+{
+    const mdl_fault fault = { .initiators = 1, .outcome = MDL_AFTER_SHORT_DATA_IN, .blocks = 700 };
+
+    WANT(move_blocks(WRITE, 6, 2, 0x88) == MDL_GOOD && arm(fault) == MDL_OK);
+    WANT(move_blocks(READ, 6, 2, 0) == MDL_GOOD && reply.sense_length == 0);
+    WANT(reply.data_in_length == 700 && data_in[0] == 0x88 && data_in[699] == 0x88);
+    WANT(move_blocks(READ, 6, 1, 0) == MDL_GOOD && reply.data_in_length == MDL_BLOCK_LENGTH);
+    WANT(move_blocks(WRITE, 6, 2, 0x99) == MDL_GOOD && reply.data_in_length == 0);
+    WANT(happens(MDL_DISARM_ALL) == MDL_OK && is_filled(6, 0x99) && is_filled(7, 0x99));
+}
+
 /* Only the commands of some initiators with a code, after others. Faults outlive a power cycle. */
 static void meet_some(void)
 {
@@ -219,7 +232,7 @@ static void fill_the_numbers(void)
         WANT(arm(fault) == MDL_OK);
     }
     WANT(arm(fault) == MDL_FAULTS && arm_outcome(MDL_ARRIVAL_BUSY, 0) == MDL_FAULTS);
-    WANT(arm_outcome(10, 0) == MDL_UNKNOWN_FAULT && disarm(8) == MDL_FAULT_NUMBER);
+    WANT(arm_outcome(11, 0) == MDL_UNKNOWN_FAULT && disarm(8) == MDL_FAULT_NUMBER);
     for (number = 0; number < MDL_MOST_FAULTS; number++) {
         WANT(test_ready(0) == MDL_CHECK_CONDITION && senses(0x70, 0, number, 0));
         WANT(test_ready(1) == MDL_GOOD && disarm(number) == MDL_OK && disarm(number) == MDL_OK);
@@ -241,7 +254,7 @@ static const struct {
     mdl_fault fault;
     mdl_error error;
 } refused[] = {
-    { { .initiators = ALL, .outcome = 10 }, MDL_UNKNOWN_FAULT },
+    { { .initiators = ALL, .outcome = 11 }, MDL_UNKNOWN_FAULT },
     { { .outcome = 256, .has_code = 2 }, MDL_UNKNOWN_FAULT },
     { { .initiators = ALL, .outcome = UINT32_MAX, .key = 16 }, MDL_UNKNOWN_FAULT },
     { { .outcome = MDL_ARRIVAL_CHECK_CONDITION, .key = 16, .has_code = 2 }, MDL_SENSE_KEY },
@@ -296,6 +309,7 @@ int main(void)
         stop_on_arrival();
         stop_at_medium();
         stop_afterwards();
+        stop_short();
         fill_the_numbers();
         refuse();
         meet_some();

@@ -24,7 +24,7 @@ class Fault:
 
     place: str
     what: str
-    value: object = None  # (sense key, code) or a number of blocks
+    value: object = None  # (sense key, code), or a number of blocks or bytes
     initiators: set = field(default_factory=lambda: set(range(8)))
     code: int | None = None
     blocks: tuple | None = None  # address and count
@@ -189,6 +189,8 @@ def execute(device, initiator, cdb, data_out):
     fault = faults.ask("after", initiator, seen)
     if not fault:
         return status, data_in, sense
+    if fault.what == "first":
+        return status, data_in[:fault.value], sense
     status, _, sense = refused(device, fault)
     return status, data_in, sense
 

@@ -38,7 +38,7 @@ TEXTS = ["0", "1", "2", "5", "8", "10", "24", "40", "63", "255", "256", "4095", 
 OUTCOMES = {
     "arrival": ("busy", "full", "conflict", "silent", "CODE", "deferred CODE"),
     "medium": (*6 * ("CODE",), "first 0", "first 1", "first 2", "first 4294967295"),
-    "after": ("silent", "CODE", "CODE"),
+    "after": ("silent", "CODE", "CODE", "first 0", "first 7", "first 40", "first 4294967295"),
 }
 SENSE_CODES = ("3/11/00", "3/0C/00", "4/44/00", "1/17/01", "2/04/01", "b/08/01", "6/29/00",
                "0/00/00", "5/20/00", "5/21/00", "F/ff/fF", "D/3f/0E", "C/11/00")

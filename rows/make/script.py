@@ -289,7 +289,7 @@ OPERATION_CODE = re.compile("([0-9a-fA-F]{2})h")
 WHAT_AT = {
     "arrival": ("busy", "full", "conflict", "silent", "code", "deferred"),
     "medium": ("code", "first"),
-    "after": ("silent", "code"),
+    "after": ("silent", "code", "first"),
 }
 OPERANDS = {"to": 1, "code": 1, "blocks": 2, "healed": 0, "skip": 1, "times": 1}
 OPTION_VALUES = {

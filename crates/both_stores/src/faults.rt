@@ -40,7 +40,7 @@ fn next_blocks(random: &mut Random) -> Option<BadBlocks> {
 
 fn next_outcome(random: &mut Random) -> Option<Outcome> {
     let code = SenseCode::new(random.byte() % 12, random.byte(), random.byte())?;
-    Some(match random.byte() % 10 {
+    Some(match random.byte() % 11 {
         0 => Outcome::OnArrival(OnArrival::Busy),
         1 => Outcome::OnArrival(OnArrival::TaskSetFull),
         2 => Outcome::OnArrival(OnArrival::ReservationConflict),
@@ -50,6 +50,7 @@ fn next_outcome(random: &mut Random) -> Option<Outcome> {
         6 => Outcome::AtMedium(AtMedium::CheckCondition(code)),
         7 => Outcome::AtMedium(AtMedium::MovesOnly(u32::from(random.byte() % 4))),
         8 => Outcome::Afterwards(Afterwards::NoReply),
-        _ => Outcome::Afterwards(Afterwards::CheckCondition(code)),
+        9 => Outcome::Afterwards(Afterwards::CheckCondition(code)),
+        _ => Outcome::Afterwards(Afterwards::ShortDataIn(u32::from(random.byte()))),
     })
 }

@@ -6,8 +6,8 @@ use sg_units::{Initiators, UnitAttention};
 use sg_wire::{Extent, Initiator};
 use std::alloc::Global;
 
-/// The number of different events: 6 commands, 7 happenings and 12 faults.
-const EVENTS: u64 = 25;
+/// The number of different events: 6 commands, 7 happenings and 13 faults.
+const EVENTS: u64 = 26;
 
 /// The number of events in a list.
 const LENGTH: u64 = 3;
@@ -22,13 +22,13 @@ pub(crate) const LISTS: u64 = EVENTS * EVENTS * EVENTS;
 /// and one event takes all faults away. Such a fault is armed after a list if the last of these
 /// seven events in it arms one:
 ///
-/// - It is the third event of the list: 25 x 25 x 6 lists.
-/// - It is the second, with one of the 18 other events after it: 25 x 6 x 18 lists.
-/// - It is the first, with two of them after it: 6 x 18 x 18 lists.
+/// - It is the third event of the list: 26 x 26 x 6 lists.
+/// - It is the second, with one of the 19 other events after it: 26 x 6 x 19 lists.
+/// - It is the first, with two of them after it: 6 x 19 x 19 lists.
 ///
-/// These are 8,394 lists. The first such fault that is not taken away decides, and each of the six
+/// These are 9,186 lists. The first such fault that is not taken away decides, and each of the six
 /// does so in as many lists as another.
-pub(crate) const EACH_REFUSAL: u64 = 1_399;
+pub(crate) const EACH_REFUSAL: u64 = 1_531;
 
 /// A command: the number of its initiator, its CDB and its data-out.
 type Step = (u8, &'static [u8], &'static [u8]);
@@ -111,7 +111,8 @@ fn outcome(number: u64) -> Option<Outcome> {
         14 => Outcome::AtMedium(AtMedium::MovesOnly(1)),
         15 => Outcome::Afterwards(Afterwards::NoReply),
         16 => Outcome::Afterwards(Afterwards::CheckCondition(code)),
-        17 => Outcome::AtMedium(AtMedium::CheckCondition(SenseCode::new(3, 0x11, 0)?)),
+        17 => Outcome::Afterwards(Afterwards::ShortDataIn(600)),
+        18 => Outcome::AtMedium(AtMedium::CheckCondition(SenseCode::new(3, 0x11, 0)?)),
         _ => Outcome::OnArrival(OnArrival::Busy),
     })
 }
@@ -128,14 +129,14 @@ fn fault_of(number: u64) -> Option<Fault> {
         outcome: outcome(number)?,
     };
     Some(match number {
-        17 => Fault {
+        18 => Fault {
             blocks: Some(BadBlocks {
                 extent: Extent { lba: 1, count: 1 },
                 healed_by_writes: true,
             }),
             ..fault
         },
-        18 => Fault {
+        19 => Fault {
             initiators: Initiators::none().with(Initiator::new(1)?),
             skip: 1,
             times: Some(1),

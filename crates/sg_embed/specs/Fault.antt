@@ -40,6 +40,7 @@ by_outcome r =
     ∷ Ok (place.AtMedium (medium.MovesOnly r.blocks))
     ∷ Ok (place.Afterwards after.NoReply)
     ∷ reporting (asked_sense_code r) (λ code. place.Afterwards (after.CheckCondition code))
+    ∷ Ok (place.Afterwards (after.ShortDataIn r.blocks))
     ∷ []
 
 abbrev pub asked_outcome : FaultRecord → Result FaultOutcome Outcome

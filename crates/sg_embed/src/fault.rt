@@ -26,7 +26,8 @@ pub struct FaultRecord {
     pub count: u32,
     /// What it does, and where: a number of the header.
     pub outcome: u32,
-    /// The number of blocks that a command still moves, if it moves only its first ones.
+    /// The number of blocks that a command still moves, if it moves only its first ones. Or the number
+    /// of bytes of data-in that arrive, if only the first ones do.
     pub blocks: u32,
     /// The number of an initiator's commands that meet it and pass first.
     pub skip: u16,
@@ -109,6 +110,10 @@ impl FaultRecord {
             FaultOutcome::Afterwards(Afterwards::CheckCondition(code)) => FaultRecord::reporting(
                 9, code,
             ),
+            FaultOutcome::Afterwards(Afterwards::ShortDataIn(bytes)) => FaultRecord {
+                blocks: bytes,
+                ..FaultRecord::with_outcome(10)
+            },
         }
     }
 
@@ -175,6 +180,7 @@ impl FaultRecord {
             7 => Ok(FaultOutcome::AtMedium(AtMedium::MovesOnly(self.blocks))),
             8 => Ok(FaultOutcome::Afterwards(Afterwards::NoReply)),
             9 => Ok(FaultOutcome::Afterwards(Afterwards::CheckCondition(self.read_sense_code()?))),
+            10 => Ok(FaultOutcome::Afterwards(Afterwards::ShortDataIn(self.blocks))),
             _ => Err(Outcome::UnknownFault),
         }
     }

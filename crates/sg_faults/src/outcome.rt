@@ -38,6 +38,8 @@ pub enum Afterwards {
     NoReply,
     /// CHECK CONDITION with a sense code follows its data-in, as for a RECOVERED ERROR.
     CheckCondition(SenseCode),
+    /// Only the first bytes of its data-in arrive, at most this many, and it still ends with GOOD.
+    ShortDataIn(u32),
 }
 
 /// What a fault does, and where.

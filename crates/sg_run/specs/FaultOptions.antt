@@ -22,6 +22,10 @@ most_commands = 2 ^ 16 - 1
 abbrev pub most_blocks : ℕ
 most_blocks = 2 ^ 32 - 1
 
+-- The most bytes of data-in that can be asked to arrive.
+abbrev pub most_bytes : ℕ
+most_bytes = 2 ^ 32 - 1
+
 abbrev pub number_between : (low high : ℕ) → List ℕ → Option ℕ
 number_between low high word =
     option_and_then (λ n. if nat_le low n then Some n else None) (number_up_to high word)

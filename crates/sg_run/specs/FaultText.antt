@@ -51,6 +51,7 @@ medium_text (medium.MovesOnly blocks) = codes "medium first " ++ decimal blocks
 abbrev pub afterwards_text : Afterwards → List ℕ
 afterwards_text after.NoReply = codes "after silent"
 afterwards_text (after.CheckCondition code) = codes "after " ++ sense_code_text code
+afterwards_text (after.ShortDataIn bytes) = codes "after first " ++ decimal bytes
 
 abbrev pub outcome_text : Outcome → List ℕ
 outcome_text (outcome.OnArrival o) = arrival_text o

@@ -18,7 +18,7 @@ use Rattle.sg_faults.specs.declared.outcome.Outcome.{Outcome}
 use Rattle.sg_faults.specs.declared.outcome.Outcome.TheVariants.{OnArrival, AtMedium, Afterwards}
 use Rattle.sg_target.specs.declared.happening.Happening.{Happening}
 use Rattle.sg_target.specs.declared.happening.Happening.TheVariants.{Arm, Disarm, DisarmAll}
-use Rattle.sg_run.specs.FaultOptions.{most_blocks, options_of}
+use Rattle.sg_run.specs.FaultOptions.{most_blocks, most_bytes, options_of}
 use Rattle.sg_run.specs.SenseCodeWord.{sense_code_of}
 use Rattle.sg_run.specs.declared.request.fault_options.FaultOptions.{FaultOptions}
 
@@ -67,7 +67,9 @@ outcome_with place what operand =
     then option_map (λ code. OnArrival (arrival.DeferredError code)) (sense_code_of operand)
     else (if bytes_eq place (codes "medium") && bytes_eq what (codes "first")
     then option_map (λ n. AtMedium (medium.MovesOnly n)) (number_up_to most_blocks operand)
-    else None)
+    else (if bytes_eq place (codes "after") && bytes_eq what (codes "first")
+    then option_map (λ n. Afterwards (after.ShortDataIn n)) (number_up_to most_bytes operand)
+    else None))
 
 abbrev pub takes_operand : (what : List ℕ) → Bool
 takes_operand what = bytes_eq what (codes "deferred") || bytes_eq what (codes "first")

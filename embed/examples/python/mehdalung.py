@@ -67,6 +67,7 @@ class FaultOutcome(IntEnum):
     MEDIUM_MOVES_ONLY = 7
     AFTER_NO_REPLY = 8
     AFTER_CHECK_CONDITION = 9
+    AFTER_SHORT_DATA_IN = 10
 
 
 class Happening(IntEnum):

@@ -174,6 +174,21 @@ static void passes_sense_and_data(void)
     expect_block(0x66);
 }
 
+/* Only the first bytes of a block arrive, with GOOD. The residual counts the others. */
+static void tells_the_residual(void)
+{
+    sg_io_hdr_t header;
+
+    arm((mdl_fault){ .initiators = 1, .outcome = MDL_AFTER_SHORT_DATA_IN, .blocks = 100,
+                     .times = 1 });
+    memset(buffer, GUARD, BLOCK);
+    header = sent(read_5, SG_DXFER_FROM_DEV, TIMEOUT);
+    WANT(header.status == 0 && header.host_status == 0 && header.driver_status == 0);
+    WANT(header.resid == BLOCK - 100 && header.sb_len_wr == 0);
+    WANT(buffer[0] == 0x66 && buffer[99] == 0x66 && buffer[100] == GUARD);
+    expect_block(0x66);
+}
+
 static void expect_timed_out(const sg_io_hdr_t *header)
 {
     WANT(header->host_status == 3 && header->status == 0 && header->masked_status == 0);
@@ -234,6 +249,7 @@ int main(void)
     expect_ready();
     passes_statuses();
     passes_sense_and_data();
+    tells_the_residual();
     times_out();
     sends_nothing();
     expect_ready();

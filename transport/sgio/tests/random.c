@@ -117,7 +117,7 @@ static mdl_error result_of_fault(const mdl_fault *it)
             return MDL_SENSE_KEY;
         break;
     default:
-        if (it->outcome > MDL_AFTER_CHECK_CONDITION)
+        if (it->outcome > MDL_AFTER_SHORT_DATA_IN)
             return MDL_UNKNOWN_FAULT;
     }
     if (it->initiators == 0 || it->initiators >> MDL_INITIATORS)
@@ -132,7 +132,7 @@ static void put_random_fault(uint64_t *seed, mdl_fault *it)
 {
     memset(it, 0, sizeof *it);
     it->initiators = 1 + below(seed, (1 << MDL_INITIATORS) - 1);
-    it->outcome = below(seed, MDL_AFTER_CHECK_CONDITION + 1);
+    it->outcome = below(seed, MDL_AFTER_SHORT_DATA_IN + 1);
     it->count = below(seed, 2);
     it->healed_by_writes = (uint8_t)below(seed, it->count + 1);
     it->has_code = (uint8_t)below(seed, 2);

@@ -4,7 +4,7 @@ ghost use Rattle.sg_run.specs.FaultVerbs.{afterwards_of, arrival_of, arrival_wor
 ghost use Rattle.sg_run.specs.FaultVerbs.{fault_of, heal_of};
 ghost use Rattle.sg_run.specs.FaultVerbs.{outcome_of, outcome_with, takes_operand};
 
-use super::fault_options::{MOST_BLOCKS, armed_by};
+use super::fault_options::{MOST_BLOCKS, MOST_BYTES, armed_by};
 use super::sense_code::read_sense_code;
 use super::words::is_word;
 use sg_faults::{Afterwards, AtMedium, MAX_FAULTS, OnArrival, Outcome};
@@ -92,6 +92,9 @@ fn outcome_with(place: &[u8], what: &[u8], operand: &[u8]) -> Option<Outcome>
     } else if is_word(place, "medium") && is_word(what, "first") {
         let blocks = read_number_up_to(MOST_BLOCKS, operand)?;
         Some(Outcome::AtMedium(AtMedium::MovesOnly(blocks as u32)))
+    } else if is_word(place, "after") && is_word(what, "first") {
+        let bytes = read_number_up_to(MOST_BYTES, operand)?;
+        Some(Outcome::Afterwards(Afterwards::ShortDataIn(bytes as u32)))
     } else {
         None
     }

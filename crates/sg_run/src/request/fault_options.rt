@@ -20,6 +20,9 @@ const MOST_COMMANDS: u64 = u16::MAX as u64;
 /// The most blocks that a fault lies on, or that a command moves.
 pub(super) const MOST_BLOCKS: u64 = u32::MAX as u64;
 
+/// The most bytes of data-in that can be asked to arrive.
+pub(super) const MOST_BYTES: u64 = u32::MAX as u64;
+
 /// An option of `fault`.
 #[derive(Clone, Copy)]
 enum FaultOption {

@@ -106,6 +106,7 @@ fn put_afterwards<W: Write>(outcome: &Afterwards, out: &mut Printer<'_, W>)
     match outcome {
         Afterwards::NoReply => out.put(b"after silent"),
         Afterwards::CheckCondition(code) => put_labelled_code(b"after ", code, out),
+        Afterwards::ShortDataIn(bytes) => put_labelled_number(b"after first ", *bytes, out),
     }
 }
 

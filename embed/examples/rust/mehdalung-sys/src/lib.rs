@@ -63,6 +63,7 @@ pub mod fault_outcome {
     pub const MEDIUM_MOVES_ONLY: u32 = 7;
     pub const AFTER_NO_REPLY: u32 = 8;
     pub const AFTER_CHECK_CONDITION: u32 = 9;
+    pub const AFTER_SHORT_DATA_IN: u32 = 10;
 }
 
 /// `mdl_happening_kind`.

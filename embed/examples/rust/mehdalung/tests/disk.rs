@@ -89,12 +89,16 @@ fn armed_faults_meet_commands() -> Result<(), Error> {
     assert_eq!((fields.key, fields.asc, fields.ascq, fields.information), (3, 0x11, 0x01, 3));
     disk.disarm(0)?;
     assert_eq!(disk.execute(7, &read_five, &[])?.status(), GOOD);
+    let outcome = fault_outcome::AFTER_SHORT_DATA_IN;
+    disk.arm(&Fault { initiators: 1 << 7, outcome, blocks: 700, times: 1, ..Fault::default() })?;
+    let reply = disk.execute(7, &read_five, &[])?;
+    assert_eq!((reply.status(), reply.data_in), (GOOD, &[0; 700][..]));
     for _ in 0..8 {
         disk.arm(&busy)?;
     }
     assert_eq!(disk.arm(&busy), Err(Error::Faults));
     disk.disarm_all()?;
-    assert_eq!(disk.arm(&Fault { outcome: 10, ..busy }), Err(Error::UnknownFault));
+    assert_eq!(disk.arm(&Fault { outcome: 11, ..busy }), Err(Error::UnknownFault));
     assert_eq!(disk.arm(&Fault { key: 16, ..fault }), Err(Error::SenseKey));
     assert_eq!(disk.arm(&Fault { initiators: 0, ..busy }), Err(Error::NoInitiator));
     assert_eq!(disk.arm(&Fault { has_code: 2, ..busy }), Err(Error::FaultFlag));
