@@ -112,7 +112,8 @@ pub suits : (config : ConfigFields) (command : Command) (data_out : List ℕ)
     → SuitsIf command (demands config command data_out).operation
 suits config (command.Inquiry c) data_out =
     sound-suits (command.Inquiry c)
-    (ok_or (inquiry_page c.evpd c.page_code) (CheckCondition (InvalidFieldInCdb 2)))
+    (ok_or (inquiry_page config.identity.profile c.evpd c.page_code)
+    (CheckCondition (InvalidFieldInCdb 2)))
     (λ page. ReturnInquiry page c.allocation_length)
     (λ page. record { class = λ class h. cc; of_kind = λ kind k. refl; shown = refl })
 suits config (command.WriteSame10 c) data_out =
@@ -194,7 +195,8 @@ reads-if config (command.Unmap c) data_out =
     changing-reads (command.Unmap c) (demands config (command.Unmap c) data_out).operation refl
 reads-if config (command.Inquiry c) data_out =
     sound-reads (command.Inquiry c)
-    (ok_or (inquiry_page c.evpd c.page_code) (CheckCondition (InvalidFieldInCdb 2)))
+    (ok_or (inquiry_page config.identity.profile c.evpd c.page_code)
+    (CheckCondition (InvalidFieldInCdb 2)))
     (λ page. ReturnInquiry page c.allocation_length) (λ page. refl)
 reads-if config (command.PersistentReserveOut c) data_out =
     sound-reads (command.PersistentReserveOut c)

@@ -1,5 +1,7 @@
 -- The lengths of the data that the disk reports about itself, in bytes.
 use Rattle.std.specs.Prelude.{ℕ, ◌+◌, sum_by}
+use Rattle.sg_wire.specs.declared.profile.Profile.{Profile}
+use Rattle.sg_wire.specs.declared.profile.Profile.TheVariants.{Base, Extended}
 use Rattle.sg_pages.specs.ModePage.{each_page, page_length}
 
 -- READ CAPACITY parameter data (SBC-3, 5.15.2 and 5.16.2).
@@ -9,10 +11,15 @@ capacity_10_length = 8
 abbrev pub capacity_16_length : ℕ
 capacity_16_length = 32
 
--- The standard INQUIRY data, and the longest page of vital product data, Block Limits.
-abbrev pub standard_inquiry_length : ℕ
-standard_inquiry_length = 36
+-- The standard INQUIRY data of a disk of a profile, and of any disk at most.
+abbrev pub standard_inquiry_length : Profile → ℕ
+standard_inquiry_length Base = 36
+standard_inquiry_length Extended = 74
 
+abbrev pub longest_standard_inquiry : ℕ
+longest_standard_inquiry = standard_inquiry_length Extended
+
+-- The longest pages of vital product data, such as Block Limits.
 abbrev pub longest_page : ℕ
 longest_page = 64
 

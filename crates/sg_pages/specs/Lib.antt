@@ -2,6 +2,7 @@
 pub mod BlockDescriptor
 pub mod CapacityData
 pub mod DataLengths
+pub mod ExtendedPages
 pub mod Identity
 pub mod NewIdentity
 pub mod InquiryData

@@ -4,6 +4,7 @@
 #![tactic(auto)]
 
 mod capacity;
+mod extended_pages;
 mod identity;
 mod inquiry_data;
 pub mod laws;
@@ -13,7 +14,9 @@ mod vital_product_data;
 
 pub use capacity::{CAPACITY_10_LENGTH, CAPACITY_16_LENGTH, write_capacity_10, write_capacity_16};
 pub use identity::{Identity, IdentityFault};
-pub use inquiry_data::{write_standard_inquiry, write_standard_inquiry as inquiry};
+pub use inquiry_data::{
+    LONGEST_STANDARD_INQUIRY, write_standard_inquiry, write_standard_inquiry as inquiry,
+};
 pub use mode_pages::{
     Changed, LONGEST_MODE_LIST, ModePage, ModePages, ModeSelectFault,
     ModeSelectFault as SelectFault, ModeSenseFault, ModeSenseFault as AskFault, ModeSenseRequest,

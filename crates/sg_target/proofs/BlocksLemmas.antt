@@ -124,7 +124,8 @@ command-sound config (command.WriteSame16 c) data_out =
     (bad_anchor c.anchor c.unmap (bad_count config c.count 10)) data_out
 command-sound config (command.Inquiry c) data_out =
     requested-sound (demands config (command.Inquiry c) data_out) data_out
-    (when (ok_or (inquiry_page c.evpd c.page_code) (CheckCondition (InvalidFieldInCdb 2)))
+    (when (ok_or (inquiry_page config.identity.profile c.evpd c.page_code)
+    (CheckCondition (InvalidFieldInCdb 2)))
     (λ page. operation.ReturnInquiry page c.allocation_length) (λ page. tt))
 command-sound config (command.Unmap c) data_out =
     requested-sound (demands config (command.Unmap c) data_out) data_out

@@ -59,7 +59,8 @@ unmarked : (config : ConfigFields) (command : Command) (data_out : List ℕ)
     → marked_by (demands config command data_out).operation ≡ None
 unmarked config (command.Inquiry c) data_out other =
     sound-unmarked
-    (ok_or (inquiry_page c.evpd c.page_code) (CheckCondition (InvalidFieldInCdb 2)))
+    (ok_or (inquiry_page config.identity.profile c.evpd c.page_code)
+    (CheckCondition (InvalidFieldInCdb 2)))
     (λ page. ReturnInquiry page c.allocation_length) (λ page. refl)
 unmarked config (command.WriteLong10 c) data_out other = cc
 unmarked config (command.WriteSame10 c) data_out other =

@@ -3,7 +3,7 @@ use Rattle.std.specs.Prelude.{ℕ, max, min, List, Result, Ok, Err, ◌*◌}
 use Rattle.sg_wire.specs.LbaStatus.{status_data_length}
 use Rattle.sg_store.specs.LbaStatus.{max_descriptors}
 use Rattle.sg_pages.specs.DataLengths.{capacity_10_length, capacity_16_length, longest_list}
-use Rattle.sg_pages.specs.DataLengths.{longest_page, standard_inquiry_length}
+use Rattle.sg_pages.specs.DataLengths.{longest_page, longest_standard_inquiry}
 use Rattle.sg_units.specs.FullStatus.{longest_reserve_in}
 use Rattle.sg_target.specs.BlockCommands.{bytes_of}
 use Rattle.sg_target.specs.Checks.{checked_cdb}
@@ -30,7 +30,7 @@ abbrev pub longest_sense : ℕ
 longest_sense = 18
 
 abbrev pub longest_inquiry : ℕ
-longest_inquiry = max standard_inquiry_length longest_page
+longest_inquiry = max longest_standard_inquiry longest_page
 
 abbrev pub longest_status : ℕ
 longest_status = status_data_length max_descriptors

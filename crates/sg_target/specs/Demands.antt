@@ -53,10 +53,11 @@ asks operation = takes_no_data None (Ok operation)
 -- ---- Primary commands (SPC-4, 6)
 
 -- INQUIRY asks for a page that the disk has: PAGE CODE is byte 2.
-abbrev pub inquiry : Inquiry → Demands
-inquiry c =
+abbrev pub inquiry : ConfigFields → Inquiry → Demands
+inquiry config c =
+    let page = inquiry_page config.identity.profile c.evpd c.page_code in
     takes_no_data None
-    (when_sound (ok_or (inquiry_page c.evpd c.page_code) (CheckCondition (InvalidFieldInCdb 2)))
+    (when_sound (ok_or page (CheckCondition (InvalidFieldInCdb 2)))
     (λ page. operation.ReturnInquiry page c.allocation_length))
 
 abbrev pub mode_select : CdbWidth → (pf sp : Bool) (list_length : ℕ) (data_out : List ℕ) → Demands
@@ -149,7 +150,7 @@ abbrev pub demands : ConfigFields → Command → (data_out : List ℕ) → Dema
 demands config command.TestUnitReady data_out = asks operation.Nothing
 demands config (command.RequestSense c) data_out =
     asks (operation.ReturnSense (format_of c.desc) c.allocation_length)
-demands config (command.Inquiry c) data_out = inquiry c
+demands config (command.Inquiry c) data_out = inquiry config c
 demands config (command.ModeSelect6 c) data_out = mode_select Six c.pf c.sp c.list_length data_out
 demands config (command.ModeSelect10 c) data_out = mode_select Ten c.pf c.sp c.list_length data_out
 demands config (command.ModeSense6 c) data_out =

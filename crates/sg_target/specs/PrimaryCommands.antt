@@ -2,6 +2,7 @@
 use Rattle.std.specs.Prelude.{ℕ, List, Bool, true, false, Option, Some, None}
 use Rattle.std.specs.Prelude.{option_map, ◌==◌, if◌then◌else◌}
 use Rattle.sg_wire.specs.SenseData.{sense_data}
+use Rattle.sg_wire.specs.declared.profile.Profile.{Profile}
 use Rattle.sg_wire.specs.declared.sense.Format.{Format}
 use Rattle.sg_wire.specs.declared.sense.Format.TheVariants.{Fixed, Descriptor}
 use Rattle.sg_pages.specs.Identity.{IdentityFields}
@@ -25,11 +26,11 @@ returning_sense state initiator format n =
     let sense = sense_data format (pending_sense (oldest state.attentions initiator)) in
     record (returning_up_to state n sense) { after = without_attention state initiator }
 
--- INQUIRY returns a page of vital product data with EVPD, and without it the standard INQUIRY data,
--- if PAGE CODE is zero.
-abbrev pub inquiry_page : (evpd : Bool) (page_code : ℕ) → Option InquiryPage
-inquiry_page true page_code = option_map VitalProductData (page_with_code page_code)
-inquiry_page false page_code = if page_code == 0 then Some Standard else None
+-- INQUIRY returns a page of vital product data with EVPD, if a disk of the profile has it. Without
+-- EVPD it returns the standard INQUIRY data, if PAGE CODE is zero.
+abbrev pub inquiry_page : Profile → (evpd : Bool) (page_code : ℕ) → Option InquiryPage
+inquiry_page profile true page_code = option_map VitalProductData (page_with_code profile page_code)
+inquiry_page profile false page_code = if page_code == 0 then Some Standard else None
 
 abbrev pub inquiry_data : IdentityFields → InquiryPage → List ℕ
 inquiry_data identity Standard = standard_inquiry identity

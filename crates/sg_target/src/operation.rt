@@ -183,7 +183,7 @@ pub(crate) fn operation_of<'a>(
     match *command {
         Command::TestUnitReady => Ok(Operation::Nothing),
         Command::RequestSense(fields) => Ok(check_request_sense(fields)),
-        Command::Inquiry(fields) => check_inquiry(fields),
+        Command::Inquiry(fields) => check_inquiry(config, fields),
         Command::ModeSelect6(fields) => check_mode_select_6(fields, data_out),
         Command::ModeSelect10(fields) => check_mode_select_10(fields, data_out),
         Command::ModeSense6(fields) => Ok(check_mode_sense_6(config.blocks(), fields)),

@@ -10,14 +10,17 @@ ghost use Rattle.sg_target.specs.PrimaryCommands.{format_of, inquiry_data, inqui
 ghost use Rattle.sg_target.specs.PrimaryCommands.{returning_sense};
 ghost use Rattle.sg_target.specs.MadeReplies.{ReturnsData};
 
+use crate::config::Config;
 use crate::data_in::DataIn;
 use crate::operation::Operation;
 use crate::refusal::{Reason, Refusal};
 use crate::reply::{Reply, format_of};
 use crate::target::Target;
-use sg_pages::{Identity, LONGEST_VPD_PAGE, VpdPage, write_standard_inquiry, write_vpd_page};
+use sg_pages::{
+    Identity, LONGEST_STANDARD_INQUIRY, VpdPage, write_standard_inquiry, write_vpd_page,
+};
 use sg_store::Store;
-use sg_wire::{Cut, Format, Initiator, Inquiry, RequestSense};
+use sg_wire::{Cut, Format, Initiator, Inquiry, Profile, RequestSense};
 
 // ---- REQUEST SENSE
 
@@ -58,8 +61,9 @@ impl<S: Store> Target<S> {
 
 // ---- INQUIRY
 
-/// The length of the longest data of INQUIRY, in bytes. The standard INQUIRY data is shorter.
-pub(crate) const LONGEST_INQUIRY_DATA: usize = LONGEST_VPD_PAGE;
+/// The length of the longest data of INQUIRY, in bytes: the standard INQUIRY data of a disk of the
+/// extended profile. Each page is shorter.
+pub(crate) const LONGEST_INQUIRY_DATA: usize = LONGEST_STANDARD_INQUIRY;
 
 /// Where PAGE CODE is in the CDB.
 const PAGE_CODE_BYTE: u16 = 2;
@@ -74,12 +78,12 @@ pub enum InquiryPage {
 }
 
 impl InquiryPage {
-    /// The page that EVPD and PAGE CODE name, if the disk has such a page.
-    fn named(evpd: bool, page_code: u8) -> Option<InquiryPage>
-        ensures { result ≡ inquiry_page evpd page_code }
+    /// The page that EVPD and PAGE CODE name, if a disk of the profile has such a page.
+    fn named(profile: Profile, evpd: bool, page_code: u8) -> Option<InquiryPage>
+        ensures { result ≡ inquiry_page profile evpd page_code }
     {
         if evpd {
-            let page = VpdPage::with_code(page_code)?;
+            let page = VpdPage::with_code(profile, page_code)?;
             return Some(InquiryPage::VitalProductData(page));
         }
         match page_code {
@@ -101,10 +105,11 @@ impl InquiryPage {
 }
 
 #[inline(always)]
-pub(crate) fn check_inquiry(fields: Inquiry) -> Result<Operation<'static>, Refusal>
-    ensures { result ≡ requested (inquiry fields) [] }
+pub(crate) fn check_inquiry(config: &Config, fields: Inquiry) -> Result<Operation<'static>, Refusal>
+    ensures { result ≡ requested (inquiry config.now fields) [] }
 {
-    match InquiryPage::named(fields.evpd, fields.page_code) {
+    let profile = config.identity().profile();
+    match InquiryPage::named(profile, fields.evpd, fields.page_code) {
         Some(page) => Ok(Operation::ReturnInquiry {
             page,
             allocation_length: fields.allocation_length,

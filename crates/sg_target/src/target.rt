@@ -101,8 +101,7 @@ impl<S: Store> Target<S> {
     }
 
     /// Executes a command. The buffer has [`BUFFER_LENGTH`] bytes at least; data-in is the first
-    /// [`Reply::data_in`] of them, and those after it stay as they were. After a fault that cuts data-in
-    /// short, the bytes that do not arrive follow.
+    /// [`Reply::data_in`] of them, and those after it stay as they were.
     pub fn execute(
         &mut self,
         initiator: Initiator,

@@ -22,6 +22,10 @@ use Rattle.sg_wire.specs.declared.command.page_control.PageControl.{PageControl}
 use Rattle.sg_wire.specs.declared.command.page_control.PageControl.TheVariants.{Current}
 use Rattle.sg_wire.specs.declared.command.page_control.PageControl.TheVariants.{Changeable}
 use Rattle.sg_wire.specs.declared.command.page_control.PageControl.TheVariants.{Default, Saved}
+use Rattle.sg_wire.specs.declared.command.verify.ByteCheck.{ByteCheck}
+use Rattle.sg_wire.specs.declared.command.verify.ByteCheck.TheVariants.{Nothing, DataOut}
+use Rattle.sg_wire.specs.declared.command.verify.ByteCheck.TheVariants.{Reserved, OneBlock}
+use Rattle.sg_wire.specs.ByteCheck.{byte_check_code, byte_check_of}
 use Rattle.sg_wire.specs.PageControl.{page_control_code, page_control_of}
 use Rattle.sg_wire.specs.Commands.{reserve_in, reserve_out}
 use Rattle.sg_wire.specs.CdbDecoding.{command_in, first_bad, mask_of, masks, unless_bad}
@@ -327,6 +331,13 @@ again_by_code Changeable = refl
 again_by_code Default = refl
 again_by_code Saved = refl
 
+-- the BYTCHK field of a WRITE AND VERIFY
+checked_again : (check : ByteCheck) → byte_check_of (byte_check_code check) ≡ check
+checked_again Nothing = refl
+checked_again DataOut = refl
+checked_again Reserved = refl
+checked_again OneBlock = refl
+
 abbrev ReadsBack : Command → Type 0
 ReadsBack command = fits_cdb command ≡ true → command_in Extended (cdb_of command) ≡ Ok command
 
@@ -348,6 +359,12 @@ reads_back (command.ModeSense6 c) h = decoded (layout (command.ModeSense6 c)) h 
 reads_back (command.ModeSense10 c) h = decoded (layout (command.ModeSense10 c)) h _ refl
     (ap (λ pc. command.ModeSense10 (record c { page = record c.page { page_control = pc } }))
     (again_by_code c.page.page_control))
+reads_back (command.WriteAndVerify10 c) h = decoded (layout (command.WriteAndVerify10 c)) h _ refl
+    (ap (λ check. command.WriteAndVerify10 (record c { byte_check = check })) (checked_again c.byte_check))
+reads_back (command.WriteAndVerify12 c) h = decoded (layout (command.WriteAndVerify12 c)) h _ refl
+    (ap (λ check. command.WriteAndVerify12 (record c { byte_check = check })) (checked_again c.byte_check))
+reads_back (command.WriteAndVerify16 c) h = decoded (layout (command.WriteAndVerify16 c)) h _ refl
+    (ap (λ check. command.WriteAndVerify16 (record c { byte_check = check })) (checked_again c.byte_check))
 reads_back command h = decoded (layout command) h command refl refl
 
 -- on each disk that has the command

@@ -1,7 +1,7 @@
 -- The code's table and the definition's table agree on each CDB.
 use Rattle.std.proofs.Common.{◌≡◌, ◌≢◌, ◌<◌, ◌≤◌, ℕ, ◌==◌, List, [], ◌∷◌, length, get_or, map, Bool}
 use Rattle.std.proofs.Common.{true, false, Option, Some, None, Ok, Err, Result, cond, refl, sym, subst}
-use Rattle.std.proofs.Common.{ap, ◌∙◌, arith}
+use Rattle.std.proofs.Common.{ap, eq-eqb, ◌∙◌, arith}
 use Rattle.std.proofs.lemmas.Bool.Decides.{nat_tests}
 use Rattle.std.specs.Borrow.{Bor}
 use Rattle.std.specs.List.{list_all}
@@ -20,6 +20,7 @@ use Rattle.sg_wire.specs.Table.{command_with, fits_masks, layout_of}
 use Rattle.sg_wire.specs.declared.command.CdbFault.{CdbFault}
 use Rattle.sg_wire.specs.declared.command.CdbFault.TheVariants.{Empty, Opcode, Short, Field as BadField}
 use Rattle.sg_wire.specs.declared.command.Class.{Class}
+use Rattle.sg_wire.specs.declared.command.Command.{Command}
 use Rattle.sg_wire.specs.declared.command.Class.TheVariants.{Always}
 use Rattle.sg_wire.specs.declared.command.table.Found.{Found}
 use Rattle.sg_wire.specs.declared.command.table.Found.TheVariants.{Row as FoundRow, NoServiceAction}
@@ -81,14 +82,76 @@ pub at_most_16 : (named : Name) → length (masks (layout_of named)) ≤ 16
 at_most_16 name.TestUnitReady = omega arith
 at_most_16 named = omega arith
 
+-- ---- two commands of one operation code
+
+is_its : (action code : ℕ) → action ≡ code → (action == code) ≡ true
+is_its action code h = eq-eqb action code h
+
+is_no : (action code : ℕ) → action ≢ code → (action == code) ≡ false
+is_no action code h = grind (arith, nat_tests)
+
+module _ (cdb : List ℕ) (first second : Layout) where
+  abbrev found_of_two : Option Layout
+  found_of_two = find (has_action_of cdb) (first ∷ second ∷ [])
+
+  first-of-two : has_action_of cdb first ≡ true → found_of_two ≡ Some first
+  first-of-two e = ap (λ b. cond b (Some first) (find (has_action_of cdb) (second ∷ []))) e
+
+  second-of-two : has_action_of cdb first ≡ false → has_action_of cdb second ≡ true
+      → found_of_two ≡ Some second
+  second-of-two e f =
+      ap (λ b. cond b (Some first) (find (has_action_of cdb) (second ∷ []))) e
+      ∙ ap (λ b. cond b (Some second) None) f
+
+  none-of-two : has_action_of cdb first ≡ false → has_action_of cdb second ≡ false
+      → found_of_two ≡ None
+  none-of-two e f =
+      ap (λ b. cond b (Some first) (find (has_action_of cdb) (second ∷ []))) e
+      ∙ ap (λ b. cond b (Some second) None) f
+
+-- the row of a CDB by its service action
+abbrev IsFoundBy : List ℕ → Name → Type 0
+IsFoundBy cdb named =
+    find (has_action_of cdb) (rows_in Extended (layout_of named).opcode) ≡ Some (layout_of named)
+
+capacity-found : (cdb : List ℕ) → service_action cdb ≡ 0x10 → IsFoundBy cdb name.ReadCapacity16
+capacity-found cdb h =
+    first-of-two cdb (layout_of name.ReadCapacity16) (layout_of name.GetLbaStatus) (is_its _ 0x10 h)
+
+status-found : (cdb : List ℕ) → service_action cdb ≡ 0x12 → IsFoundBy cdb name.GetLbaStatus
+status-found cdb h =
+    second-of-two cdb (layout_of name.ReadCapacity16) (layout_of name.GetLbaStatus)
+    (ap (λ n. n == 0x10) h) (is_its _ 0x12 h)
+
+codes-found : (cdb : List ℕ) → service_action cdb ≡ 0x0C
+    → IsFoundBy cdb name.ReportSupportedOperationCodes
+codes-found cdb h =
+    first-of-two cdb (layout_of name.ReportSupportedOperationCodes)
+    (layout_of name.ReportSupportedTaskManagementFunctions) (is_its _ 0x0C h)
+
+functions-found : (cdb : List ℕ) → service_action cdb ≡ 0x0D
+    → IsFoundBy cdb name.ReportSupportedTaskManagementFunctions
+functions-found cdb h =
+    second-of-two cdb (layout_of name.ReportSupportedOperationCodes)
+    (layout_of name.ReportSupportedTaskManagementFunctions) (ap (λ n. n == 0x0C) h) (is_its _ 0x0D h)
+
+-- the command by the row that is found
+abbrev unless_short_by : (opcode : ℕ) → List ℕ → Option Layout → Result Command CdbFault
+unless_short_by opcode cdb found =
+    if nat_lt (length cdb) (length_of opcode) then Err (Short (length cdb))
+    else command_by_row cdb found
+
 -- the name of a CDB's row decides its command
 decodes : (cdb : List ℕ) (named : Name) → HasAction cdb named
     → command_with (layout_of named).opcode cdb ≡ command_of_name named cdb
 unfolding command_with
 decodes cdb name.PersistentReserveIn h = refl
 decodes cdb name.PersistentReserveOut h = refl
-decodes cdb name.ReadCapacity16 h = rw h refl
-decodes cdb name.GetLbaStatus h = rw h refl
+decodes cdb name.ReadCapacity16 h = ap (unless_short_by 0x9E cdb) (capacity-found cdb h)
+decodes cdb name.GetLbaStatus h = ap (unless_short_by 0x9E cdb) (status-found cdb h)
+decodes cdb name.ReportSupportedOperationCodes h = ap (unless_short_by 0xA3 cdb) (codes-found cdb h)
+decodes cdb name.ReportSupportedTaskManagementFunctions h =
+    ap (unless_short_by 0xA3 cdb) (functions-found cdb h)
 decodes cdb named h = refl
 
 -- ---- what the table has for a CDB
@@ -128,25 +191,43 @@ agrees name.PersistentReserveOut rest h = (
       each_out_action),
   refl,
 )
-agrees name.ReadCapacity16 rest h = (rw h refl, refl)
-agrees name.GetLbaStatus rest h = (rw h refl, refl)
+agrees name.ReadCapacity16 rest h =
+    (ap (λ found. Some (class_or_always found)) (capacity-found (0x9E ∷ rest) h), refl)
+agrees name.GetLbaStatus rest h =
+    (ap (λ found. Some (class_or_always found)) (status-found (0x9E ∷ rest) h), refl)
+agrees name.ReportSupportedOperationCodes rest h =
+    (ap (λ found. Some (class_or_always found)) (codes-found (0xA3 ∷ rest) h), refl)
+agrees name.ReportSupportedTaskManagementFunctions rest h =
+    (ap (λ found. Some (class_or_always found)) (functions-found (0xA3 ∷ rest) h), refl)
 agrees named rest h = (refl, refl)
 
 -- a service action that no command of the operation code has
-is_no : (action code : ℕ) → action ≢ code → (action == code) ≡ false
-is_no action code h = grind (arith, nat_tests)
-
 pub other_16 : (cdb : List ℕ) → service_action cdb ≢ 0x10 → service_action cdb ≢ 0x12
     → IsNamedByNone cdb 0x9E
 unfolding IsNamedByNone
-other_16 cdb h k = rw (is_no (service_action cdb) 0x10 h, is_no (service_action cdb) 0x12 k) refl
+other_16 cdb h k =
+    none-of-two cdb (layout_of name.ReadCapacity16) (layout_of name.GetLbaStatus) (is_no _ 0x10 h)
+    (is_no _ 0x12 k)
+
+pub other_maintenance : (cdb : List ℕ) → service_action cdb ≢ 0x0C → service_action cdb ≢ 0x0D
+    → IsNamedByNone cdb 0xA3
+unfolding IsNamedByNone
+other_maintenance cdb h k =
+    none-of-two cdb (layout_of name.ReportSupportedOperationCodes)
+    (layout_of name.ReportSupportedTaskManagementFunctions) (is_no _ 0x0C h) (is_no _ 0x0D k)
 
 -- a CDB with an operation code has a byte
 pub has_byte : (cdb : List ℕ) → get_or cdb 0 0 ≡ 0x9E → 1 ≤ length cdb
 has_byte [] h = absurd (omega (arith, h))
 has_byte (opcode ∷ rest) h = omega arith
 
-pub ruleset without_action = (other_16, has_byte)
+pub has_byte_in : (cdb : List ℕ) → get_or cdb 0 0 ≡ 0xA3 → 1 ≤ length cdb
+has_byte_in [] h = absurd (omega (arith, h))
+has_byte_in (opcode ∷ rest) h = omega arith
+
+pub ruleset without_action_in_16 = (other_16, has_byte)
+
+pub ruleset without_maintenance_action = (other_maintenance, has_byte_in)
 
 -- all of them are blocked by an attention, or none
 blocked-rows : (named : Name)

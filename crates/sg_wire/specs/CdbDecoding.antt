@@ -53,7 +53,7 @@ field_bits l k =
 -- Choice (SPC-4, 3.3, reserved): a reserved or obsolete bit may be ignored.
 -- Choice (SAM-5, 5.2): bits 7 and 6 of CONTROL may have a meaning.
 abbrev pub mask_of : Layout → ℕ → ℕ
-mask_of l k = bit_or (field_bits l k) (bits_in k l.ignored)
+mask_of l k = bit_or (field_bits l k) (bits_in k (l.free.used ++ l.free.ignored))
 
 -- The bits that may be set, byte by byte.
 abbrev pub masks : Layout → List ℕ

@@ -3,10 +3,12 @@ use Rattle.std.specs.Prelude.{ℕ, Bool}
 use Rattle.sg_wire.specs.declared.command.Command.{Command}
 use Rattle.sg_wire.specs.declared.command.Command.TheVariants as command
 use Rattle.sg_wire.specs.declared.command.block.Extent10.{Extent10}
+use Rattle.sg_wire.specs.declared.command.block.Extent12.{Extent12}
 use Rattle.sg_wire.specs.declared.command.block.Extent16.{Extent16}
 use Rattle.sg_wire.specs.declared.command.in_action.InAction.{InAction}
 use Rattle.sg_wire.specs.declared.command.mode.PageRequest.{PageRequest}
 use Rattle.sg_wire.specs.declared.command.out_action.OutAction.{OutAction}
+use Rattle.sg_wire.specs.ByteCheck.{byte_check_of}
 use Rattle.sg_wire.specs.PageControl.{page_control_of}
 
 -- ---- Primary commands (SPC-4, 6)
@@ -57,11 +59,45 @@ reserve_out action scope_type n = command.PersistentReserveOut (record {
   list_length = n;
 })
 
+abbrev pub log_sense : (page subpage allocation_length : ℕ) → Command
+log_sense page subpage n = command.LogSense (record {
+  page_code = page;
+  subpage_code = subpage;
+  allocation_length = n;
+})
+
+abbrev pub report_luns : (select allocation_length : ℕ) → Command
+report_luns select n = command.ReportLuns (record { select = select; allocation_length = n })
+
+abbrev pub report_operation_codes : (timeouts : Bool) (options opcode action allocation_length : ℕ)
+    → Command
+report_operation_codes timeouts options opcode action n =
+    command.ReportSupportedOperationCodes (record {
+      timeouts = timeouts;
+      options = options;
+      opcode = opcode;
+      action = action;
+      allocation_length = n;
+    })
+
+abbrev pub report_task_management : (timeouts : Bool) (allocation_length : ℕ) → Command
+report_task_management timeouts n = command.ReportSupportedTaskManagementFunctions (record {
+  timeouts = timeouts;
+  allocation_length = n;
+})
+
+abbrev pub send_diagnostic : (code : ℕ) (self_test : Bool) (list_length : ℕ) → Command
+send_diagnostic code self_test n =
+    command.SendDiagnostic (record { code = code; self_test = self_test; list_length = n })
+
 -- ---- Block commands (SBC-3, 5)
 
--- A command that names a range of blocks and nothing else, in a CDB of 10 bytes, and of 16.
+-- A command that names a range of blocks and nothing else, in CDBs of 10, 12 and 16 bytes.
 abbrev pub naming_10 : (Extent10 → Command) → (lba count : ℕ) → Command
 naming_10 command lba n = command (record { lba = lba; count = n })
+
+abbrev pub naming_12 : (Extent12 → Command) → (lba count : ℕ) → Command
+naming_12 command lba n = command (record { lba = lba; count = n })
 
 abbrev pub naming_16 : (Extent16 → Command) → (lba count : ℕ) → Command
 naming_16 command lba n = command (record { lba = lba; count = n })
@@ -69,11 +105,49 @@ naming_16 command lba n = command (record { lba = lba; count = n })
 abbrev pub no_blocks_10 : Extent10
 no_blocks_10 = record { lba = 0; count = 0 }
 
+abbrev pub no_blocks_12 : Extent12
+no_blocks_12 = record { lba = 0; count = 0 }
+
 abbrev pub no_blocks_16 : Extent16
 no_blocks_16 = record { lba = 0; count = 0 }
 
 abbrev pub read_capacity_16 : (allocation_length : ℕ) → Command
 read_capacity_16 n = command.ReadCapacity16 (record { allocation_length = n })
+
+abbrev pub read_defect_data_10 : (plist glist : Bool) (format allocation_length : ℕ) → Command
+read_defect_data_10 plist glist format n = command.ReadDefectData10 (record {
+  plist = plist;
+  glist = glist;
+  format = format;
+  allocation_length = n;
+})
+
+abbrev pub read_defect_data_12 : (plist glist : Bool) (format index allocation_length : ℕ) → Command
+read_defect_data_12 plist glist format index n = command.ReadDefectData12 (record {
+  plist = plist;
+  glist = glist;
+  format = format;
+  index = index;
+  allocation_length = n;
+})
+
+abbrev pub write_and_verify_10 : (byte_check lba count : ℕ) → Command
+write_and_verify_10 check lba n = command.WriteAndVerify10 (record {
+  byte_check = byte_check_of check;
+  extent = record { lba = lba; count = n };
+})
+
+abbrev pub write_and_verify_12 : (byte_check lba count : ℕ) → Command
+write_and_verify_12 check lba n = command.WriteAndVerify12 (record {
+  byte_check = byte_check_of check;
+  extent = record { lba = lba; count = n };
+})
+
+abbrev pub write_and_verify_16 : (byte_check lba count : ℕ) → Command
+write_and_verify_16 check lba n = command.WriteAndVerify16 (record {
+  byte_check = byte_check_of check;
+  extent = record { lba = lba; count = n };
+})
 
 abbrev pub write_long_10 : (cor_dis wr_uncor : Bool) (lba length : ℕ) → Command
 write_long_10 cor_dis wr_uncor lba n =

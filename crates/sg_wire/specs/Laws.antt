@@ -1,14 +1,20 @@
--- Laws of CDBs, and of answers that are put in parts.
-use Rattle.std.specs.Prelude.{◌≡◌, ◌<◌, ◌≤◌, ℕ, ◌==◌, List, [], ◌++◌, length, take, Some, Ok, Err}
-use Rattle.std.specs.Prelude.{Bool, true, if◌then◌else◌}
+-- Laws of CDBs, of answers that are put in parts, and of CDB USAGE DATA.
+use Rattle.std.specs.Prelude.{◌≡◌, ◌≢◌, ◌<◌, ◌≤◌, ℕ, ◌^◌, ◌==◌, List, [], ◌++◌, length, map, take}
+use Rattle.std.specs.Prelude.{Some, Ok, Err, Bool, true, false, not, ◌&&◌, ◌||◌, if◌then◌else◌}
+use Rattle.std.specs.Prelude.{bit_and, slice_index}
+use Rattle.std.specs.List.{Contains, list_any}
 use Rattle.std.specs.Borrow.{GName}
+use Rattle.sg_wire.specs.Bits.{has_bit}
+use Rattle.sg_wire.specs.CdbFields.{Field, Place, mask_in}
 use Rattle.sg_wire.specs.Cut.{IsLeftIn, Puts, answer_of}
 use Rattle.sg_wire.specs.CutAnswer.{CutAnswer, empty_answer, put, replace}
 use Rattle.sg_wire.specs.FirstBytes.{first_bytes, overwritten}
-use Rattle.sg_wire.specs.CdbDecoding.{class_in, command_in, is_blocked_in, rows_in}
+use Rattle.sg_wire.specs.CdbDecoding.{action_places, class_in, command_in, first_bad, is_blocked_in}
+use Rattle.sg_wire.specs.CdbDecoding.{masks, rows_in}
 use Rattle.sg_wire.specs.CdbEncoding.{cdb_of}
-use Rattle.sg_wire.specs.Layout.{layout}
+use Rattle.sg_wire.specs.Layout.{Layout, layout, length_of}
 use Rattle.sg_wire.specs.Profile.{is_in}
+use Rattle.sg_wire.specs.SupportedOperations.{rows_of, usage_data}
 use Rattle.sg_wire.specs.declared.command.CdbFault.{CdbFault}
 use Rattle.sg_wire.specs.declared.command.CdbFault.TheVariants.{Empty, Short}
 use Rattle.sg_wire.specs.declared.command.Command.{Command}
@@ -95,3 +101,30 @@ pub record AnswersAreInTheirBuffers : Type 0 where
   pub left : (buffer : GName) (bytes after full : List ℕ) (limit : ℕ) (begun done : Cut)
       → answer_of begun ≡ empty_answer buffer bytes limit → Puts begun done full
       → IsLeftIn done buffer after → after ≡ overwritten (first_bytes limit full) bytes
+
+-- ---- CDB USAGE DATA
+
+-- Bit i of byte k is in one of some places.
+abbrev pub is_within : List Place → (k i : ℕ) → Bool
+is_within places k i = list_any (λ place. has_bit (mask_in k place) (2 ^ i)) places
+
+-- The disk evaluates the bit: it is in a field and not ignored, or it is one of the used free bits.
+abbrev pub is_evaluated : Layout → (k i : ℕ) → Bool
+is_evaluated l k i =
+    is_within (map (λ (f : Field). f.place) l.fields) k i && not (is_within l.free.ignored k i)
+    || is_within l.free.used k i
+
+-- The bit is in a row's CDB, but not in its operation code or service action.
+abbrev pub IsBitOf : Layout → (k i : ℕ) → Type 0
+IsBitOf l k i =
+    (1 ≤ k) × (k < length_of l.opcode) × (i < 8) × (is_within (action_places l.action) k i ≡ false)
+
+-- A bit of CDB USAGE DATA is set exactly if the disk evaluates it. If CDB USAGE DATA has each bit of
+-- a CDB's byte, the disk does not refuse the CDB for this byte.
+pub record UsageDataIsEvaluated : Type 0 where
+  pub bits : (profile : Profile) (l : Layout) (k i : ℕ) → Contains (rows_of profile) l
+      → IsBitOf l k i → has_bit (slice_index (usage_data l) k) (2 ^ i) ≡ is_evaluated l k i
+  pub allowed : (profile : Profile) (l : Layout) (k : ℕ) (cdb : List ℕ)
+      → Contains (rows_of profile) l
+      → bit_and (slice_index cdb k) (slice_index (usage_data l) k) ≡ slice_index cdb k
+      → first_bad 0 (masks l) cdb ≢ Some k

@@ -8,9 +8,14 @@ use Rattle.sg_wire.specs.declared.command.Class.TheVariants.{Always, Reads, Writ
 use Rattle.sg_wire.specs.declared.command.Command.{Command}
 use Rattle.sg_wire.specs.declared.command.Command.TheVariants as command
 use Rattle.sg_wire.specs.declared.command.block.Extent10.{Extent10}
+use Rattle.sg_wire.specs.declared.command.block.Extent12.{Extent12}
 use Rattle.sg_wire.specs.declared.command.block.Extent16.{Extent16}
 use Rattle.sg_wire.specs.declared.command.block.ReadCapacity16.{ReadCapacity16}
 use Rattle.sg_wire.specs.declared.command.block.WriteLong10.{WriteLong10}
+use Rattle.sg_wire.specs.declared.command.diagnostic.LogSense.{LogSense}
+use Rattle.sg_wire.specs.declared.command.diagnostic.ReadDefectData10.{ReadDefectData10}
+use Rattle.sg_wire.specs.declared.command.diagnostic.ReadDefectData12.{ReadDefectData12}
+use Rattle.sg_wire.specs.declared.command.diagnostic.SendDiagnostic.{SendDiagnostic}
 use Rattle.sg_wire.specs.declared.command.mode.ModeSelect10.{ModeSelect10}
 use Rattle.sg_wire.specs.declared.command.mode.ModeSelect6.{ModeSelect6}
 use Rattle.sg_wire.specs.declared.command.mode.ModeSense10.{ModeSense10}
@@ -22,8 +27,15 @@ use Rattle.sg_wire.specs.declared.command.provisioning.GetLbaStatus.{GetLbaStatu
 use Rattle.sg_wire.specs.declared.command.provisioning.Unmap.{Unmap}
 use Rattle.sg_wire.specs.declared.command.provisioning.WriteSame10.{WriteSame10}
 use Rattle.sg_wire.specs.declared.command.provisioning.WriteSame16.{WriteSame16}
+use Rattle.sg_wire.specs.declared.command.report.ReportLuns.{ReportLuns}
+use Rattle.sg_wire.specs.declared.command.report.ReportSupportedOperationCodes.{ReportSupportedOperationCodes}
+use Rattle.sg_wire.specs.declared.command.report.ReportSupportedTaskManagementFunctions as functions
 use Rattle.sg_wire.specs.declared.command.reservation.PersistentReserveIn.{PersistentReserveIn}
 use Rattle.sg_wire.specs.declared.command.reservation.PersistentReserveOut.{PersistentReserveOut}
+use Rattle.sg_wire.specs.declared.command.verify.Verify10.{Verify10}
+use Rattle.sg_wire.specs.declared.command.verify.Verify12.{Verify12}
+use Rattle.sg_wire.specs.declared.command.verify.Verify16.{Verify16}
+use Rattle.sg_wire.specs.ByteCheck.{byte_check_code}
 use Rattle.sg_wire.specs.Commands as make
 use Rattle.sg_wire.specs.PageControl.{page_control_code}
 use Rattle.sg_wire.specs.ReservationAction.{in_code, out_code, each_in_action, each_out_action}
@@ -46,10 +58,17 @@ pub data ServiceAction : Type 0 where
 
 -- ---- The table
 
--- A command's CDB, on disks of a profile. Bits of the ignored places may have any value. All other
--- bits outside the fields have to be zero, and so has CONTROL, the last byte. The class says how the
--- command meets a reservation of another initiator (SPC-4, 5.13). `blocked_by_attention`: a pending
--- unit attention is reported in place of the command (SAM-5, 5.14).
+-- Bits beside the fields that may have any value.
+pub record FreeBits : Type 0 where
+  -- they have a meaning, which changes nothing here: DPO and FUA of a disk without a cache
+  pub used : List Place
+  -- the disk does not look at them: obsolete bits, and a GROUP NUMBER
+  pub ignored : List Place
+
+-- A command's CDB, on disks of a profile. All bits outside the fields and the free bits have to be
+-- zero, and so has CONTROL, the last byte. The class says how the command meets a reservation of
+-- another initiator (SPC-4, 5.13). `blocked_by_attention`: a pending unit attention is reported in
+-- place of the command (SAM-5, 5.14).
 pub record Layout : Type 0 where
   pub profile : Profile
   pub opcode : ℕ
@@ -57,31 +76,31 @@ pub record Layout : Type 0 where
   pub class : Class
   pub blocked_by_attention : Bool
   pub fields : List Field
-  pub ignored : List Place
+  pub free : FreeBits
   pub make : Maker fields
 
 -- A row of the base profile: each disk has its command.
-abbrev base : ℕ → ServiceAction → Class → Bool → (fields : List Field) → List Place → Maker fields
+abbrev base : ℕ → ServiceAction → Class → Bool → (fields : List Field) → FreeBits → Maker fields
     → Layout
-base opcode action class blocked fields ignored make = record {
+base opcode action class blocked fields free make = record {
   profile = Base;
   opcode = opcode;
   action = action;
   class = class;
   blocked_by_attention = blocked;
   fields = fields;
-  ignored = ignored;
+  free = free;
   make = make;
 }
 
 -- A row of the extended profile.
-abbrev extended : ℕ → ServiceAction → Class → Bool → (fields : List Field) → List Place → Maker fields
+abbrev extended : ℕ → ServiceAction → Class → Bool → (fields : List Field) → FreeBits → Maker fields
     → Layout
-extended opcode action class blocked fields ignored make =
-    record (base opcode action class blocked fields ignored make) { profile = Extended }
+extended opcode action class blocked fields free make =
+    record (base opcode action class blocked fields free make) { profile = Extended }
 
--- INQUIRY and REQUEST SENSE are executed in spite of a pending unit attention (SPC-4, 6.6.1 and
--- 6.39).
+-- INQUIRY, REPORT LUNS and REQUEST SENSE are executed in spite of a pending unit attention (SPC-4,
+-- 6.6.1, 6.33 and 6.39).
 abbrev blocked : Bool
 blocked = true
 
@@ -121,13 +140,16 @@ abbrev mode_sense_10 : ModeSense10 → List Field
 mode_sense_10 c =
     field (bit 1 4) c.llbaa ∷ page_request c.page ++ field (bytes 7 8) c.allocation_length ∷ []
 
--- LOGICAL BLOCK ADDRESS and TRANSFER LENGTH, or NUMBER OF LOGICAL BLOCKS, in CDBs of 6, 10 and 16
--- bytes.
+-- LOGICAL BLOCK ADDRESS and TRANSFER LENGTH, NUMBER OF LOGICAL BLOCKS or PREFETCH LENGTH, in CDBs of
+-- 6, 10, 12 and 16 bytes.
 abbrev pub extent_6 : ℕ × ℕ → List Field
 extent_6 extent = field short_extent extent ∷ []
 
 abbrev pub extent_10 : Extent10 → List Field
 extent_10 c = field (bytes 2 5) c.lba ∷ field (bytes 7 8) c.count ∷ []
+
+abbrev pub extent_12 : Extent12 → List Field
+extent_12 c = field (bytes 2 5) c.lba ∷ field (bytes 6 9) c.count ∷ []
 
 abbrev pub extent_16 : Extent16 → List Field
 extent_16 c = field (bytes 2 9) c.lba ∷ field (bytes 10 13) c.count ∷ []
@@ -163,6 +185,53 @@ write_long_10 c =
     field (bit 1 7) c.cor_dis ∷ field (bit 1 6) c.wr_uncor ∷ field (bytes 2 5) c.lba
     ∷ field (bytes 7 8) c.length ∷ []
 
+-- BYTCHK, LOGICAL BLOCK ADDRESS and TRANSFER LENGTH of WRITE AND VERIFY.
+abbrev pub verify_10 : Verify10 → List Field
+verify_10 c = field (bits 1 2 1) (byte_check_code c.byte_check) ∷ extent_10 c.extent
+
+abbrev pub verify_12 : Verify12 → List Field
+verify_12 c = field (bits 1 2 1) (byte_check_code c.byte_check) ∷ extent_12 c.extent
+
+abbrev pub verify_16 : Verify16 → List Field
+verify_16 c = field (bits 1 2 1) (byte_check_code c.byte_check) ∷ extent_16 c.extent
+
+-- REQ_PLIST, REQ_GLIST, DEFECT LIST FORMAT and ALLOCATION LENGTH. The CDB of 12 bytes has ADDRESS
+-- DESCRIPTOR INDEX, too.
+abbrev read_defect_data_10 : ReadDefectData10 → List Field
+read_defect_data_10 c =
+    field (bit 2 4) c.plist ∷ field (bit 2 3) c.glist ∷ field (bits 2 2 0) c.format
+    ∷ field (bytes 7 8) c.allocation_length ∷ []
+
+abbrev read_defect_data_12 : ReadDefectData12 → List Field
+read_defect_data_12 c =
+    field (bit 1 4) c.plist ∷ field (bit 1 3) c.glist ∷ field (bits 1 2 0) c.format
+    ∷ field (bytes 2 5) c.index ∷ field (bytes 6 9) c.allocation_length ∷ []
+
+-- SELF-TEST CODE, SELFTEST and PARAMETER LIST LENGTH.
+abbrev send_diagnostic : SendDiagnostic → List Field
+send_diagnostic c =
+    field (bits 1 7 5) c.code ∷ field (bit 1 2) c.self_test ∷ field (bytes 3 4) c.list_length ∷ []
+
+-- PAGE CODE, SUBPAGE CODE and ALLOCATION LENGTH.
+abbrev log_sense : LogSense → List Field
+log_sense c =
+    field (bits 2 5 0) c.page_code ∷ field (bytes 3 3) c.subpage_code
+    ∷ field (bytes 7 8) c.allocation_length ∷ []
+
+-- SELECT REPORT and ALLOCATION LENGTH.
+abbrev report_luns : ReportLuns → List Field
+report_luns c = field (bytes 2 2) c.select ∷ field (bytes 6 9) c.allocation_length ∷ []
+
+-- RCTD, REPORTING OPTIONS, REQUESTED OPERATION CODE, REQUESTED SERVICE ACTION and ALLOCATION LENGTH.
+abbrev report_operation_codes : ReportSupportedOperationCodes → List Field
+report_operation_codes c =
+    field (bit 2 7) c.timeouts ∷ field (bits 2 2 0) c.options ∷ field (bytes 3 3) c.opcode
+    ∷ field (bytes 4 5) c.action ∷ field (bytes 6 9) c.allocation_length ∷ []
+
+-- REPD and ALLOCATION LENGTH.
+abbrev report_task_management : functions.ReportSupportedTaskManagementFunctions → List Field
+report_task_management c = field (bit 2 7) c.timeouts ∷ field (bytes 6 9) c.allocation_length ∷ []
+
 -- STARTING LOGICAL BLOCK ADDRESS and ALLOCATION LENGTH.
 abbrev get_lba_status : GetLbaStatus → List Field
 get_lba_status c = field (bytes 2 9) c.start ∷ field (bytes 10 13) c.allocation_length ∷ []
@@ -175,57 +244,119 @@ reserve_in c = field (bytes 7 8) c.allocation_length ∷ []
 abbrev reserve_out : PersistentReserveOut → List Field
 reserve_out c = field (bytes 2 2) c.scope_type ∷ field (bytes 5 8) c.list_length ∷ []
 
--- The disk has no cache and groups no blocks. So of READ and WRITE it ignores DPO, FUA, the
--- obsolete bit 1 and the GROUP NUMBER. Of SYNCHRONIZE CACHE it ignores the obsolete bit 2, IMMED
--- and the GROUP NUMBER. Of WRITE SAME and UNMAP it ignores the GROUP NUMBER.
+-- ---- Bits that may have any value
+
+abbrev no_bits : FreeBits
+no_bits = record { used = []; ignored = [] }
+
+-- The disk has no cache and groups no blocks. So of a command that moves blocks it need not look at
+-- DPO, FUA, the obsolete bit 1 and the GROUP NUMBER. FUA and the obsolete bit 1 are not in each CDB.
 -- Choice (SBC-3, 5.11): the obsolete bit 1 may be refused.
 -- Choice (SBC-3, RARC): RARC may be ignored.
-abbrev cache_bits : (group_byte : ℕ) → List Place
-cache_bits group_byte = bit 1 4 ∷ bit 1 3 ∷ bit 1 1 ∷ bits group_byte 4 0 ∷ []
+abbrev cache_bits : (group_byte : ℕ) → FreeBits
+cache_bits group_byte =
+    record { used = bit 1 4 ∷ bit 1 3 ∷ []; ignored = bit 1 1 ∷ bits group_byte 4 0 ∷ [] }
 
+abbrev dpo_bit : (group_byte : ℕ) → FreeBits
+dpo_bit group_byte = record { used = bit 1 4 ∷ []; ignored = bits group_byte 4 0 ∷ [] }
+
+-- IMMED and the GROUP NUMBER.
+abbrev immed_bit : (group_byte : ℕ) → FreeBits
+immed_bit group_byte = record { used = bit 1 1 ∷ []; ignored = bits group_byte 4 0 ∷ [] }
+
+-- SYNCHRONIZE CACHE has an obsolete bit 2, too.
 -- Choice (SBC-3, 5.26): the obsolete bit 2 may be refused.
-abbrev immed_bits : (group_byte : ℕ) → List Place
-immed_bits group_byte = bit 1 2 ∷ bit 1 1 ∷ bits group_byte 4 0 ∷ []
+abbrev immed_bits : (group_byte : ℕ) → FreeBits
+immed_bits group_byte =
+    record (immed_bit group_byte) { ignored = bit 1 2 ∷ bits group_byte 4 0 ∷ [] }
 
 -- Choice (SBC-3, grouping function): a GROUP NUMBER may be refused.
-abbrev group_number : (byte : ℕ) → List Place
-group_number byte = bits byte 4 0 ∷ []
+abbrev group_number : (byte : ℕ) → FreeBits
+group_number byte = record no_bits { ignored = bits byte 4 0 ∷ [] }
+
+-- PF, DEVOFFL and UNITOFFL of SEND DIAGNOSTIC: no page is sent, and the self-test disturbs nothing.
+abbrev diagnostic_bits : FreeBits
+diagnostic_bits = record no_bits { ignored = bit 1 4 ∷ bit 1 1 ∷ bit 1 0 ∷ [] }
+
+-- PC and PARAMETER POINTER of LOG SENSE: no page has values to choose from, or a parameter that is
+-- left out.
+abbrev log_bits : FreeBits
+log_bits = record { used = bits 2 7 6 ∷ []; ignored = bytes 5 6 ∷ [] }
+
+-- ---- The rows
 
 -- A row of a command that names a range of blocks and nothing else, in a CDB of 10 bytes, and of 16.
-abbrev range_10 : (opcode : ℕ) → Class → List Place → (Extent10 → Command) → Extent10 → Layout
-range_10 opcode class ignored command c =
-    base opcode none class blocked (extent_10 c) ignored (make.naming_10 command)
+abbrev range_10 : (opcode : ℕ) → Class → FreeBits → (Extent10 → Command) → Extent10 → Layout
+range_10 opcode class free command c =
+    base opcode none class blocked (extent_10 c) free (make.naming_10 command)
 
-abbrev range_16 : (opcode : ℕ) → Class → List Place → (Extent16 → Command) → Extent16 → Layout
-range_16 opcode class ignored command c =
-    base opcode none class blocked (extent_16 c) ignored (make.naming_16 command)
+abbrev range_12 : (opcode : ℕ) → Class → FreeBits → (Extent12 → Command) → Extent12 → Layout
+range_12 opcode class free command c =
+    extended opcode none class blocked (extent_12 c) free (make.naming_12 command)
+
+abbrev range_16 : (opcode : ℕ) → Class → FreeBits → (Extent16 → Command) → Extent16 → Layout
+range_16 opcode class free command c =
+    base opcode none class blocked (extent_16 c) free (make.naming_16 command)
+
+abbrev in_extended : Layout → Layout
+in_extended l = record l { profile = Extended }
 
 -- One row for each command: profile, operation code, service action, class, unit attention, fields,
--- ignored places, and the command itself. The commands of SPC-4, 6, come first, and then the
--- commands of SBC-3, 5 (READ(6) and WRITE(6) of SBC-2). Last come PERSISTENT RESERVE IN and OUT of
--- SPC-4, which have service actions. All rows of an operation code are of one profile.
+-- free bits, and the command itself. The commands of SPC-4, 6, come first, and then the commands of
+-- SBC-3, 5 (READ(6) and WRITE(6) of SBC-2). Last come PERSISTENT RESERVE IN and OUT of SPC-4, which
+-- have service actions. All rows of an operation code are of one profile.
 abbrev pub layout : Command → Layout
-layout command.TestUnitReady = base 0x00 none Always blocked [] [] command.TestUnitReady
+layout command.TestUnitReady = base 0x00 none Always blocked [] no_bits command.TestUnitReady
 layout (command.RequestSense c) =
-    base 0x03 none Always unblocked (request_sense c) [] make.request_sense
-layout (command.Inquiry c) = base 0x12 none Always unblocked (inquiry c) [] make.inquiry
-layout (command.ModeSelect6 c) = base 0x15 none Writes blocked (mode_select_6 c) [] make.mode_select_6
+    base 0x03 none Always unblocked (request_sense c) no_bits make.request_sense
+layout (command.Inquiry c) = base 0x12 none Always unblocked (inquiry c) no_bits make.inquiry
+layout (command.ModeSelect6 c) = base 0x15 none Writes blocked (mode_select_6 c) no_bits make.mode_select_6
 layout (command.ModeSelect10 c) =
-    base 0x55 none Writes blocked (mode_select_10 c) [] make.mode_select_10
-layout (command.ModeSense6 c) = base 0x1A none Reads blocked (mode_sense_6 c) [] make.mode_sense_6
-layout (command.ModeSense10 c) = base 0x5A none Reads blocked (mode_sense_10 c) [] make.mode_sense_10
-layout (command.Read6 c) = base 0x08 none Reads blocked (extent_6 c) [] command.Read6
+    base 0x55 none Writes blocked (mode_select_10 c) no_bits make.mode_select_10
+layout (command.ModeSense6 c) = base 0x1A none Reads blocked (mode_sense_6 c) no_bits make.mode_sense_6
+layout (command.ModeSense10 c) = base 0x5A none Reads blocked (mode_sense_10 c) no_bits make.mode_sense_10
+layout (command.LogSense c) =
+    extended 0x4D none Always blocked (log_sense c) log_bits make.log_sense
+layout (command.ReportLuns c) =
+    extended 0xA0 none Always unblocked (report_luns c) no_bits make.report_luns
+layout (command.ReportSupportedOperationCodes c) =
+    extended 0xA3 (named 0x0C) Reads blocked (report_operation_codes c) no_bits
+    make.report_operation_codes
+layout (command.ReportSupportedTaskManagementFunctions c) =
+    extended 0xA3 (named 0x0D) Reads blocked (report_task_management c) no_bits
+    make.report_task_management
+layout (command.SendDiagnostic c) =
+    extended 0x1D none Writes blocked (send_diagnostic c) diagnostic_bits make.send_diagnostic
+layout (command.PreFetch10 c) =
+    in_extended (range_10 0x34 Reads (immed_bit 6) command.PreFetch10 c)
+layout (command.PreFetch16 c) =
+    in_extended (range_16 0x90 Reads (immed_bit 14) command.PreFetch16 c)
+layout (command.Read6 c) = base 0x08 none Reads blocked (extent_6 c) no_bits command.Read6
 layout (command.Read10 c) = range_10 0x28 Reads (cache_bits 6) command.Read10 c
+layout (command.Read12 c) = range_12 0xA8 Reads (cache_bits 10) command.Read12 c
 layout (command.Read16 c) = range_16 0x88 Reads (cache_bits 14) command.Read16 c
-layout (command.Write6 c) = base 0x0A none Writes blocked (extent_6 c) [] command.Write6
+layout (command.Write6 c) = base 0x0A none Writes blocked (extent_6 c) no_bits command.Write6
 layout (command.Write10 c) = range_10 0x2A Writes (cache_bits 6) command.Write10 c
+layout (command.Write12 c) = range_12 0xAA Writes (cache_bits 10) command.Write12 c
 layout (command.Write16 c) = range_16 0x8A Writes (cache_bits 14) command.Write16 c
-layout command.ReadCapacity10 = base 0x25 none Always blocked [] [] command.ReadCapacity10
+layout command.ReadCapacity10 = base 0x25 none Always blocked [] no_bits command.ReadCapacity10
 layout (command.ReadCapacity16 c) =
-    base 0x9E (named 0x10) Always blocked (read_capacity_16 c) [] make.read_capacity_16
+    base 0x9E (named 0x10) Always blocked (read_capacity_16 c) no_bits make.read_capacity_16
+layout (command.ReadDefectData10 c) =
+    extended 0x37 none Reads blocked (read_defect_data_10 c) no_bits make.read_defect_data_10
+layout (command.ReadDefectData12 c) =
+    extended 0xB7 none Reads blocked (read_defect_data_12 c) no_bits make.read_defect_data_12
 layout (command.SynchronizeCache10 c) = range_10 0x35 Writes (immed_bits 6) command.SynchronizeCache10 c
+layout (command.SynchronizeCache16 c) =
+    in_extended (range_16 0x91 Writes (immed_bits 14) command.SynchronizeCache16 c)
+layout (command.WriteAndVerify10 c) =
+    extended 0x2E none Writes blocked (verify_10 c) (dpo_bit 6) make.write_and_verify_10
+layout (command.WriteAndVerify12 c) =
+    extended 0xAE none Writes blocked (verify_12 c) (dpo_bit 10) make.write_and_verify_12
+layout (command.WriteAndVerify16 c) =
+    extended 0x8E none Writes blocked (verify_16 c) (dpo_bit 14) make.write_and_verify_16
 layout (command.WriteLong10 c) =
-    extended 0x3F none Writes blocked (write_long_10 c) [] make.write_long_10
+    extended 0x3F none Writes blocked (write_long_10 c) no_bits make.write_long_10
 layout (command.WriteSame10 c) =
     base 0x41 none Writes blocked (write_same_10 c) (group_number 6) make.write_same_10
 layout (command.WriteSame16 c) =
@@ -233,17 +364,17 @@ layout (command.WriteSame16 c) =
 layout (command.Unmap c) =
     base 0x42 none Writes blocked (unmap c) (group_number 6) make.unmap
 layout (command.GetLbaStatus c) =
-    base 0x9E (named 0x12) Reads blocked (get_lba_status c) [] make.get_lba_status
+    base 0x9E (named 0x12) Reads blocked (get_lba_status c) no_bits make.get_lba_status
 layout (command.PersistentReserveIn c) =
-    base 0x5E (named (in_code c.action)) Always blocked (reserve_in c) [] (make.reserve_in c.action)
+    base 0x5E (named (in_code c.action)) Always blocked (reserve_in c) no_bits (make.reserve_in c.action)
 layout (command.PersistentReserveOut c) =
-    base 0x5F (named (out_code c.action)) Always blocked (reserve_out c) [] (make.reserve_out c.action)
+    base 0x5F (named (out_code c.action)) Always blocked (reserve_out c) no_bits (make.reserve_out c.action)
 
 -- Each command once; if its service action is a value of it, the command comes once with each
 -- service action. Only the places of its fields matter here, not their values.
--- Departure (SPC-4, 6.33): REPORT LUNS is mandatory there.
+-- Departure (SPC-4, 6.33): REPORT LUNS is mandatory there, and a base disk lacks it.
 -- Departure (SBC-3, 5.3): FORMAT UNIT is mandatory there.
--- Departure (SPC-4, 6.42): SEND DIAGNOSTIC is mandatory for a disk there.
+-- Departure (SPC-4, 6.42): SEND DIAGNOSTIC is mandatory for a disk there, and a base disk lacks it.
 abbrev pub each_command : List Command
 each_command =
     command.TestUnitReady
@@ -253,15 +384,30 @@ each_command =
     ∷ make.mode_select_10 false false 0
     ∷ make.mode_sense_6 false 0 0 0 0
     ∷ make.mode_sense_10 false false 0 0 0 0
+    ∷ make.log_sense 0 0 0
+    ∷ make.report_luns 0 0
+    ∷ make.report_operation_codes false 0 0 0 0
+    ∷ make.report_task_management false 0
+    ∷ make.send_diagnostic 0 false 0
+    ∷ command.PreFetch10 make.no_blocks_10
+    ∷ command.PreFetch16 make.no_blocks_16
     ∷ command.Read6 (0, 1)
     ∷ command.Read10 make.no_blocks_10
+    ∷ command.Read12 make.no_blocks_12
     ∷ command.Read16 make.no_blocks_16
     ∷ command.Write6 (0, 1)
     ∷ command.Write10 make.no_blocks_10
+    ∷ command.Write12 make.no_blocks_12
     ∷ command.Write16 make.no_blocks_16
     ∷ command.ReadCapacity10
     ∷ make.read_capacity_16 0
+    ∷ make.read_defect_data_10 false false 0 0
+    ∷ make.read_defect_data_12 false false 0 0 0
     ∷ command.SynchronizeCache10 make.no_blocks_10
+    ∷ command.SynchronizeCache16 make.no_blocks_16
+    ∷ make.write_and_verify_10 0 0 0
+    ∷ make.write_and_verify_12 0 0 0
+    ∷ make.write_and_verify_16 0 0 0
     ∷ make.write_long_10 false false 0 0
     ∷ make.write_same_10 false false 0 0
     ∷ make.write_same_16 false false 0 0
@@ -274,7 +420,7 @@ abbrev pub table : List Layout
 table = map layout each_command
 
 -- The length of a CDB follows from the group code, the top three bits of the operation code (SPC-4,
--- 4.2.5.1). The table has rows of groups 0, 1, 2 and 4. A CDB of group 5 would have 12 bytes.
+-- 4.2.5.1). The table has rows of groups 0, 1, 2, 4 and 5.
 abbrev pub length_of : ℕ → ℕ
 length_of opcode =
     let group = opcode / 32 in

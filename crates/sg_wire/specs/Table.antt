@@ -1,22 +1,24 @@
 -- The code's table of commands: each row has what the command's layout says, and each CDB gets the
 -- row of its command.
-use Rattle.std.specs.Prelude.{ℕ, ◌≡◌, ◌≤◌, ◌-◌, List, [], length, map, slice_index, Bool, true}
-use Rattle.std.specs.Prelude.{false, bit_and}
-use Rattle.std.specs.List.{range_with_len}
+use Rattle.std.specs.Prelude.{ℕ, ◌≡◌, ◌≤◌, List, [], length, map, slice_index, Bool, true}
+use Rattle.std.specs.Prelude.{false, filter, ◌==◌, ◌&&◌}
 use Rattle.std.specs.Prelude.{Option, Some, None, Result, Ok, Err, find, nat_lt, if◌then◌else◌}
-use Rattle.sg_wire.specs.CdbDecoding.{bits_in, command_by_row, command_by_rows, field_bits}
+use Rattle.sg_wire.specs.CdbDecoding.{command_by_row, command_by_rows}
 use Rattle.sg_wire.specs.CdbDecoding.{first_bad, has_action_of, make_from, masks, rows_in}
 use Rattle.sg_wire.specs.CdbDecoding.{service_action, unless_bad}
 use Rattle.sg_wire.specs.Commands as make
-use Rattle.sg_wire.specs.Layout.{Layout, ServiceAction, layout, length_of}
+use Rattle.sg_wire.specs.Layout.{Layout, ServiceAction, layout, length_of, table}
 use Rattle.sg_wire.specs.Layout.ServiceAction.{none, named as one_action}
 use Rattle.sg_wire.specs.Profile.{is_in}
+use Rattle.sg_wire.specs.SupportedOperations.{usage}
 use Rattle.sg_wire.specs.declared.command.Command.{Command}
 use Rattle.sg_wire.specs.declared.command.Command.TheVariants as command
 use Rattle.sg_wire.specs.declared.command.in_action.InAction.TheVariants.{ReadKeys}
 use Rattle.sg_wire.specs.declared.command.out_action.OutAction.TheVariants.{Register}
 use Rattle.sg_wire.specs.declared.command.CdbFault.{CdbFault}
 use Rattle.sg_wire.specs.declared.command.CdbFault.TheVariants.{Short}
+use Rattle.sg_wire.specs.declared.command.entry.Entry.{Entry}
+use Rattle.sg_wire.specs.declared.command.entry.Entry.TheVariants as entry
 use Rattle.sg_wire.specs.declared.command.table.Row.{Row}
 use Rattle.sg_wire.specs.declared.command.Class.{Class}
 use Rattle.sg_wire.specs.declared.command.Class.TheVariants.{Always}
@@ -40,15 +42,30 @@ command_named name.ModeSense6 = make.mode_sense_6 false 0 0 0 0
 command_named name.ModeSense10 = make.mode_sense_10 false false 0 0 0 0
 command_named name.PersistentReserveIn = make.reserve_in ReadKeys 0
 command_named name.PersistentReserveOut = make.reserve_out Register 0 0
+command_named name.LogSense = make.log_sense 0 0 0
+command_named name.ReportLuns = make.report_luns 0 0
+command_named name.ReportSupportedOperationCodes = make.report_operation_codes false 0 0 0 0
+command_named name.ReportSupportedTaskManagementFunctions = make.report_task_management false 0
+command_named name.SendDiagnostic = make.send_diagnostic 0 false 0
+command_named name.PreFetch10 = command.PreFetch10 make.no_blocks_10
+command_named name.PreFetch16 = command.PreFetch16 make.no_blocks_16
 command_named name.Read6 = command.Read6 (0, 1)
 command_named name.Read10 = command.Read10 make.no_blocks_10
+command_named name.Read12 = command.Read12 make.no_blocks_12
 command_named name.Read16 = command.Read16 make.no_blocks_16
 command_named name.Write6 = command.Write6 (0, 1)
 command_named name.Write10 = command.Write10 make.no_blocks_10
+command_named name.Write12 = command.Write12 make.no_blocks_12
 command_named name.Write16 = command.Write16 make.no_blocks_16
 command_named name.ReadCapacity10 = command.ReadCapacity10
 command_named name.ReadCapacity16 = make.read_capacity_16 0
+command_named name.ReadDefectData10 = make.read_defect_data_10 false false 0 0
+command_named name.ReadDefectData12 = make.read_defect_data_12 false false 0 0 0
 command_named name.SynchronizeCache10 = command.SynchronizeCache10 make.no_blocks_10
+command_named name.SynchronizeCache16 = command.SynchronizeCache16 make.no_blocks_16
+command_named name.WriteAndVerify10 = make.write_and_verify_10 0 0 0
+command_named name.WriteAndVerify12 = make.write_and_verify_12 0 0 0
+command_named name.WriteAndVerify16 = make.write_and_verify_16 0 0 0
 command_named name.WriteLong10 = make.write_long_10 false false 0 0
 command_named name.WriteSame10 = make.write_same_10 false false 0 0
 command_named name.WriteSame16 = make.write_same_16 false false 0 0
@@ -59,11 +76,10 @@ command_named name.GetLbaStatus = make.get_lba_status 0 0
 abbrev pub layout_of : Name → Layout
 layout_of named = layout (command_named named)
 
--- The bits that the disk evaluates, byte by byte. It ignores the others that may be set.
-abbrev pub evaluated_bits : Layout → List ℕ
-evaluated_bits l =
-    map (λ k. field_bits l k - bit_and (field_bits l k) (bits_in k l.ignored))
-    (range_with_len 0 (length_of l.opcode))
+-- The service action of a row, if it has one.
+abbrev pub action_option : ServiceAction → Option ℕ
+action_option none = None
+action_option (one_action action) = Some action
 
 -- A row of the code has what the command's layout says.
 abbrev pub IsRow : Row → Type 0
@@ -71,7 +87,46 @@ IsRow row =
     let l = layout_of row.name in
     (row.profile ≡ l.profile) × (row.opcode ≡ l.opcode) × (row.class ≡ l.class)
     × (row.is_blocked ≡ l.blocked_by_attention) × (row.masks.now ≡ masks l)
-    × (row.evaluated.now ≡ evaluated_bits l)
+    × (row.usage.now ≡ usage l) × (row.service_action ≡ action_option l.action)
+
+-- ---- The rows in the table's order
+
+-- The command of an entry. PERSISTENT RESERVE IN and OUT have an entry for each service action.
+abbrev pub command_of_entry : Entry → Command
+command_of_entry (entry.Named named) = command_named named
+command_of_entry (entry.ReserveIn action) = make.reserve_in action 0
+command_of_entry (entry.ReserveOut action) = make.reserve_out action 0 0
+
+abbrev pub entry_layout : Entry → Layout
+entry_layout entry = layout (command_of_entry entry)
+
+-- The layouts of some entries.
+unfoldable pub layouts_of : List Entry → List Layout
+layouts_of entries = map entry_layout entries
+
+-- The entries have each row of the table once, in its order.
+unfoldable pub AreEntries : List Entry → Type 0
+AreEntries entries = layouts_of entries ≡ table
+
+-- A disk of a profile has the row, and it has the operation code.
+abbrev pub is_row : Profile → (opcode : ℕ) → Layout → Bool
+is_row profile opcode l = l.opcode == opcode && is_in l.profile profile
+
+-- The layouts that a disk of a profile has of some entries: all, and those of an operation code.
+unfoldable pub layouts_in : Profile → List Entry → List Layout
+layouts_in profile entries = filter (λ l. is_in l.profile profile) (layouts_of entries)
+
+unfoldable pub layouts_with : Profile → (opcode : ℕ) → List Entry → List Layout
+layouts_with profile opcode entries = filter (is_row profile opcode) (layouts_of entries)
+
+-- The length of the descriptor of a command, in bytes.
+abbrev pub descriptor_length : (timeouts : Bool) → ℕ
+descriptor_length false = 8
+descriptor_length true = 20
+
+-- A row has what its operation code's commands are reported with.
+abbrev pub Describes : Row → Layout → Type 0
+Describes row l = (row.profile ≡ l.profile) × (row.opcode ≡ l.opcode) × (row.usage.now ≡ usage l)
 
 -- ---- The row of a CDB
 

@@ -1,5 +1,5 @@
 // The blocks that a command names, however wide its own fields are.
-use crate::command::{Extent10, Extent16, ShortExtent};
+use crate::command::{Extent10, Extent12, Extent16, ShortExtent};
 
 /// Logical blocks from an address on.
 #[derive(Clone, Copy, Default)]
@@ -31,6 +31,18 @@ impl From<Extent10> for Extent {
         Extent {
             lba: u64::from(extent.lba),
             count: u32::from(extent.count),
+        }
+    }
+}
+
+impl From<Extent12> for Extent {
+    ghost from_gives = { λ twelve extent.
+        extent ≡ record { lba = twelve.lba; count = twelve.count } };
+
+    fn from(extent: Extent12) -> Extent {
+        Extent {
+            lba: u64::from(extent.lba),
+            count: extent.count,
         }
     }
 }

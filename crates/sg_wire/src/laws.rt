@@ -1,7 +1,7 @@
 //! Laws of the definitions: each is the contract of a function that does nothing.
 ghost use Rattle.sg_wire.specs.Laws.{AnswersAreInTheirBuffers, CommandsHaveTheirClass};
 ghost use Rattle.sg_wire.specs.Laws.{PartsArePutInTurn, PartsAreReplaced, PrefixesAreRefused};
-ghost use Rattle.sg_wire.specs.Laws.{ProfilesAreClosed, ProfilesOnlyAdd};
+ghost use Rattle.sg_wire.specs.Laws.{ProfilesAreClosed, ProfilesOnlyAdd, UsageDataIsEvaluated};
 
 /// A disk reads no CDB as a command that its profile lacks.
 pub fn profiles_are_closed()
@@ -43,4 +43,12 @@ pub fn parts_are_put_in_turn()
 /// first. All that was written before is still there.
 pub fn parts_are_replaced()
     ensures { PartsAreReplaced }
+{}
+
+/// A bit of CDB USAGE DATA (SPC-4, 6.35.3) is set exactly if the disk evaluates it. Such a bit is in
+/// a field that is not ignored, or it is another bit with a meaning. This is true of each command
+/// and each bit, except in the operation code and the service action. If CDB USAGE DATA has each bit
+/// of a CDB's byte, the disk does not refuse the CDB for this byte.
+pub fn usage_data_is_evaluated()
+    ensures { UsageDataIsEvaluated }
 {}

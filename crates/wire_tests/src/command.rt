@@ -155,7 +155,7 @@ const CDBS: [(&[u8], Command); 20] = [
 ];
 
 /// The operation code, for a message: Debug of all bytes takes long to prove.
-fn operation_code(cdb: &[u8]) -> u8 {
+pub(crate) fn operation_code(cdb: &[u8]) -> u8 {
     match cdb {
         [code, ..] => *code,
         [] => 0,

@@ -8,6 +8,8 @@ mod command;
 #[cfg(test)]
 mod cut;
 #[cfg(test)]
+mod extended_command;
+#[cfg(test)]
 mod next_start;
 #[cfg(test)]
 mod print;
@@ -15,6 +17,8 @@ mod print;
 mod printer;
 #[cfg(test)]
 mod sense;
+#[cfg(test)]
+mod supported;
 #[cfg(test)]
 mod tools;
 #[cfg(test)]

@@ -6,12 +6,15 @@ ghost use Rattle.sg_wire.specs.CdbEncoding.{cdb_of};
 ghost use Rattle.sg_wire.specs.CdbFields.{number_at, value_at};
 ghost use Rattle.sg_wire.specs.CdbFields.Place.{short_extent};
 ghost use Rattle.sg_wire.specs.FieldRoom.{fits_cdb, have_room};
-ghost use Rattle.sg_wire.specs.Layout.{extent_10, extent_16, extent_6};
+ghost use Rattle.sg_wire.specs.Layout.{extent_10, extent_12, extent_16, extent_6};
 ghost use Rattle.sg_wire.specs.Table.{IsDecoded, IsRefused, IsRow, command_by, layout_of};
 ghost use Rattle.sg_wire.specs.declared.command.table.Name.{Name};
 
 use super::masks::two_bits;
-use super::table::{READ_CAPACITY_10, READ_CAPACITY_16, Row, WRITE_LONG_10, check_row};
+use super::table::{
+    READ_CAPACITY_10, READ_CAPACITY_16, Row, SYNCHRONIZE_CACHE_10, SYNCHRONIZE_CACHE_16,
+    WRITE_LONG_10, check_row,
+};
 use super::{CdbFault, Command, ShortExtent};
 use crate::bytes::{CdbBytes, MAX_CDB_LENGTH};
 use byteorder::{BigEndian, ByteOrder};
@@ -21,22 +24,32 @@ const COR_DIS: u8 = 0x80;
 
 const WR_UNCOR: u8 = 0x40;
 
-/// An extent of logical blocks in the CDBs of READ(10), WRITE(10) and SYNCHRONIZE CACHE(10) (SBC-3,
-/// 5.11, 5.33 and 5.26).
+/// An extent of logical blocks in the CDBs of READ(10), WRITE(10), SYNCHRONIZE CACHE(10) and
+/// PRE-FETCH(10) (SBC-3, 5.11, 5.33, 5.26 and 5.8).
 #[derive(Clone, Copy, Debug, PartialEq, Eq)]
 pub struct Extent10 {
     /// The first block's address.
     pub lba: u32,
-    /// TRANSFER LENGTH, or NUMBER OF LOGICAL BLOCKS, in blocks.
+    /// TRANSFER LENGTH, NUMBER OF LOGICAL BLOCKS or PREFETCH LENGTH, in blocks.
     pub count: u16,
 }
 
-/// An extent of logical blocks in the CDBs of READ(16) and WRITE(16) (SBC-3, 5.13 and 5.35).
+/// An extent of logical blocks in the CDBs of READ(12) and WRITE(12) (SBC-3, 5.12 and 5.34).
+#[derive(Clone, Copy, Debug, PartialEq, Eq)]
+pub struct Extent12 {
+    /// The first block's address.
+    pub lba: u32,
+    /// TRANSFER LENGTH, in blocks.
+    pub count: u32,
+}
+
+/// An extent of logical blocks in the CDBs of READ(16), WRITE(16), SYNCHRONIZE CACHE(16) and
+/// PRE-FETCH(16) (SBC-3, 5.13, 5.35, 5.27 and 5.9).
 #[derive(Clone, Copy, Debug, PartialEq, Eq)]
 pub struct Extent16 {
     /// The first block's address.
     pub lba: u64,
-    /// TRANSFER LENGTH, in blocks.
+    /// TRANSFER LENGTH, NUMBER OF LOGICAL BLOCKS or PREFETCH LENGTH, in blocks.
     pub count: u32,
 }
 
@@ -78,6 +91,20 @@ pub(super) fn decode_read_capacity_16(cdb: &[u8]) -> Result<Command, CdbFault>
     }))
 }
 
+pub(super) fn decode_synchronize_cache_10(cdb: &[u8]) -> Result<Command, CdbFault>
+    ensures { result ≡ command_by (layout_of Name.SynchronizeCache10) cdb.now }
+{
+    let extent = decode_extent_10(&SYNCHRONIZE_CACHE_10, cdb)?;
+    Ok(Command::SynchronizeCache10(extent))
+}
+
+pub(super) fn decode_synchronize_cache_16(cdb: &[u8]) -> Result<Command, CdbFault>
+    ensures { result ≡ command_by (layout_of Name.SynchronizeCache16) cdb.now }
+{
+    let extent = decode_extent_16(&SYNCHRONIZE_CACHE_16, cdb)?;
+    Ok(Command::SynchronizeCache16(extent))
+}
+
 pub(super) fn decode_write_long_10(cdb: &[u8]) -> Result<Command, CdbFault>
     ensures { result ≡ command_by (layout_of Name.WriteLong10) cdb.now }
 {
@@ -116,6 +143,22 @@ pub(super) fn decode_extent_10(row: &Row, cdb: &[u8]) -> Result<Extent10, CdbFau
     Ok(Extent10 {
         lba: BigEndian::read_u32(&cdb[2..]),
         count: BigEndian::read_u16(&cdb[7..]),
+    })
+}
+
+/// An address, and the number after it, of commands of 12 bytes.
+pub(super) fn decode_extent_12(row: &Row, cdb: &[u8]) -> Result<Extent12, CdbFault>
+    requires row { IsRow row.now × (length row.now.masks.now ≡ 12) }
+    ensures decoded { OnOk result (IsDecoded cdb.now row.now.name) }
+    ensures refused { IfErr result (IsRefused cdb.now row.now.name) }
+    ensures whole { OnOk result (12 ≤ length cdb.now) }
+    ensures extent { IfOk result (λ extent.
+        extent ≡ record { lba = number_at cdb.now 2 5; count = number_at cdb.now 6 9 }) }
+{
+    check_row(row, cdb)?;
+    Ok(Extent12 {
+        lba: BigEndian::read_u32(&cdb[2..]),
+        count: BigEndian::read_u32(&cdb[6..]),
     })
 }
 
@@ -165,6 +208,21 @@ impl Extent10 {
         BigEndian::write_u32(&mut cdb[2..], self.lba);
         BigEndian::write_u16(&mut cdb[7..], self.count);
         CdbBytes::new(cdb, 10)
+    }
+}
+
+impl Extent12 {
+    /// The CDB of a row's command.
+    pub(super) fn encode(self, row: &Row) -> CdbBytes
+        ensures cdb { result ≡ (row.now.opcode ∷ 0 ∷ []) ++ big_bytes 4 self.lba
+            ++ big_bytes 4 self.count ++ (0 ∷ 0 ∷ []) }
+        ensures fits { have_room (extent_12 self) ≡ true }
+    {
+        let mut cdb = [0; MAX_CDB_LENGTH];
+        cdb[0] = row.opcode;
+        BigEndian::write_u32(&mut cdb[2..], self.lba);
+        BigEndian::write_u32(&mut cdb[6..], self.count);
+        CdbBytes::new(cdb, 12)
     }
 }
 

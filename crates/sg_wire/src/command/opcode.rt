@@ -13,19 +13,29 @@ pub(super) const MODE_SELECT_6: u8 = 0x15;
 
 pub(super) const MODE_SENSE_6: u8 = 0x1A;
 
+pub(super) const SEND_DIAGNOSTIC: u8 = 0x1D;
+
 pub(super) const READ_CAPACITY_10: u8 = 0x25;
 
 pub(super) const READ_10: u8 = 0x28;
 
 pub(super) const WRITE_10: u8 = 0x2A;
 
+pub(super) const WRITE_AND_VERIFY_10: u8 = 0x2E;
+
+pub(super) const PRE_FETCH_10: u8 = 0x34;
+
 pub(super) const SYNCHRONIZE_CACHE_10: u8 = 0x35;
+
+pub(super) const READ_DEFECT_DATA_10: u8 = 0x37;
 
 pub(super) const WRITE_LONG_10: u8 = 0x3F;
 
 pub(super) const WRITE_SAME_10: u8 = 0x41;
 
 pub(super) const UNMAP: u8 = 0x42;
+
+pub(super) const LOG_SENSE: u8 = 0x4D;
 
 pub(super) const MODE_SELECT_10: u8 = 0x55;
 
@@ -39,6 +49,24 @@ pub(super) const READ_16: u8 = 0x88;
 
 pub(super) const WRITE_16: u8 = 0x8A;
 
+pub(super) const WRITE_AND_VERIFY_16: u8 = 0x8E;
+
+pub(super) const PRE_FETCH_16: u8 = 0x90;
+
+pub(super) const SYNCHRONIZE_CACHE_16: u8 = 0x91;
+
 pub(super) const WRITE_SAME_16: u8 = 0x93;
 
 pub(super) const SERVICE_ACTION_IN_16: u8 = 0x9E;
+
+pub(super) const REPORT_LUNS: u8 = 0xA0;
+
+pub(super) const MAINTENANCE_IN: u8 = 0xA3;
+
+pub(super) const READ_12: u8 = 0xA8;
+
+pub(super) const WRITE_12: u8 = 0xAA;
+
+pub(super) const WRITE_AND_VERIFY_12: u8 = 0xAE;
+
+pub(super) const READ_DEFECT_DATA_12: u8 = 0xB7;
