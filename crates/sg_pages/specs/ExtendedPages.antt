@@ -18,12 +18,11 @@ protection_checks = field 1 0x00
 abbrev task_attributes : Field
 task_attributes = field 1 0x07
 
--- V_SUP 1, byte 6: a volatile cache is supported, as WCE says. NV_SUP 0: no nonvolatile cache is.
--- WU_SUP and CRD_SUP 0, though WRITE LONG has WR_UNCOR and COR_DIS.
+-- WU_SUP and CRD_SUP 1, byte 6: WRITE LONG has WR_UNCOR and COR_DIS. V_SUP 1: a volatile cache is
+-- supported, as WCE says. NV_SUP 0: no nonvolatile cache is.
 -- Choice (SPC-4, 7.8.7): V_SUP may be 0, because nothing is cached.
--- Departure (SPC-4, 7.8.7): WU_SUP and CRD_SUP are 1 there.
 abbrev cache_bits : Field
-cache_bits = field 1 0x01
+cache_bits = field 1 0x0D
 
 -- LUICLR 1, byte 7: a report of REPORTED LUNS DATA HAS CHANGED clears it for all logical units of the
 -- I_T nexus, because there is one. P_I_I_SUP 0: there is no protection information.

@@ -12,6 +12,7 @@ pub mod ModePowerOn
 pub mod ModeSelect
 pub mod ModeSense
 pub mod ProvisioningPages
+pub mod Reports
 pub mod VitalProductData
 -- A module that only private contracts cite.
 pub mod SentValues

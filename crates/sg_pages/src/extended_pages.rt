@@ -7,8 +7,8 @@ ghost use Rattle.sg_pages.specs.ExtendedPages.{mode_page_policy, scsi_ports};
 /// The task attributes HEAD OF QUEUE, ORDERED and SIMPLE are supported (HEADSUP, ORDSUP, SIMPSUP).
 const TASK_ATTRIBUTES: u8 = 0x04 | 0x02 | 0x01;
 
-/// A volatile cache is supported.
-const V_SUP: u8 = 0x01;
+/// WRITE LONG has WR_UNCOR and COR_DIS (WU_SUP, CRD_SUP), and a volatile cache is supported (V_SUP).
+const WU_SUP_CRD_SUP_AND_V_SUP: u8 = 0x08 | 0x04 | 0x01;
 
 /// REPORTED LUNS DATA HAS CHANGED is cleared for all logical units at once.
 const LUICLR: u8 = 0x01;
@@ -24,7 +24,7 @@ pub(crate) fn extended_inquiry_data() -> [u8; 60]
 {
     let mut bytes = [0; 60];
     bytes[1] = TASK_ATTRIBUTES;
-    bytes[2] = V_SUP;
+    bytes[2] = WU_SUP_CRD_SUP_AND_V_SUP;
     bytes[3] = LUICLR;
     bytes
 }

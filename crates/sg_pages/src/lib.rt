@@ -10,6 +10,7 @@ mod inquiry_data;
 pub mod laws;
 mod mode_pages;
 mod provisioning_pages;
+mod reports;
 mod vital_product_data;
 
 pub use capacity::{CAPACITY_10_LENGTH, CAPACITY_16_LENGTH, write_capacity_10, write_capacity_16};
@@ -22,5 +23,6 @@ pub use mode_pages::{
     ModeSelectFault as SelectFault, ModeSenseFault, ModeSenseFault as AskFault, ModeSenseRequest,
     ModeSenseRequest as Ask, PageValues,
 };
+pub use reports::{LONGEST_REPORT, LogPage, Report};
 pub use sg_wire::{MAXIMUM_TRANSFER_LENGTH, MAXIMUM_WRITE_SAME_LENGTH, PageControl};
 pub use vital_product_data::{LONGEST_VPD_PAGE, VpdPage, vpd, write_vpd_page};

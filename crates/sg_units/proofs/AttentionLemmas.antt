@@ -15,7 +15,8 @@ use Rattle.sg_units.specs.Attentions.{Pending, covers, is_condition, is_covered,
 use Rattle.sg_units.specs.Attentions.{pending_for, raised}
 use Rattle.sg_units.specs.Laws.{ReportsFirst}
 use Rattle.sg_units.specs.PowerOn.{power_on_pending}
-use Rattle.sg_units.specs.Attentions.{with_condition, with_optional, without_oldest, without_resets}
+use Rattle.sg_units.specs.Attentions.{with_condition, with_optional, without_condition}
+use Rattle.sg_units.specs.Attentions.{without_oldest, without_resets}
 use Rattle.sg_units.specs.Raised.{Conditions, queue_after, raised_for_each}
 use Rattle.sg_units.specs.UnitAttention.{is_reset, number_of}
 use Rattle.sg_units.specs.UnitAttention.{reset_precedence}
@@ -118,6 +119,38 @@ IsQueue-drop (first ∷ rest) q =
         → ResetFirst queue
     later-reset_first [] h = refl
     later-reset_first (d ∷ ds) h = (or_parts (is_reset d) (list_any is_reset ds) h).1
+
+-- a queue from which conditions are taken away
+none-filter : (test : UnitAttention → Bool) (queue : List UnitAttention)
+    → list_any is_reset queue ≡ false → list_any is_reset (filter test queue) ≡ false
+none-filter test [] h = refl
+none-filter test (d ∷ ds) h =
+    let parts = or_parts (is_reset d) (list_any is_reset ds) h in
+    by_test (test d) parts.0 (none-filter test ds parts.1)
+  where
+    by_test : (b : Bool) → is_reset d ≡ false → list_any is_reset (filter test ds) ≡ false
+        → list_any is_reset (cond b (d ∷ filter test ds) (filter test ds)) ≡ false
+    by_test true first later = ap (λ r. r || list_any is_reset (filter test ds)) first ∙ later
+    by_test false first later = later
+
+reset_first-filter : (test : UnitAttention → Bool) (queue : List UnitAttention) → ResetFirst queue
+    → ResetFirst (filter test queue)
+reset_first-filter test [] h = refl
+reset_first-filter test (d ∷ ds) h = by_test (test d)
+  where
+    dropped : (queue : List UnitAttention) → list_any is_reset queue ≡ false → ResetFirst queue
+    dropped [] h = refl
+    dropped (e ∷ es) h = (or_parts (is_reset e) (list_any is_reset es) h).1
+
+    by_test : (b : Bool) → ResetFirst (cond b (d ∷ filter test ds) (filter test ds))
+    by_test true = none-filter test ds h
+    by_test false = dropped (filter test ds) (none-filter test ds h)
+
+pub IsQueue-filter : (test : UnitAttention → Bool) (queue : List UnitAttention) → IsQueue queue
+    → IsQueue (filter test queue)
+IsQueue-filter test queue q =
+    made-queue (filter test queue) (distinct-filter test queue q.distinct)
+    (reset_first-filter test queue q.reset_first)
 
 -- ---- What is reported
 
@@ -267,6 +300,13 @@ pub ArePending-cleared : (pending : Pending) (i : ℕ) → ArePending pending
 ArePending-cleared pending i h =
     ArePending-set pending i (drop 1 (pending_for pending i)) h
     (IsQueue-drop (pending_for pending i) (IsQueue-pending_for pending i h.queues))
+
+-- one condition is taken out of one queue
+pub ArePending-without : (pending : Pending) (i : ℕ) (condition : UnitAttention)
+    → ArePending pending → ArePending (without_condition pending i condition)
+ArePending-without pending i condition h =
+    ArePending-set pending i _ h
+    (IsQueue-filter _ (pending_for pending i) (IsQueue-pending_for pending i h.queues))
 
 -- a condition is put to one queue
 pub ArePending-raised_one : (pending : Pending) (i : ℕ) (condition : UnitAttention)

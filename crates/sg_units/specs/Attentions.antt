@@ -34,6 +34,14 @@ without_attentions pending initiator = slice_set pending initiator []
 abbrev pub is_condition : UnitAttention → UnitAttention → Bool
 is_condition condition other = number_of other == number_of condition
 
+-- One condition of an initiator is cleared, if it is pending.
+abbrev pub remaining : UnitAttention → List UnitAttention → List UnitAttention
+remaining condition queue = filter (λ other. not (is_condition condition other)) queue
+
+abbrev pub without_condition : Pending → (initiator : ℕ) → UnitAttention → Pending
+without_condition pending initiator condition =
+    slice_set pending initiator (remaining condition (pending_for pending initiator))
+
 abbrev pub is_pending : List UnitAttention → UnitAttention → Bool
 is_pending queue condition = list_any (is_condition condition) queue
 

@@ -8,7 +8,7 @@ use Rattle.sg_wire.specs.declared.command.out_action.OutAction.TheVariants.{Pree
 use Rattle.sg_wire.specs.declared.command.Class.TheVariants.{Reads, Writes}
 use Rattle.sg_units.specs.Access.{allows}
 use Rattle.sg_units.specs.Attentions.{ArePending, IsQueue, Pending, covers, is_pending, pending_for}
-use Rattle.sg_units.specs.Attentions.{raised, with_condition, without_oldest}
+use Rattle.sg_units.specs.Attentions.{raised, with_condition, without_condition, without_oldest}
 use Rattle.sg_units.specs.PowerOn.{power_on_pending, after_power_on}
 use Rattle.sg_units.specs.Raised.{Conditions, raised_for_each}
 use Rattle.sg_units.specs.ReserveOut.{IsConsistentChange, outcome, raised_for, state_after}
@@ -165,10 +165,12 @@ pub record ReservationsStayConsistent : Type 0 where
       → outcome state initiator action scope_type list ≡ Ok change → IsConsistentChange change
   pub power_cycle : (state : ReservationState) → IsConsistent state → IsConsistent (after_power_on state)
 
--- The queues of unit attentions stay within their limits if the oldest condition of a queue is
--- cleared, and if a condition is raised for one initiator or for each. They are within their limits
--- after a power cycle.
+-- The queues of unit attentions stay within their limits if the oldest condition of a queue, or a
+-- given one, is cleared, and if a condition is raised for one initiator or for each. They are within
+-- their limits after a power cycle.
 pub record QueuesKeepTheirLimits : Type 0 where
+  pub without : (pending : Pending) (initiator : ℕ) (condition : UnitAttention) → ArePending pending
+      → ArePending (without_condition pending initiator condition)
   pub cleared : (pending : Pending) (initiator : ℕ) → ArePending pending
       → ArePending (without_oldest pending initiator)
   pub one_raised : (pending : Pending) (initiator : ℕ) (condition : UnitAttention)

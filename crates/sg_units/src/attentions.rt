@@ -29,9 +29,9 @@ ghost use Rattle.std.specs.Prelude.{◌≡◌, ◌<◌, [], ◌∷◌, drop, sli
 ghost use Rattle.sg_wire.specs.Initiator.{initiator_count};
 ghost use Rattle.sg_units.specs.Attentions.{ArePending, IsQueue, covers, is_covered, is_higher};
 ghost use Rattle.sg_units.specs.Attentions.{oldest, pending_for, raised, with_condition};
-ghost use Rattle.sg_units.specs.Attentions.{with_optional};
+ghost use Rattle.sg_units.specs.Attentions.{remaining, with_optional};
 ghost use Rattle.sg_units.specs.PowerOn.{power_on_pending};
-ghost use Rattle.sg_units.specs.Attentions.{without_attentions, without_oldest};
+ghost use Rattle.sg_units.specs.Attentions.{without_attentions, without_condition, without_oldest};
 ghost use Rattle.sg_units.specs.Raised.{raised_for_each};
 
 impl Attentions {
@@ -93,6 +93,17 @@ impl Attentions {
         remove_first(&mut self.pending[usize::from(initiator.number())]);
     }
 
+    /// Clears one condition of an initiator. If it is not pending, nothing changes.
+    pub fn clear_condition(&mut self, initiator: Initiator, condition: UnitAttention)
+        ensures pending { self.new ≡ without_condition self.old initiator condition }
+        ensures limits { ArePending self.new }
+    {
+        remove(
+            &mut self.pending[usize::from(initiator.number())],
+            condition,
+        );
+    }
+
     /// Clears all conditions of an initiator.
     pub fn clear(&mut self, initiator: Initiator)
         ensures pending { self.new ≡ without_attentions self.old initiator }
@@ -149,6 +160,13 @@ fn establish(
     } else {
         queue.push(condition);
     }
+}
+
+/// Removes a condition from a queue, if it is there.
+fn remove(queue: &mut ArrayVec<UnitAttention, { UnitAttention::COUNT }>, condition: UnitAttention)
+    ensures { queue.new.items ≡ remaining condition queue.old.items }
+{
+    queue.retain(|pending| *pending != condition);
 }
 
 /// Removes the first condition of a queue, if there is one.

@@ -63,8 +63,8 @@ pub fn reservations_stay_consistent()
     ensures { ReservationsStayConsistent }
 {}
 
-/// The queues of unit attentions stay within their limits if the oldest condition of one is
-/// cleared, if conditions are raised, and in a power cycle.
+/// The queues of unit attentions stay within their limits if the oldest condition of one, or a given
+/// one, is cleared, if conditions are raised, and in a power cycle.
 pub fn queues_keep_their_limits()
     ensures { QueuesKeepTheirLimits }
 {}

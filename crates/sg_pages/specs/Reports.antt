@@ -1,0 +1,134 @@
+-- What a disk reports about itself, whatever its state: its logical units, its commands, its task management
+-- functions, its log pages and its defects.
+use Rattle.std.specs.Prelude.{ℕ, ◌+◌, ◌*◌, ◌==◌, ◌&&◌, List, [], ◌∷◌, ◌++◌, length, map, filter, find}
+use Rattle.std.specs.Prelude.{Bool, true, false, if◌then◌else◌, Option, Some, None, Result, ok_or}
+use Rattle.std.specs.List.{flat_map, list_any}
+use Rattle.sg_wire.specs.Fields.{Field, field, fields_bytes}
+use Rattle.sg_wire.specs.SupportedOperations.{longest_support_report, report_data as support_data}
+use Rattle.sg_wire.specs.declared.profile.Profile.{Profile}
+use Rattle.sg_pages.specs.declared.reports.LogPage.{LogPage}
+use Rattle.sg_pages.specs.declared.reports.LogPage.TheVariants.{SupportedPages, SupportedSubpages}
+use Rattle.sg_pages.specs.declared.reports.LogPage.TheVariants.{InformationalExceptions}
+use Rattle.sg_pages.specs.declared.reports.Report.{Report}
+use Rattle.sg_pages.specs.declared.reports.Report.TheVariants.{LogicalUnits, TaskManagementFunctions}
+use Rattle.sg_pages.specs.declared.reports.Report.TheVariants.{Commands, Log}
+use Rattle.sg_pages.specs.declared.reports.Report.TheVariants.{DefectLists10, DefectLists12}
+
+-- ---- REPORT LUNS (SPC-4, 6.33)
+
+-- Whether the disk's one logical unit is listed, by SELECT REPORT: it is no well known logical unit.
+-- Choice (SPC-4, 6.33): the values from 10h on, which are of later standards, may be supported.
+abbrev pub lists_unit : (select_report : ℕ) → Option Bool
+lists_unit select =
+    if select == 0x00 then Some true
+    else (if select == 0x01 then Some false else (if select == 0x02 then Some true else None))
+
+-- LUN 0, by the peripheral device addressing method (SAM-5, 4.7).
+abbrev lun_0 : Field
+lun_0 = field 8 0
+
+abbrev listed_luns : (listed : Bool) → List Field
+listed_luns listed = if listed then lun_0 ∷ [] else []
+
+-- LUN LIST LENGTH, four reserved bytes, and the LUNs.
+abbrev lun_list : (luns : List Field) → List Field
+lun_list luns = field 4 (length (fields_bytes luns)) ∷ field 4 0 ∷ luns
+
+-- ---- REPORT SUPPORTED TASK MANAGEMENT FUNCTIONS (SPC-4, 6.36)
+
+-- ATS, ATSS, CTSS and LURS, byte 0: ABORT TASK, ABORT TASK SET, CLEAR TASK SET and LOGICAL UNIT RESET. A
+-- command is executed at once, so none is left to abort. CLEAR ACA and QUERY TASK are not supported.
+abbrev functions : Field
+functions = field 1 0xD8
+
+-- QAES, QTSS and ITNRS 0, byte 1: no queries, and no I_T NEXUS RESET.
+abbrev queries : Field
+queries = field 1 0x00
+
+-- REPD with its timeouts: no timeout is told.
+abbrev task_management : (timeouts : Bool) → List Field
+task_management timeouts =
+    functions ∷ queries ∷ field 1 0
+    ∷ (if timeouts then field 1 0x0C ∷ field 12 0 ∷ [] else field 1 0 ∷ [])
+
+-- ---- LOG SENSE (SPC-4, 6.8 and 7.3)
+
+-- PAGE CODE and SUBPAGE CODE.
+abbrev pub log_code : LogPage → ℕ × ℕ
+log_code SupportedPages = (0x00, 0x00)
+log_code SupportedSubpages = (0x00, 0xFF)
+log_code InformationalExceptions = (0x2F, 0x00)
+
+-- In ascending order of their codes.
+abbrev pub each_log_page : List LogPage
+each_log_page = SupportedPages ∷ SupportedSubpages ∷ InformationalExceptions ∷ []
+
+abbrev pub has_page_code : (page_code : ℕ) → LogPage → Bool
+has_page_code page_code page = page_code == (log_code page).0
+
+abbrev pub has_subpage_code : (subpage_code : ℕ) → LogPage → Bool
+has_subpage_code subpage_code page = subpage_code == (log_code page).1
+
+-- The page with the codes, or the byte of the CDB that names none: PAGE CODE, or SUBPAGE CODE if some
+-- page has the page code.
+abbrev pub log_page_with : (page_code subpage_code : ℕ) → Result LogPage ℕ
+log_page_with page_code subpage_code =
+    ok_or
+    (find (λ page. has_page_code page_code page && has_subpage_code subpage_code page) each_log_page)
+    (if list_any (has_page_code page_code) each_log_page then 3 else 2)
+
+-- The lists of the first two pages.
+abbrev page_list : List Field
+page_list =
+    map (λ page. field 1 (log_code page).0) (filter (has_subpage_code 0x00) each_log_page)
+
+abbrev subpage_list : List Field
+subpage_list =
+    flat_map (λ page. field 1 (log_code page).0 ∷ field 1 (log_code page).1 ∷ []) each_log_page
+
+-- The log parameter of Informational Exceptions: PARAMETER CODE, the control byte, PARAMETER LENGTH, no
+-- additional sense code, and no temperature (SPC-4, 7.3).
+abbrev exceptions : List Field
+exceptions = field 2 0x0000 ∷ field 1 0x03 ∷ field 1 3 ∷ field 2 0x0000 ∷ field 1 0xFF ∷ []
+
+-- DS and SPF, in byte 0 with PAGE CODE: no parameter is saved, and whether there is a subpage.
+abbrev log_flags : LogPage → ℕ
+log_flags SupportedPages = 0x00
+log_flags SupportedSubpages = 0x40
+log_flags InformationalExceptions = 0x80
+
+abbrev log_content : LogPage → List Field
+log_content SupportedPages = page_list
+log_content SupportedSubpages = subpage_list
+log_content InformationalExceptions = exceptions
+
+-- A whole page: DS, SPF and PAGE CODE, SUBPAGE CODE, PAGE LENGTH, and the content.
+abbrev log_page : LogPage → List Field
+log_page page =
+    field 1 (log_flags page + (log_code page).0) ∷ field 1 (log_code page).1
+    ∷ field 2 (length (fields_bytes (log_content page))) ∷ log_content page
+
+-- ---- READ DEFECT DATA (SBC-3, 5.17 and 5.18)
+
+-- The lists that are asked for and their format, as in the CDB: they are valid, and empty. DEFECT LIST
+-- LENGTH is 0. In the longer form GENERATION CODE comes before it.
+abbrev defect_lists_10 : (lists : ℕ) → List Field
+defect_lists_10 lists = field 1 0 ∷ field 1 lists ∷ field 2 0 ∷ []
+
+abbrev defect_lists_12 : (lists : ℕ) → List Field
+defect_lists_12 lists = field 1 0 ∷ field 1 lists ∷ field 2 0 ∷ field 4 0 ∷ []
+
+-- ---- All reports
+
+-- Each on a disk of a profile. The commands are in the table of their layouts.
+unfoldable pub report_data : Profile → Report → List ℕ
+report_data profile (LogicalUnits listed) = fields_bytes (lun_list (listed_luns listed))
+report_data profile (Commands report) = support_data profile report
+report_data profile (TaskManagementFunctions timeouts) = fields_bytes (task_management timeouts)
+report_data profile (Log page) = fields_bytes (log_page page)
+report_data profile (DefectLists10 lists) = fields_bytes (defect_lists_10 lists)
+report_data profile (DefectLists12 lists) = fields_bytes (defect_lists_12 lists)
+
+-- The length of the longest report, all commands with their timeouts, in bytes.
+abbrev pub longest_report : ℕ
+longest_report = longest_support_report

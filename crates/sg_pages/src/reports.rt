@@ -1,0 +1,98 @@
+// What a disk reports about itself, whatever its state. Each report is put whole: the `Cut` knows the
+// allocation length.
+ghost use Rattle.std.specs.Prelude.{◌≡◌, ◌≤◌, length};
+ghost use Rattle.sg_wire.specs.Cut.{Puts};
+ghost use Rattle.sg_pages.specs.Reports.{lists_unit, log_page_with, longest_report, report_data};
+
+use sg_wire::{Cut, LONGEST_SUPPORT_REPORT, Profile, SupportReport};
+
+/// The length of the longest report, in bytes.
+pub const LONGEST_REPORT: usize = LONGEST_SUPPORT_REPORT;
+
+/// A page of LOG SENSE (SPC-4, 7.3).
+#[derive(Clone, Copy)]
+pub enum LogPage {
+    /// Supported Log Pages, page 00h.
+    SupportedPages,
+    /// Supported Log Pages and Subpages, page 00h and subpage FFh.
+    SupportedSubpages,
+    /// Informational Exceptions, page 2Fh.
+    InformationalExceptions,
+}
+
+impl LogPage {
+    /// The page with a page code and a subpage code.
+    ///
+    /// # Errors
+    /// The byte of the CDB of LOG SENSE that names no page: 2, PAGE CODE, or 3, SUBPAGE CODE.
+    pub fn with_code(page_code: u8, subpage_code: u8) -> Result<LogPage, u16>
+        ensures { result ≡ log_page_with page_code subpage_code }
+    {
+        match (page_code, subpage_code) {
+            (0x00, 0x00) => Ok(LogPage::SupportedPages),
+            (0x00, 0xFF) => Ok(LogPage::SupportedSubpages),
+            (0x2F, 0x00) => Ok(LogPage::InformationalExceptions),
+            (0x00 | 0x2F, _) => Err(3),
+            _ => Err(2),
+        }
+    }
+}
+
+/// A report of the disk about itself.
+#[derive(Clone, Copy)]
+pub enum Report {
+    /// The logical units of REPORT LUNS: the disk's own, if it is asked for (SPC-4, 6.33).
+    LogicalUnits(bool),
+    /// What REPORT SUPPORTED OPERATION CODES returns (SPC-4, 6.35).
+    Commands(SupportReport),
+    /// The functions of REPORT SUPPORTED TASK MANAGEMENT FUNCTIONS, and whether timeouts are asked for
+    /// (SPC-4, 6.36).
+    TaskManagementFunctions(bool),
+    /// A page of LOG SENSE (SPC-4, 6.8).
+    Log(LogPage),
+    /// The lists of READ DEFECT DATA(10), by their byte of the CDB (SBC-3, 5.17).
+    DefectLists10(u8),
+    /// The lists of READ DEFECT DATA(12), by their byte of the CDB (SBC-3, 5.18).
+    DefectLists12(u8),
+}
+
+impl Report {
+    /// The logical units that SELECT REPORT asks for (SPC-4, 6.33). None if it has another value.
+    pub fn units(select_report: u8) -> Option<bool>
+        ensures { result ≡ lists_unit select_report }
+    {
+        match select_report {
+            0x00 | 0x02 => Some(true),
+            0x01 => Some(false),
+            _ => None,
+        }
+    }
+
+    /// Writes the report of a disk of a profile.
+    #[tactic(auto, unfolding(crate::specs::Reports::report_data))]
+    pub fn write(self, profile: Profile, cut: &mut Cut)
+        ensures data { Puts cut.old cut.new (report_data profile self) }
+        ensures at_most { length (report_data profile self) ≤ longest_report }
+    {
+        match self {
+            Report::LogicalUnits(true) => cut.put(&[
+                0, 0, 0, 8, 0, 0, 0, 0, 0, 0, 0, 0, 0, 0, 0, 0,
+            ]),
+            Report::LogicalUnits(false) => cut.put(&[0, 0, 0, 0, 0, 0, 0, 0]),
+            Report::Commands(report) => report.write(profile, cut),
+            Report::TaskManagementFunctions(true) => {
+                cut.put(&[0xD8, 0, 0, 0x0C, 0, 0, 0, 0, 0, 0, 0, 0, 0, 0, 0, 0]);
+            }
+            Report::TaskManagementFunctions(false) => cut.put(&[0xD8, 0, 0, 0]),
+            Report::Log(LogPage::SupportedPages) => cut.put(&[0x00, 0x00, 0, 2, 0x00, 0x2F]),
+            Report::Log(LogPage::SupportedSubpages) => {
+                cut.put(&[0x40, 0xFF, 0, 6, 0x00, 0x00, 0x00, 0xFF, 0x2F, 0x00]);
+            }
+            Report::Log(LogPage::InformationalExceptions) => {
+                cut.put(&[0xAF, 0x00, 0, 7, 0, 0, 0x03, 3, 0, 0, 0xFF]);
+            }
+            Report::DefectLists10(lists) => cut.put(&[0, lists, 0, 0]),
+            Report::DefectLists12(lists) => cut.put(&[0, lists, 0, 0, 0, 0, 0, 0]),
+        }
+    }
+}
