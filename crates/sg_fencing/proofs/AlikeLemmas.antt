@@ -23,11 +23,12 @@ use Rattle.sg_pages.specs.ModeSelect.{changed_by}
 use Rattle.sg_units.specs.Access.{allows}
 use Rattle.sg_wire.specs.Initiator.{initiator_count}
 use Rattle.sg_units.specs.Attentions.{Pending, pending_for, raised, with_condition, with_optional}
-use Rattle.sg_units.specs.Attentions.{without_oldest}
+use Rattle.sg_units.specs.Attentions.{remaining, without_condition, without_oldest}
 use Rattle.sg_units.specs.Raised.{Conditions, queue_after, raised_for_each, raised_for_others}
 use Rattle.sg_units.specs.declared.reservation_state.ReservationState.{ReservationState}
 use Rattle.sg_units.specs.declared.unit_attention.UnitAttention.{UnitAttention}
 use Rattle.sg_units.specs.declared.unit_attention.UnitAttention.TheVariants.{ModeParametersChanged}
+use Rattle.sg_units.specs.declared.unit_attention.UnitAttention.TheVariants.{ReportedLunsDataChanged}
 use Rattle.sg_target.specs.BlockCommands.{reading, writing}
 use Rattle.sg_target.specs.Checks.{bad_field, cdb_checks, checked_parse, empty_cdb}
 use Rattle.sg_target.specs.Checks.{pending_attention, reservation_conflict, short_cdb}
@@ -36,7 +37,8 @@ use Rattle.sg_pages.specs.CapacityData.{capacity_10, capacity_16}
 use Rattle.sg_target.specs.Effect.{Effect, no_effect, returning, returning_up_to}
 use Rattle.sg_target.specs.ModeCommands.{attentions_after, changing_modes, mode_parameters}
 use Rattle.sg_target.specs.ModeCommands.{selected_modes}
-use Rattle.sg_target.specs.PrimaryCommands.{returning_page, returning_sense}
+use Rattle.sg_pages.specs.Reports.{report_data}
+use Rattle.sg_target.specs.PrimaryCommands.{returning_luns, returning_page, returning_sense}
 use Rattle.sg_target.specs.ProvisioningCommands.{anchoring, filling, reporting_status, unmapping}
 use Rattle.sg_target.specs.Refusal.{first_some, pending_sense, when_sound}
 use Rattle.sg_target.specs.ReservationCommands.{reporting}
@@ -49,7 +51,8 @@ use Rattle.sg_target.specs.declared.operation.Operation.TheVariants.{ReturnInqui
 use Rattle.sg_target.specs.declared.operation.Operation.TheVariants.{ChangeModes, ReturnCapacity10}
 use Rattle.sg_target.specs.declared.operation.Operation.TheVariants.{ReturnCapacity16, Read, Write}
 use Rattle.sg_target.specs.declared.operation.Operation.TheVariants.{Synchronize, Fill, Unmap}
-use Rattle.sg_target.specs.declared.operation.Operation.TheVariants.{MarkBad}
+use Rattle.sg_target.specs.declared.operation.Operation.TheVariants.{MarkBad, PreFetch}
+use Rattle.sg_target.specs.declared.operation.Operation.TheVariants.{ReturnLuns, ReturnReport}
 use Rattle.sg_target.specs.declared.operation.Operation.TheVariants.{Anchor, AnchorExtent}
 use Rattle.sg_target.specs.declared.operation.Operation.TheVariants.{UnmapExtent, ReturnLbaStatus}
 use Rattle.sg_target.specs.declared.operation.Operation.TheVariants.{ReturnReservations}
@@ -57,7 +60,7 @@ use Rattle.sg_target.specs.declared.operation.Operation.TheVariants.{ChangeReser
 use Rattle.sg_target.specs.declared.refusal.Reason.TheVariants.{UnitAttention as Attention}
 use Rattle.sg_target.specs.declared.refusal.Refusal.{Refusal}
 use Rattle.sg_target.specs.declared.refusal.Refusal.TheVariants.{Conflict, CheckCondition}
-use Rattle.sg_fencing.proofs.HolderLemmas.{cleared, cleared-other}
+use Rattle.sg_fencing.proofs.HolderLemmas.{cleared, cleared-other, without, without-other}
 use Rattle.sg_fencing.proofs.OperationLemmas.{shows}
 
 -- ---- Queues
@@ -77,6 +80,22 @@ cleared-equal p q i k e = by-case (cases_eq i k)
         subst (λ j. pending_for (without_oldest p j) k ≡ pending_for (without_oldest q j) k) (sym own)
         (cleared p k ∙ (ap (drop 1) e ∙ sym (cleared q k)))
     by-case (inr other) = cleared-other p k i other ∙ (e ∙ sym (cleared-other q k i other))
+
+without-equal : (p q : Pending) (i : ℕ) (condition : UnitAttention)
+    → StayEqual p q (without_condition p i condition) (without_condition q i condition)
+without-equal p q i condition k e = by-case (cases_eq i k)
+  where
+    by-case : (i ≡ k) ⊎ (i ≡ k → ⊥)
+        → pending_for (without_condition p i condition) k
+        ≡ pending_for (without_condition q i condition) k
+    by-case (inl own) =
+        subst
+        (λ j. pending_for (without_condition p j condition) k
+        ≡ pending_for (without_condition q j condition) k)
+        (sym own)
+        (without p k condition ∙ (ap (remaining condition) e ∙ sym (without q k condition)))
+    by-case (inr other) =
+        without-other p k i other condition ∙ (e ∙ sym (without-other q k i other condition))
 
 pub raised-equal : (p q : Pending) (conditions : Conditions)
     → StayEqual p q (raised_for_each p conditions) (raised_for_each q conditions)
@@ -267,6 +286,17 @@ module _ (Related : ReservationState → ReservationState → Type 0) (s : State
       effect-agree false (returning_sense s i format n) (returning_sense t i format n) (sense-agree format n)
   operation-agrees (ReturnInquiry page n) c =
       leaving (returning_page s page n) (returning_page t page n) refl refl refl refl refl
+  operation-agrees (ReturnLuns listed n) c =
+      effect-agree false (returning_luns s i listed n) (returning_luns t i listed n) (record {
+        rest = refl;
+        queues = without-equal p q i ReportedLunsDataChanged;
+        reservations = related;
+        answer = λ _. refl;
+        found = refl;
+      })
+  operation-agrees (ReturnReport report n) c =
+      leaving (returning_up_to s n (report_data (profile_of s) report))
+      (returning_up_to t n (report_data (profile_of t) report)) refl refl refl refl refl
   operation-agrees (ReturnModes request n) c =
       sound-agree (mode_parameters s.modes request) (returning_up_to s n) (returning_up_to t n)
       (λ list. plain false (returning_up_to s n list) (returning_up_to t n list) (λ _. refl) refl refl
@@ -281,6 +311,7 @@ module _ (Related : ReservationState → ReservationState → Type 0) (s : State
       (returning_up_to t n (capacity_16 t.disk.capacity)) refl refl refl refl refl
   operation-agrees (Read extent) c = leaving (reading s extent) (reading t extent) refl refl refl refl refl
   operation-agrees (Write out) c = leaving (writing s out) (writing t out) refl refl refl refl refl
+  operation-agrees (PreFetch extent) c = leaving (no_effect s) (no_effect t) refl refl refl refl refl
   operation-agrees (Synchronize extent) c = leaving (no_effect s) (no_effect t) refl refl refl refl refl
   operation-agrees (MarkBad lba cor_dis) c = leaving (no_effect s) (no_effect t) refl refl refl refl refl
   operation-agrees (Fill extent block) c =

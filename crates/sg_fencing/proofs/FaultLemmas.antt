@@ -15,7 +15,7 @@ use Rattle.sg_target.specs.FaultLaws.{FaultsOnlyDropOrShorten, RefusedCommandsSt
 use Rattle.sg_target.specs.FaultLaws.{WritesFirstBlocks, writes_data}
 use Rattle.sg_target.specs.Semantics.{effect_of}
 use Rattle.sg_target.specs.State.{State}
-use Rattle.sg_target.specs.Step.{refused, step}
+use Rattle.sg_target.specs.Step.{Answer, refused, step}
 use Rattle.sg_target.specs.declared.operation.Operation.{Operation}
 use Rattle.sg_target.specs.declared.operation.Operation.TheVariants.{Write, Fill}
 use Rattle.sg_target.specs.declared.refusal.Refusal.{Refusal}
@@ -34,30 +34,31 @@ use Rattle.sg_fencing.proofs.StandingLemmas.{outcome-stands}
 
 -- ---- What is denied
 
-refused-denied : (state : State) (j : ℕ) (refusal : Refusal) → IsDenied (refused state j refusal).answer
-refused-denied state j refusal =
-    record { status = not_good state j refusal; data_in = no-data refusal }
-  where
-    no-data : (refusal : Refusal) → (refused state j refusal).answer.data_in ≡ []
-    no-data Conflict = refl
-    no-data (CheckCondition reason) = refl
-    no-data Busy = refl
-    no-data TaskSetFull = refl
-    no-data NoReply = refl
-    no-data (DeferredError code) = refl
+no-data : (state : State) (j : ℕ) (refusal : Refusal) → (refused state j refusal).answer.data_in ≡ []
+no-data state j Conflict = refl
+no-data state j (CheckCondition reason) = refl
+no-data state j Busy = refl
+no-data state j TaskSetFull = refl
+no-data state j NoReply = refl
+no-data state j (DeferredError code) = refl
 
 module _ (stays : RefusedCommandsStayRefused) (disk : Armed) (j : ℕ) (cdb data_out : List ℕ) where
   denied-by : (checked : Result Operation Refusal) → checked_cdb disk.state j cdb data_out ≡ checked
       → ((operation : Operation) → checked ≡ Ok operation → ⊥)
-      → IsDenied (armed_step disk j cdb data_out).answer
+      → IsDenied (armed_step disk j cdb data_out)
   denied-by (Ok operation) e none = absurd (none operation refl)
   denied-by (Err refusal) e none =
       let its = stays disk j cdb data_out refusal e in
-      subst IsDenied (sym its.answer) (refused-denied disk.state j its.refusal)
+      let good = not_good disk.state j its.refusal in
+      record {
+        status = λ e. good (sym (ap (λ (a : Answer). a.status) its.answer) ∙ e);
+        data_in = ap (λ (a : Answer). a.data_in) its.answer ∙ no-data disk.state j its.refusal;
+        unsent = its.all_sent;
+      }
 
   -- a command of a class that the reservation does not allow
   denied : (class : Class) → class_of cdb ≡ Some class → allows disk.state.reservations j class ≡ false
-      → IsDenied (armed_step disk j cdb data_out).answer
+      → IsDenied (armed_step disk j cdb data_out)
   denied class is not_allowed =
       denied-by (checked_cdb disk.state j cdb data_out) refl
       (checks-refuse disk.state j cdb data_out class is not_allowed)

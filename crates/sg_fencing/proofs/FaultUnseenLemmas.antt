@@ -1,7 +1,7 @@
 -- On a disk with armed faults, too, the answers to an initiator that may neither read nor write do not
 -- depend on the blocks.
 use Rattle.std.proofs.Common.{◌≡◌, ℕ, false, List, Option, Some, None, Result, Ok, Err}
-use Rattle.std.proofs.Common.{refl, sym, ap, ap₂, ◌∙◌}
+use Rattle.std.proofs.Common.{drop, refl, sym, ap, ap₂, subst, ◌∙◌}
 use Rattle.sg_wire.specs.CdbDecoding.{command_in}
 use Rattle.sg_wire.specs.Laws.{CommandsHaveTheirClass}
 use Rattle.sg_wire.specs.SenseData.{sense_data}
@@ -18,7 +18,7 @@ use Rattle.sg_store.specs.Disk.{Contents}
 use Rattle.sg_units.specs.Access.{allows}
 use Rattle.sg_target.specs.Armed.{Armed, afterwards_step, answer_afterwards, armed_step, armed_step_by}
 use Rattle.sg_target.specs.Armed.{attempt_by, faults_left, finished_if_good, first_blocks, marked_by}
-use Rattle.sg_target.specs.Armed.{seen, step_of_checked}
+use Rattle.sg_target.specs.Armed.{seen, step_of_checked, unsent_afterwards, with_first}
 use Rattle.sg_target.specs.Charge.{step_by}
 use Rattle.sg_target.specs.Checks.{cdb_checks, checked_cdb}
 use Rattle.sg_target.specs.Effect.{with_contents}
@@ -32,7 +32,7 @@ use Rattle.sg_target.specs.declared.reply.Status.{Status}
 use Rattle.sg_target.specs.declared.reply.Status.TheVariants.{Good, NoReply}
 use Rattle.sg_target.proofs.ArmedLemmas.{Holds, holds}
 use Rattle.sg_target.proofs.LiftLemmas.{asked as asked-for}
-use Rattle.sg_fencing.specs.WithFaults.{with_other_blocks}
+use Rattle.sg_fencing.specs.WithFaults.{ReturnTheSame, with_other_blocks}
 use Rattle.sg_fencing.proofs.AccessLemmas.{asked-is-allowed}
 use Rattle.sg_fencing.proofs.OperationLemmas.{class_for, first-class}
 use Rattle.sg_fencing.proofs.UnseenLemmas.{operation-alike, parse-same}
@@ -52,26 +52,37 @@ module _ (first second : Step) (answer : first.answer ≡ second.answer)
       check_condition (sense_data (format_of (descriptor_sense m)) (fault_sense code)) data_in)
       modes
       (ap (λ (a : Answer). a.data_in) answer)
+  by-outcome (after.ShortDataIn bytes) = ap (with_first bytes) answer
+
+  unsent-by : (outcome : Afterwards)
+      → unsent_afterwards outcome first ≡ unsent_afterwards outcome second
+  unsent-by after.NoReply = refl
+  unsent-by (after.CheckCondition code) = refl
+  unsent-by (after.ShortDataIn bytes) = ap (λ (a : Answer). drop bytes a.data_in) answer
 
   by-struck : (struck : Option (Struck Afterwards)) (faults : Faults)
-      → (afterwards_step struck first faults).answer ≡ (afterwards_step struck second faults).answer
-  by-struck None faults = answer
-  by-struck (Some struck) faults = by-outcome struck.outcome
+      → ReturnTheSame (afterwards_step struck first faults) (afterwards_step struck second faults)
+  by-struck None faults = record { answer = answer; unsent = refl }
+  by-struck (Some struck) faults =
+      record { answer = by-outcome struck.outcome; unsent = unsent-by struck.outcome }
 
   by-status : (status : Status) (mark : Option Fault) (command : Seen) (faults : Faults)
-      → (finished_if_good status mark command faults first).answer
-      ≡ (finished_if_good status mark command faults second).answer
+      → ReturnTheSame (finished_if_good status mark command faults first)
+      (finished_if_good status mark command faults second)
   by-status Good mark command faults =
       let left = faults_left mark command faults in
       by-struck (decided afterwards command left) (asked afterwards command left)
-  by-status _ mark command faults = answer
+  by-status _ mark command faults = record { answer = answer; unsent = refl }
 
   finished-alike : (mark : Option Fault) (command : Seen) (faults : Faults)
-      → (finished_if_good first.answer.status mark command faults first).answer
-      ≡ (finished_if_good second.answer.status mark command faults second).answer
+      → ReturnTheSame (finished_if_good first.answer.status mark command faults first)
+      (finished_if_good second.answer.status mark command faults second)
   finished-alike mark command faults =
-      by-status first.answer.status mark command faults
-      ∙ ap (λ (a : Answer). (finished_if_good a.status mark command faults second).answer) answer
+      subst
+      (λ (a : Answer). ReturnTheSame
+      (finished_if_good first.answer.status mark command faults first)
+      (finished_if_good a.status mark command faults second))
+      answer (by-status first.answer.status mark command faults)
 
 -- ---- A command
 
@@ -93,10 +104,11 @@ module _ (disk : Armed) (x : Contents) (j : ℕ) (cdb : List ℕ) where
 
   result-alike : (result : Result Operation Refusal) → Holds IsBlind first-blind result
       → (mark : Option Fault) (command : Seen) (faults : Faults)
-      → (let done = step_of_checked s j result in
-      finished_if_good done.answer.status mark command faults done).answer
-      ≡ (let done = step_of_checked t j result in
-      finished_if_good done.answer.status mark command faults done).answer
+      → ReturnTheSame
+      (let done = step_of_checked s j result in
+      finished_if_good done.answer.status mark command faults done)
+      (let done = step_of_checked t j result in
+      finished_if_good done.answer.status mark command faults done)
   result-alike (Ok operation) h =
       finished-alike (step_by s j operation) (step_by t j operation)
       (operation-alike s x j operation h.0 h.1)
@@ -106,8 +118,8 @@ module _ (disk : Armed) (x : Contents) (j : ℕ) (cdb : List ℕ) where
       (ap (λ (a : State). a.modes) (refused-differ s x j refusal))
 
   checked-alike : (checked : Result Operation Refusal) → Holds IsBlind first-blind checked
-      → (armed_step_by disk j cdb checked).answer
-      ≡ (armed_step_by (with_other_blocks disk x) j cdb checked).answer
+      → ReturnTheSame (armed_step_by disk j cdb checked)
+      (armed_step_by (with_other_blocks disk x) j cdb checked)
   checked-alike checked h =
       let tried = attempt_by disk j cdb checked in
       result-alike tried.result
@@ -132,16 +144,20 @@ module _ (disk : Armed) (x : Contents) (j : ℕ) (cdb : List ℕ) where
       )
   blind classes no_reads no_writes data_out (Err refusal) e = tt
 
--- the answer to an initiator that may neither read nor write is the same whatever the blocks are
+-- what an initiator gets that may neither read nor write is the same whatever the blocks are
 pub unseen-with-faults : CommandsHaveTheirClass → (disk : Armed) (contents : Contents) (j : ℕ)
     → allows disk.state.reservations j Reads ≡ false
     → allows disk.state.reservations j Writes ≡ false → (cdb data_out : List ℕ)
-    → (armed_step (with_other_blocks disk contents) j cdb data_out).answer
-    ≡ (armed_step disk j cdb data_out).answer
+    → ReturnTheSame (armed_step (with_other_blocks disk contents) j cdb data_out)
+    (armed_step disk j cdb data_out)
 unseen-with-faults classes disk contents j no_reads no_writes cdb data_out =
     let checked = checked_cdb disk.state j cdb data_out in
     let other = with_other_blocks disk contents in
-    sym (checked-alike disk contents j cdb checked
-    (blind disk contents j cdb classes no_reads no_writes data_out checked refl)
-    ∙ ap (λ (c : Result Operation Refusal). (armed_step_by other j cdb c).answer)
-    (checked-same disk contents j cdb data_out))
+    let same =
+    subst
+    (λ (c : Result Operation Refusal). ReturnTheSame (armed_step_by disk j cdb checked)
+    (armed_step_by other j cdb c))
+    (checked-same disk contents j cdb data_out)
+    (checked-alike disk contents j cdb checked
+    (blind disk contents j cdb classes no_reads no_writes data_out checked refl)) in
+    record { answer = sym same.answer; unsent = sym same.unsent }

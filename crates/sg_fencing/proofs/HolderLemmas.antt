@@ -7,7 +7,8 @@ use Rattle.std.specs.List.{range_with_len}
 use Rattle.std.proofs.lemmas.Bool.{and_right, cases_lt, eq-eqb, eqb-true, false≢true, ne_eqb}
 use Rattle.std.proofs.lemmas.List.{get_or-set_other, get_or_past}
 use Rattle.std.proofs.lemmas.List.FromFn.{get_or-map-range_with_len, length-map-range_with_len}
-use Rattle.sg_units.specs.Attentions.{Pending, pending_for, with_optional, without_oldest}
+use Rattle.sg_units.specs.Attentions.{Pending, pending_for, remaining, with_optional}
+use Rattle.sg_units.specs.Attentions.{without_condition, without_oldest}
 use Rattle.sg_units.specs.Laws.{IsRefused, OthersAreRefused, is_exclusive_access}
 use Rattle.sg_units.specs.Raised.{Conditions, queue_after, raised_for_each}
 use Rattle.sg_units.specs.Registrations.{is_registered, key_of}
@@ -157,6 +158,17 @@ pub cleared-other : (pending : Pending) (i j : ℕ) → (j ≡ i → ⊥)
     → pending_for (without_oldest pending j) i ≡ pending_for pending i
 cleared-other pending i j other =
     get_or-set_other pending j i (drop 1 (pending_for pending j)) [] (λ e. other (sym e))
+
+pub without-other : (pending : Pending) (i j : ℕ) → (j ≡ i → ⊥) → (condition : UnitAttention)
+    → pending_for (without_condition pending j condition) i ≡ pending_for pending i
+without-other pending i j other condition =
+    get_or-set_other pending j i (remaining condition (pending_for pending j)) [] (λ e. other (sym e))
+
+pub without : (pending : Pending) (i : ℕ) (condition : UnitAttention)
+    → pending_for (without_condition pending i condition) i ≡ remaining condition (pending_for pending i)
+without [] i condition = refl
+without (queue ∷ rest) zero condition = refl
+without (queue ∷ rest) (suc i) condition = without rest i condition
 
 pub cleared : (pending : Pending) (i : ℕ)
     → pending_for (without_oldest pending i) i ≡ drop 1 (pending_for pending i)

@@ -19,13 +19,17 @@ use Rattle.sg_target.specs.Config.{ConfigFields}
 use Rattle.sg_target.specs.Demands.{demands, unmap_extent, unmap_extents}
 use Rattle.sg_target.specs.PrimaryCommands.{inquiry_page}
 use Rattle.sg_target.specs.ProvisioningCommands.{block_out, listed_extents, unmaps}
-use Rattle.sg_target.specs.Refusal.{when_sound}
+use Rattle.sg_wire.specs.SupportedOperations.{requested_report}
+use Rattle.sg_pages.specs.Reports.{lists_unit, log_page_with}
+use Rattle.sg_pages.specs.declared.reports.Report.TheVariants as report
+use Rattle.sg_target.specs.Refusal.{or_refused, when_sound}
 use Rattle.sg_target.specs.ReservationCommands.{fields_out}
 use Rattle.sg_target.specs.declared.operation.Operation.{Operation}
 use Rattle.sg_target.specs.declared.operation.Operation.TheVariants.{ChangeModes, Read, Write, Fill}
 use Rattle.sg_target.specs.declared.operation.Operation.TheVariants.{Unmap, UnmapExtent, Anchor, AnchorExtent}
 use Rattle.sg_target.specs.declared.operation.Operation.TheVariants.{MarkBad}
 use Rattle.sg_target.specs.declared.operation.Operation.TheVariants.{ReturnInquiry, ReturnLbaStatus}
+use Rattle.sg_target.specs.declared.operation.Operation.TheVariants.{ReturnLuns, ReturnReport}
 use Rattle.sg_target.specs.declared.operation.Operation.TheVariants.{ReturnReservations}
 use Rattle.sg_target.specs.declared.operation.Operation.TheVariants.{ChangeReservations}
 use Rattle.sg_target.specs.declared.refusal.Reason.TheVariants.{InvalidFieldInCdb}
@@ -116,6 +120,22 @@ suits config (command.Inquiry c) data_out =
     (CheckCondition (InvalidFieldInCdb 2)))
     (λ page. ReturnInquiry page c.allocation_length)
     (λ page. record { class = λ class h. cc; of_kind = λ kind k. refl; shown = refl })
+suits config (command.LogSense c) data_out =
+    sound-suits (command.LogSense c)
+    (or_refused (λ byte. CheckCondition (InvalidFieldInCdb byte))
+    (log_page_with c.page_code c.subpage_code))
+    (λ page. ReturnReport (report.Log page) c.allocation_length)
+    (λ page. record { class = λ class h. cc; of_kind = λ kind k. refl; shown = refl })
+suits config (command.ReportSupportedOperationCodes c) data_out =
+    sound-suits (command.ReportSupportedOperationCodes c)
+    (ok_or (requested_report config.identity.profile c) (CheckCondition (InvalidFieldInCdb 2)))
+    (λ requested. ReturnReport (report.Commands requested) c.allocation_length)
+    (λ requested. record { class = λ class h. cc; of_kind = λ kind k. refl; shown = refl })
+suits config (command.ReportLuns c) data_out =
+    sound-suits (command.ReportLuns c)
+    (ok_or (lists_unit c.select) (CheckCondition (InvalidFieldInCdb 2)))
+    (λ listed. ReturnLuns listed c.allocation_length)
+    (λ listed. record { class = λ class h. cc; of_kind = λ kind k. refl; shown = refl })
 suits config (command.WriteSame10 c) data_out =
     same-suits (command.WriteSame10 c) refl refl c.anchor
     (unmaps c.unmap (block_out data_out)) _ (block_out data_out)
@@ -183,8 +203,32 @@ reads-if config (command.Write6 c) data_out =
     changing-reads (command.Write6 c) (demands config (command.Write6 c) data_out).operation refl
 reads-if config (command.Write10 c) data_out =
     changing-reads (command.Write10 c) (demands config (command.Write10 c) data_out).operation refl
+reads-if config (command.Write12 c) data_out =
+    changing-reads (command.Write12 c) (demands config (command.Write12 c) data_out).operation refl
 reads-if config (command.Write16 c) data_out =
     changing-reads (command.Write16 c) (demands config (command.Write16 c) data_out).operation refl
+reads-if config (command.WriteAndVerify10 c) data_out =
+    changing-reads (command.WriteAndVerify10 c)
+    (demands config (command.WriteAndVerify10 c) data_out).operation refl
+reads-if config (command.WriteAndVerify12 c) data_out =
+    changing-reads (command.WriteAndVerify12 c)
+    (demands config (command.WriteAndVerify12 c) data_out).operation refl
+reads-if config (command.WriteAndVerify16 c) data_out =
+    changing-reads (command.WriteAndVerify16 c)
+    (demands config (command.WriteAndVerify16 c) data_out).operation refl
+reads-if config (command.LogSense c) data_out =
+    sound-reads (command.LogSense c)
+    (or_refused (λ byte. CheckCondition (InvalidFieldInCdb byte))
+    (log_page_with c.page_code c.subpage_code))
+    (λ page. ReturnReport (report.Log page) c.allocation_length) (λ page. refl)
+reads-if config (command.ReportSupportedOperationCodes c) data_out =
+    sound-reads (command.ReportSupportedOperationCodes c)
+    (ok_or (requested_report config.identity.profile c) (CheckCondition (InvalidFieldInCdb 2)))
+    (λ requested. ReturnReport (report.Commands requested) c.allocation_length) (λ requested. refl)
+reads-if config (command.ReportLuns c) data_out =
+    sound-reads (command.ReportLuns c)
+    (ok_or (lists_unit c.select) (CheckCondition (InvalidFieldInCdb 2)))
+    (λ listed. ReturnLuns listed c.allocation_length) (λ listed. refl)
 reads-if config (command.WriteSame10 c) data_out =
     changing-reads (command.WriteSame10 c)
     (demands config (command.WriteSame10 c) data_out).operation refl

@@ -9,6 +9,7 @@ use Rattle.sg_wire.specs.declared.command.out_action.OutAction.{OutAction}
 use Rattle.sg_units.specs.Access.{allows}
 use Rattle.sg_units.specs.Laws.{OthersAreRefused}
 use Rattle.sg_units.specs.Registrations.{key_of}
+use Rattle.sg_units.specs.declared.unit_attention.UnitAttention.TheVariants.{ReportedLunsDataChanged}
 use Rattle.sg_units.specs.ReserveOut.{Outcome, outcome, raised_by, raised_for}
 use Rattle.sg_wire.specs.declared.out_list.OutList.{OutList}
 use Rattle.sg_units.specs.declared.reservation_change.ReservationChange.{ReservationChange}
@@ -18,6 +19,7 @@ use Rattle.sg_fencing.proofs.ReserveOutLemmas.{outcome_leaves}
 use Rattle.sg_units.proofs.OutcomeLemmas.{EffectIs}
 use Rattle.sg_target.specs.Effect.{Effect, returning_up_to, without_attention}
 use Rattle.sg_target.specs.ModeCommands.{mode_parameters}
+use Rattle.sg_target.specs.PrimaryCommands.{returning_luns}
 use Rattle.sg_target.specs.Refusal.{when_sound}
 use Rattle.sg_target.specs.ReservationCommands.{changing_reservations, out_refusal}
 use Rattle.sg_target.specs.ReservationCommands.{reservation_change}
@@ -26,6 +28,7 @@ use Rattle.sg_target.specs.State.{IsWithinLimits, State}
 use Rattle.sg_target.specs.Step.{Step, outcome as step_outcome, refused, step}
 use Rattle.sg_target.specs.declared.operation.Operation.{Operation}
 use Rattle.sg_target.specs.declared.operation.Operation.TheVariants.{ReturnSense, ReturnModes}
+use Rattle.sg_target.specs.declared.operation.Operation.TheVariants.{ReturnLuns}
 use Rattle.sg_target.specs.declared.operation.Operation.TheVariants.{ChangeModes, Write, Fill, Unmap}
 use Rattle.sg_target.specs.declared.operation.Operation.TheVariants.{Anchor, AnchorExtent}
 use Rattle.sg_target.specs.declared.operation.Operation.TheVariants.{UnmapExtent, ChangeReservations}
@@ -38,6 +41,7 @@ use Rattle.sg_fencing.specs.Fencing.{holds_alone, view_of}
 use Rattle.sg_fencing.proofs.AccessLemmas.{asked-is-allowed}
 use Rattle.sg_fencing.proofs.HolderLemmas.{HoldsAlone, alone, cleared-other, one-holder}
 use Rattle.sg_fencing.proofs.HolderLemmas.{raised-none, raised-others, refuses-others, same-view}
+use Rattle.sg_fencing.proofs.HolderLemmas.{without-other}
 use Rattle.sg_fencing.proofs.OperationLemmas.{class_for}
 
 -- the view of i and the identity of the disk are as they were
@@ -111,6 +115,12 @@ module _ (Where : State → Type 0) (state : State) (i j : ℕ) (other : j ≡ i
       view =
           same-view (without_attention state j) state i refl refl
           (cleared-other state.attentions i j other) refl refl;
+    }
+    operation-keeps (ReturnLuns listed n) c = λ _. record {
+      identity = refl;
+      view =
+          same-view (returning_luns state j listed n).after state i refl refl
+          (without-other state.attentions i j other ReportedLunsDataChanged) refl refl;
     }
     operation-keeps (ReturnModes request n) c =
         sound-keeps (mode_parameters state.modes request) (returning_up_to state n)

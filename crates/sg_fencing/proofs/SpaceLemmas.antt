@@ -26,7 +26,7 @@ use Rattle.sg_target.specs.Checks.{out_of_range, past_capacity, pending_attentio
 use Rattle.sg_target.specs.Checks.{reservation_conflict, short_cdb, short_data_out, unknown_opcode}
 use Rattle.sg_target.specs.Checks.{unsupported_value, write_protection}
 use Rattle.sg_target.specs.CommandLaws.{WritesOverUsedAddressesHaveSpace, blocks_to_write}
-use Rattle.sg_target.specs.Demands.{extent, too_long, write}
+use Rattle.sg_target.specs.Demands.{bad_comparison, extent, too_long, write}
 use Rattle.sg_target.specs.Effect.{Effect}
 use Rattle.sg_target.specs.Refusal.{checked_next, first_some, refusal_for, sense_of, unless_refused}
 use Rattle.sg_target.specs.Semantics.{effect_of, medium_use}
@@ -255,6 +255,17 @@ module _ (state : State) (i : ℕ) (data_out : List ℕ) where
   by-cdb None (Ok (command.Write6 c)) out h is = write-other (extent c.0 c.1) None
   by-cdb None (Ok (command.Write10 c)) out h is =
       write-other (extent c.lba c.count) (too_long (config_of state) c.count 7)
+  by-cdb None (Ok (command.Write12 c)) out h is =
+      write-other (extent c.lba c.count) (too_long (config_of state) c.count 6)
+  by-cdb None (Ok (command.WriteAndVerify10 c)) out h is =
+      write-other (extent c.extent.lba c.extent.count)
+      (bad_comparison c.byte_check (too_long (config_of state) c.extent.count 7))
+  by-cdb None (Ok (command.WriteAndVerify12 c)) out h is =
+      write-other (extent c.extent.lba c.extent.count)
+      (bad_comparison c.byte_check (too_long (config_of state) c.extent.count 6))
+  by-cdb None (Ok (command.WriteAndVerify16 c)) out h is =
+      write-other (extent c.extent.lba c.extent.count)
+      (bad_comparison c.byte_check (too_long (config_of state) c.extent.count 10))
   by-cdb None (Ok (command.Write16 c)) out h is =
       write-other (extent c.lba c.count) (too_long (config_of state) c.count 10)
   by-cdb None (Err fault) out h is = fault-other fault

@@ -13,7 +13,9 @@ use Rattle.sg_wire.specs.declared.command.Class.{Class}
 use Rattle.sg_wire.specs.declared.command.Class.TheVariants.{Writes}
 use Rattle.sg_wire.specs.declared.command.Command.{Command}
 use Rattle.sg_wire.specs.declared.command.Command.TheVariants as command
+use Rattle.sg_wire.specs.declared.command.verify.ByteCheck.{ByteCheck}
 use Rattle.sg_wire.specs.declared.extent.Extent.{Extent}
+use Rattle.sg_target.proofs.CommandLemmas.{its-blocks, its-comparison}
 use Rattle.sg_pages.specs.ModePage.{ModeState, write_protected}
 use Rattle.sg_units.specs.Access.{allows}
 use Rattle.sg_units.specs.Attentions.{oldest}
@@ -25,7 +27,8 @@ use Rattle.sg_target.specs.Checks.{out_of_range, past_capacity, pending_attentio
 use Rattle.sg_target.specs.Checks.{reservation_conflict, short_cdb, short_data_out, unknown_opcode}
 use Rattle.sg_target.specs.Checks.{unsupported_value, write_protection}
 use Rattle.sg_target.specs.CommandLaws.{WritesOverUsedAddressesHaveSpace, blocks_to_write}
-use Rattle.sg_target.specs.Demands.{extent, too_long, write}
+use Rattle.sg_target.specs.CommandLaws.{verified_blocks}
+use Rattle.sg_target.specs.Demands.{bad_comparison, extent, too_long, write}
 use Rattle.sg_target.specs.Effect.{Effect}
 use Rattle.sg_target.specs.Refusal.{checked_next, first_some, unless_refused}
 use Rattle.sg_target.specs.Semantics.{effect_of, medium_use}
@@ -154,6 +157,22 @@ module _ (state : State) (i : ℕ) (data_out : List ℕ) (out : Extent)
       (effect_of state i)))
       (sym is) (write-effect unsupported h)
 
+  verifying : (check : ByteCheck) (named : Extent) → verified_blocks check named ≡ Some out
+      → (byte : ℕ)
+      → IsItsEffect
+      (checked_next
+      (checked_next
+      (requested (write named (bad_comparison check (too_long (config_of state) named.count byte)) data_out)
+      data_out)
+      (checked_operation state))
+      (effect_of state i))
+  verifying check named is byte =
+      let e = its-blocks check named out is in
+      let length = too_long (config_of state) named.count byte in
+      at-extent named e (bad_comparison check length)
+      (its-comparison check named out length is
+      ∙ (ap (λ (e : Extent). too_long (config_of state) e.count byte) e ∙ allowed-length byte))
+
   by-command : (parse : Result Command CdbFault) → blocks_to_write parse ≡ Some out
       → IsItsEffect (checked_next (checked_parse state parse data_out) (effect_of state i))
   by-command (Ok (command.Write6 c)) is =
@@ -166,6 +185,16 @@ module _ (state : State) (i : ℕ) (data_out : List ℕ) (out : Extent)
       let e : extent c.lba c.count ≡ out = cc in
       at-extent (extent c.lba c.count) e (too_long (config_of state) c.count 10)
       (ap (λ (e : Extent). too_long (config_of state) e.count 10) e ∙ allowed-length 10)
+  by-command (Ok (command.Write12 c)) is =
+      let e : extent c.lba c.count ≡ out = cc in
+      at-extent (extent c.lba c.count) e (too_long (config_of state) c.count 6)
+      (ap (λ (e : Extent). too_long (config_of state) e.count 6) e ∙ allowed-length 6)
+  by-command (Ok (command.WriteAndVerify10 c)) is =
+      verifying c.byte_check (extent c.extent.lba c.extent.count) is 7
+  by-command (Ok (command.WriteAndVerify12 c)) is =
+      verifying c.byte_check (extent c.extent.lba c.extent.count) is 6
+  by-command (Ok (command.WriteAndVerify16 c)) is =
+      verifying c.byte_check (extent c.extent.lba c.extent.count) is 10
   by-command _ is = cc
 
   by-cdb : (first : Option Refusal) → first ≡ None → (parse : Result Command CdbFault)
@@ -187,6 +216,14 @@ is-write (Ok (command.Write6 c)) out is =
     record { command = command.Write6 c; is = refl; class = refl }
 is-write (Ok (command.Write10 c)) out is =
     record { command = command.Write10 c; is = refl; class = refl }
+is-write (Ok (command.Write12 c)) out is =
+    record { command = command.Write12 c; is = refl; class = refl }
+is-write (Ok (command.WriteAndVerify10 c)) out is =
+    record { command = command.WriteAndVerify10 c; is = refl; class = refl }
+is-write (Ok (command.WriteAndVerify12 c)) out is =
+    record { command = command.WriteAndVerify12 c; is = refl; class = refl }
+is-write (Ok (command.WriteAndVerify16 c)) out is =
+    record { command = command.WriteAndVerify16 c; is = refl; class = refl }
 is-write (Ok (command.Write16 c)) out is =
     record { command = command.Write16 c; is = refl; class = refl }
 is-write _ out is = cc

@@ -54,12 +54,15 @@ OnlyReadsReturnData =
     (outcome others initiator (effect_of others initiator operation)).answer
     ≡ (outcome state initiator (effect_of state initiator operation)).answer
 
--- The commands that may change blocks: WRITE(6), WRITE(10), WRITE(16), WRITE SAME(10),
--- WRITE SAME(16) and UNMAP.
+-- The commands that may change blocks: each WRITE, WRITE AND VERIFY and WRITE SAME, and UNMAP.
 abbrev pub may_change_blocks : Result Command CdbFault → Bool
 may_change_blocks (Ok (command.Write6 c)) = true
 may_change_blocks (Ok (command.Write10 c)) = true
+may_change_blocks (Ok (command.Write12 c)) = true
 may_change_blocks (Ok (command.Write16 c)) = true
+may_change_blocks (Ok (command.WriteAndVerify10 c)) = true
+may_change_blocks (Ok (command.WriteAndVerify12 c)) = true
+may_change_blocks (Ok (command.WriteAndVerify16 c)) = true
 may_change_blocks (Ok (command.WriteSame10 c)) = true
 may_change_blocks (Ok (command.WriteSame16 c)) = true
 may_change_blocks (Ok (command.Unmap c)) = true

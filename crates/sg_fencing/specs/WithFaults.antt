@@ -10,11 +10,10 @@ use Rattle.sg_faults.specs.declared.fault.ArmedFault.{ArmedFault}
 use Rattle.sg_faults.specs.declared.fault.Count.{Count}
 use Rattle.sg_faults.specs.declared.fault.Fault.{Fault}
 use Rattle.sg_units.specs.declared.types.ReservationType.TheVariants.{ExclusiveAccess}
-use Rattle.sg_target.specs.Armed.{Armed, armed_step}
+use Rattle.sg_target.specs.Armed.{Armed, ArmedStep, armed_step}
 use Rattle.sg_target.specs.Effect.{with_contents}
 use Rattle.sg_target.specs.Runs.{after_events, armed_disk, armed_step_of}
 use Rattle.sg_target.specs.State.{IsWithinLimits}
-use Rattle.sg_target.specs.Step.{Answer}
 use Rattle.sg_target.specs.declared.call.Call.{Call}
 use Rattle.sg_target.specs.declared.event.Event.{Event}
 use Rattle.sg_target.specs.declared.event.Event.TheVariants as event
@@ -25,11 +24,18 @@ use Rattle.sg_fencing.specs.Registrants.{is_registrant, is_reserved}
 
 -- ---- Words
 
--- A command is denied: it does not end with GOOD, and returns no data-in. On a disk with armed faults
--- the first does not imply the second, since a fault can report a READ as failed after it.
-pub record IsDenied (answer : Answer) : Type 0 where
-  pub status : answer.status ≢ Good
-  pub data_in : answer.data_in ≡ []
+-- A command is denied: it does not end with GOOD, and returns no data-in, not even bytes that do not
+-- arrive. On a disk with armed faults the first does not imply the second, since a fault can report a
+-- READ as failed after it.
+pub record IsDenied (done : ArmedStep) : Type 0 where
+  pub status : done.answer.status ≢ Good
+  pub data_in : done.answer.data_in ≡ []
+  pub unsent : done.unsent ≡ []
+
+-- Two commands return the same, also the same bytes that do not arrive.
+pub record ReturnTheSame (first second : ArmedStep) : Type 0 where
+  pub answer : first.answer ≡ second.answer
+  pub unsent : first.unsent ≡ second.unsent
 
 -- The disk has other blocks, and the same faults.
 abbrev pub with_other_blocks : Armed → Contents → Armed
@@ -49,12 +55,12 @@ faults_for disk initiator = map (λ slot. option_and_then (left_for initiator) s
 -- blocks are, and whichever are mapped. No command changes what is left of the faults for others.
 pub record IsKeptAway (disk : Armed) (initiator : ℕ) (cdb data_out : List ℕ)
     (excludes_reading : Bool) : Type 0 where
-  pub writes : class_of cdb ≡ Some Writes → IsDenied (armed_step disk initiator cdb data_out).answer
+  pub writes : class_of cdb ≡ Some Writes → IsDenied (armed_step disk initiator cdb data_out)
   pub reads : class_of cdb ≡ Some Reads → excludes_reading ≡ true
-      → IsDenied (armed_step disk initiator cdb data_out).answer
+      → IsDenied (armed_step disk initiator cdb data_out)
   pub unseen : (contents : Contents) → excludes_reading ≡ true
-      → (armed_step (with_other_blocks disk contents) initiator cdb data_out).answer
-      ≡ (armed_step disk initiator cdb data_out).answer
+      → ReturnTheSame (armed_step (with_other_blocks disk contents) initiator cdb data_out)
+      (armed_step disk initiator cdb data_out)
   pub faults : (other : ℕ) → other ≢ initiator
       → faults_for (armed_step disk initiator cdb data_out).after other ≡ faults_for disk other
 

@@ -1,5 +1,5 @@
 -- Commands on a disk with armed faults.
-use Rattle.std.proofs.Common.{◌≡◌, ◌≤◌, ℕ, ◌*◌, List, min, Option, Some, None}
+use Rattle.std.proofs.Common.{◌≡◌, ◌≤◌, ℕ, ◌*◌, List, [], min, Option, Some, None}
 use Rattle.std.proofs.Common.{Result, Ok, Err, Bool, true, false, if◌then◌else◌, refl, ap, ap₂, ◌∙◌}
 use Rattle.std.proofs.Common.{arith, length-take}
 use Rattle.std.specs.Prelude.{IfOk}
@@ -69,7 +69,11 @@ module _ (law : UnarmedFaultsDoNothing) where
   finished-unarmed : (status : Status) (command : Seen) (faults : Faults) (done : Step)
       → is_armed faults ≡ false
       → finished_if_good status None command faults done
-      ≡ record { answer = done.answer; after = record { state = done.state; faults = faults } }
+      ≡ record {
+        answer = done.answer;
+        unsent = [];
+        after = record { state = done.state; faults = faults };
+      }
   finished-unarmed Good command faults done e =
       let idle = law.afterwards command faults e in
       let same = law.healing command faults e in
@@ -81,7 +85,7 @@ module _ (law : UnarmedFaultsDoNothing) where
       → is_armed disk.faults ≡ false → marked_by checked ≡ None
       → armed_step_by disk i cdb checked
       ≡ (let done = step_of_checked disk.state i checked in
-      record { answer = done.answer; after = record disk { state = done.state } })
+      record { answer = done.answer; unsent = []; after = record disk { state = done.state } })
   step-by-unarmed disk i cdb checked e none =
       let tried = attempt-unarmed disk.faults (seen i cdb checked) checked e none in
       let done = step_of_checked disk.state i checked in
@@ -99,7 +103,7 @@ module _ (law : UnarmedFaultsDoNothing) where
       → is_write_long (command_in (profile_of disk.state) cdb) ≡ false
       → armed_step disk i cdb data_out
       ≡ (let done = step disk.state i cdb data_out in
-      record { answer = done.answer; after = record disk { state = done.state } })
+      record { answer = done.answer; unsent = []; after = record disk { state = done.state } })
   step-unarmed disk i cdb data_out e other =
       step-by-unarmed disk i cdb (checked_cdb disk.state i cdb data_out) e
       (only-write-long disk.state i cdb data_out other)

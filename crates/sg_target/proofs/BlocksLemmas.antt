@@ -19,17 +19,20 @@ use Rattle.sg_store.specs.Disk.Mapping.{Data, Anchored}
 use Rattle.sg_store.specs.Laws.{DisksStayWellFormed}
 use Rattle.sg_target.specs.BlockCommands.{blocks_out, bytes_of}
 use Rattle.sg_pages.specs.BlockDescriptor.{logical_block_length}
+use Rattle.sg_wire.specs.SupportedOperations.{requested_report}
+use Rattle.sg_pages.specs.Reports.{lists_unit, log_page_with}
+use Rattle.sg_pages.specs.declared.reports.Report.TheVariants as report
 use Rattle.sg_target.specs.Checks.{cdb_checks, checked_cdb, checked_operation}
 use Rattle.sg_target.specs.Checks.{checked_parse, out_of_range, past_capacity}
 use Rattle.sg_target.specs.Checks.{requested, short_data_out, unsupported_value, write_protection}
 use Rattle.sg_target.specs.Config.{ConfigFields}
-use Rattle.sg_target.specs.Demands.{Demands, bad_count, demands, extent, takes}
+use Rattle.sg_target.specs.Demands.{Demands, bad_comparison, bad_count, demands, extent, takes}
 use Rattle.sg_target.specs.Demands.{too_long, bad_anchor, unmap_extent, unmap_extents}
 use Rattle.sg_target.specs.Demands.{unmap_or_fill}
 use Rattle.sg_target.specs.Effect.{Effect}
 use Rattle.sg_target.specs.Extents.{AreOnDisk}
 use Rattle.sg_target.specs.ProvisioningCommands.{block_out, changed_in_turn, listed_extents, unmaps}
-use Rattle.sg_target.specs.Refusal.{checked_next, first_some, unless_refused, when_sound}
+use Rattle.sg_target.specs.Refusal.{checked_next, first_some, or_refused, unless_refused, when_sound}
 use Rattle.sg_target.specs.Semantics.{effect_of, medium_use}
 use Rattle.sg_target.specs.State.{State, config_of, profile_of}
 use Rattle.sg_target.specs.declared.operation.Operation.{Operation}
@@ -114,8 +117,35 @@ command-sound config (command.Write6 short) data_out =
     write-sound (extent short.0 short.1) None data_out
 command-sound config (command.Write10 c) data_out =
     write-sound (extent c.lba c.count) (too_long config c.count 7) data_out
+command-sound config (command.Write12 c) data_out =
+    write-sound (extent c.lba c.count) (too_long config c.count 6) data_out
 command-sound config (command.Write16 c) data_out =
     write-sound (extent c.lba c.count) (too_long config c.count 10) data_out
+command-sound config (command.WriteAndVerify10 c) data_out =
+    write-sound (extent c.extent.lba c.extent.count)
+    (bad_comparison c.byte_check (too_long config c.extent.count 7)) data_out
+command-sound config (command.WriteAndVerify12 c) data_out =
+    write-sound (extent c.extent.lba c.extent.count)
+    (bad_comparison c.byte_check (too_long config c.extent.count 6)) data_out
+command-sound config (command.WriteAndVerify16 c) data_out =
+    write-sound (extent c.extent.lba c.extent.count)
+    (bad_comparison c.byte_check (too_long config c.extent.count 10)) data_out
+command-sound config (command.LogSense c) data_out =
+    requested-sound (demands config (command.LogSense c) data_out) data_out
+    (when
+    (or_refused (λ byte. CheckCondition (InvalidFieldInCdb byte))
+    (log_page_with c.page_code c.subpage_code))
+    (λ page. operation.ReturnReport (report.Log page) c.allocation_length) (λ page. tt))
+command-sound config (command.ReportSupportedOperationCodes c) data_out =
+    requested-sound (demands config (command.ReportSupportedOperationCodes c) data_out) data_out
+    (when
+    (ok_or (requested_report config.identity.profile c) (CheckCondition (InvalidFieldInCdb 2)))
+    (λ requested. operation.ReturnReport (report.Commands requested) c.allocation_length)
+    (λ requested. tt))
+command-sound config (command.ReportLuns c) data_out =
+    requested-sound (demands config (command.ReportLuns c) data_out) data_out
+    (when (ok_or (lists_unit c.select) (CheckCondition (InvalidFieldInCdb 2)))
+    (λ listed. operation.ReturnLuns listed c.allocation_length) (λ listed. tt))
 command-sound config (command.WriteSame10 c) data_out =
     write_same-sound c.anchor c.unmap (extent c.lba c.count)
     (bad_anchor c.anchor c.unmap (bad_count config c.count 7)) data_out

@@ -14,6 +14,9 @@ use Rattle.sg_wire.specs.declared.command.CdbFault.{CdbFault}
 use Rattle.sg_wire.specs.declared.command.Command.{Command}
 use Rattle.sg_wire.specs.declared.command.Command.TheVariants as command
 use Rattle.sg_wire.specs.declared.command.provisioning.Unmap.{Unmap}
+use Rattle.sg_wire.specs.declared.command.verify.ByteCheck.{ByteCheck}
+use Rattle.sg_wire.specs.declared.command.verify.ByteCheck.TheVariants.{Nothing, DataOut}
+use Rattle.sg_wire.specs.declared.command.verify.ByteCheck.TheVariants.{Reserved, OneBlock}
 use Rattle.sg_wire.specs.declared.extent.Extent.{Extent}
 use Rattle.sg_wire.specs.declared.unmap_list.UnmapListFault.{UnmapListFault}
 use Rattle.sg_store.specs.Disk.{Contents, block, block_at, lies_in, zero_block, Mapping, need}
@@ -38,9 +41,10 @@ use Rattle.sg_target.specs.CommandLaws.{Changes, EndsWithGood, ReadsReturnTheirB
 use Rattle.sg_target.specs.CommandLaws.{UnmapsFollowTheirLists, WriteSameFields}
 use Rattle.sg_target.specs.CommandLaws.{WriteSamesLeaveTheirBlock, WritesLeaveTheirData}
 use Rattle.sg_target.specs.CommandLaws.{blocks_to_read, blocks_to_write, status_of_same}
-use Rattle.sg_target.specs.CommandLaws.{unmapped_status, write_same_fields}
+use Rattle.sg_target.specs.CommandLaws.{unmapped_status, verified_blocks, write_same_fields}
 use Rattle.sg_target.specs.Config.{ConfigFields}
-use Rattle.sg_target.specs.Demands.{bad_count, demands, extent, bad_anchor, unmap_extent}
+use Rattle.sg_target.specs.Demands.{bad_comparison, bad_count, demands, extent, bad_anchor}
+use Rattle.sg_target.specs.Demands.{unmap_extent}
 use Rattle.sg_target.specs.Demands.{unmap_extents, unmap_or_fill}
 use Rattle.sg_target.specs.Effect.{Effect, with_contents}
 use Rattle.sg_target.specs.Laws.{AnchorsEachExtent, UnmapsEachExtent, lies_in_any}
@@ -112,6 +116,7 @@ read-asked : (config : ConfigFields) (c : Command) (data_out : List ℕ) (o : Op
     → operation.Read read ≡ o
 read-asked config (command.Read6 short) data_out o read e h = cc
 read-asked config (command.Read10 c) data_out o read e h = cc
+read-asked config (command.Read12 c) data_out o read e h = cc
 read-asked config (command.Read16 c) data_out o read e h = cc
 read-asked config _ data_out o read e h = cc
 
@@ -126,12 +131,34 @@ reads-return state i cdb data_out read is good =
 
 -- ---- WRITE
 
+-- the comparison of a WRITE AND VERIFY of some blocks is supported
+pub its-blocks : (check : ByteCheck) (named out : Extent) → verified_blocks check named ≡ Some out
+    → named ≡ out
+its-blocks Nothing named out h = cc
+its-blocks DataOut named out h = cc
+its-blocks Reserved named out h = cc
+its-blocks OneBlock named out h = cc
+
+pub its-comparison : (check : ByteCheck) (named out : Extent) (otherwise : Option ℕ)
+    → verified_blocks check named ≡ Some out → bad_comparison check otherwise ≡ otherwise
+its-comparison Nothing named out otherwise h = refl
+its-comparison DataOut named out otherwise h = refl
+its-comparison Reserved named out otherwise h = cc
+its-comparison OneBlock named out otherwise h = cc
+
 write-asked : (config : ConfigFields) (c : Command) (data_out : List ℕ) (o : Operation) (out : Extent)
     → (demands config c data_out).operation ≡ Ok o → blocks_to_write (Ok c) ≡ Some out
     → operation.Write (blocks_out out data_out) ≡ o
 write-asked config (command.Write6 short) data_out o out e h = cc
 write-asked config (command.Write10 c) data_out o out e h = cc
+write-asked config (command.Write12 c) data_out o out e h = cc
 write-asked config (command.Write16 c) data_out o out e h = cc
+write-asked config (command.WriteAndVerify10 c) data_out o out e h =
+    let same : extent c.extent.lba c.extent.count ≡ out = its-blocks c.byte_check _ out h in cc
+write-asked config (command.WriteAndVerify12 c) data_out o out e h =
+    let same : extent c.extent.lba c.extent.count ≡ out = its-blocks c.byte_check _ out h in cc
+write-asked config (command.WriteAndVerify16 c) data_out o out e h =
+    let same : extent c.extent.lba c.extent.count ≡ out = its-blocks c.byte_check _ out h in cc
 write-asked config _ data_out o out e h = cc
 
 -- a block of the first bytes of data-out is that of data-out

@@ -1,5 +1,8 @@
 -- A command is concluded: what it answers, leaves and costs on a disk with armed faults.
-use Rattle.std.proofs.Common.{◌≡◌, ◌≤◌, ℕ, List, Option, Some, None, Result, false, refl, sym, ap, subst, ◌∙◌}
+use Rattle.std.proofs.Common.{◌≡◌, ◌≤◌, ℕ, List, [], ◌++◌, min, Option, Some, None, Result, false}
+use Rattle.std.proofs.Common.{refl, sym, ap, subst, ◌∙◌}
+use Rattle.std.proofs.lemmas.List.{append-nil, length-take, take-append-drop}
+use Rattle.sg_wire.specs.FirstBytes.{overwritten}
 use Rattle.sg_wire.specs.declared.sense.Format.{Format}
 use Rattle.sg_faults.specs.Faults.{Faults, asked, decided, is_armed}
 use Rattle.sg_faults.specs.Laws.{UnarmedFaultsDoNothing}
@@ -13,6 +16,7 @@ use Rattle.sg_store.specs.Meter.{Meter}
 use Rattle.sg_target.specs.Armed.{Armed, ArmedStep, Attempt, afterwards_step, answer_afterwards}
 use Rattle.sg_target.specs.Armed.{armed_step, armed_step_by, attempt, attempt_by, faults_left}
 use Rattle.sg_target.specs.Armed.{finished, finished_if_good, marked_by, seen, step_of_checked}
+use Rattle.sg_target.specs.Armed.{unsent_afterwards}
 use Rattle.sg_target.specs.Charge.{ChargesCommand, CostBounds, IsCharged, TakesArmedStep, TakesStep}
 use Rattle.sg_target.specs.Charge.{armed_ranges, visit_bound}
 use Rattle.sg_target.specs.Checks.{checked_cdb}
@@ -20,7 +24,7 @@ use Rattle.sg_target.specs.Execution.{IsExecuted}
 use Rattle.sg_target.specs.MadeReplies.{finished_reply, reply_afterwards}
 use Rattle.sg_target.specs.Laws.{LimitsAreKept}
 use Rattle.sg_target.specs.Ranges.{Range, ranges_if_passed}
-use Rattle.sg_target.specs.Reply.{Carries}
+use Rattle.sg_target.specs.Reply.{Carries, CarriesOf, CarriesStep}
 use Rattle.sg_target.specs.State.{IsWithinLimits, State}
 use Rattle.sg_target.specs.Step.{Answer, Step, sense_format}
 use Rattle.sg_target.specs.Target.{TargetFields, disk_of}
@@ -49,9 +53,7 @@ module _ (limits : LimitsAreKept) (bounds : CostBounds) (i : ℕ) (cdb data_out 
   executed over within h =
       let after = h.after ∙ ap (λ (s : ArmedStep). s.after) step-is in
       record {
-        answer =
-            subst (λ (a : Answer). Carries a reply buffer buffer')
-            (ap (λ (s : ArmedStep). s.answer) step-is) h.answer;
+        answer = subst (λ (s : ArmedStep). CarriesStep s reply buffer buffer') step-is h.answer;
         after = after;
         limits =
             subst (λ (disk : Armed). IsWithinLimits disk.state) (sym after)
@@ -75,6 +77,17 @@ module _ (limits : LimitsAreKept) (bounds : CostBounds) (i : ℕ) (cdb data_out 
 
 -- ---- No fault is armed
 
+-- all of the data-in arrives
+carries-all : (answer : Answer) (reply : Reply) (buffer buffer' : List ℕ)
+    → Carries answer reply buffer buffer'
+    → CarriesOf (answer.data_in ++ []) answer reply buffer buffer'
+carries-all answer reply buffer buffer' h = record {
+  status = h.status;
+  sense = h.sense;
+  size = h.size;
+  data_in = h.data_in ∙ ap (λ d. overwritten d buffer) (sym (append-nil answer.data_in));
+}
+
 pub takes-unarmed : UnarmedFaultsDoNothing → (bounds : CostBounds) (i : ℕ) (cdb : List ℕ)
     (checked : Result Operation Refusal) (old new : TargetFields) (reply : Reply)
     (buffer buffer' : List ℕ) → is_armed old.faults ≡ false → marked_by checked ≡ None
@@ -87,8 +100,8 @@ takes-unarmed law bounds i cdb checked old new reply buffer buffer' unarmed none
     let tried = attempt-unarmed law old.faults (seen i cdb checked) checked unarmed none in
     record {
       answer =
-          subst (λ (a : Answer). Carries a reply buffer buffer')
-          (sym (ap (λ (s : ArmedStep). s.answer) step)) h.answer;
+          subst (λ (s : ArmedStep). CarriesStep s reply buffer buffer') (sym step)
+          (carries-all _ reply buffer buffer' h.answer);
       after =
           (λ d. record { state = h.state d; faults = h.faults d })
           ∙ sym (ap (λ (s : ArmedStep). s.after) step);
@@ -103,19 +116,31 @@ takes-unarmed law bounds i cdb checked old new reply buffer buffer' unarmed none
 -- the reply after the faults afterwards carries the answer after them
 by-outcome : (outcome : Afterwards) (done : Step) (reply : Reply) (buffer buffer' : List ℕ)
     → Carries done.answer reply buffer buffer'
-    → Carries (answer_afterwards outcome done)
-    (reply_afterwards (sense_format done.state) reply outcome) buffer buffer'
+    → CarriesOf ((answer_afterwards outcome done).data_in ++ unsent_afterwards outcome done)
+    (answer_afterwards outcome done) (reply_afterwards (sense_format done.state) reply outcome) buffer
+    buffer'
 by-outcome after.NoReply done reply buffer buffer' h =
-    record { status = refl; sense = h.sense; size = h.size; data_in = h.data_in }
+    let all = carries-all done.answer reply buffer buffer' h in
+    record { status = refl; sense = h.sense; size = h.size; data_in = all.data_in }
 by-outcome (after.CheckCondition code) done reply buffer buffer' h =
-    record { status = refl; sense = refl; size = h.size; data_in = h.data_in }
+    let all = carries-all done.answer reply buffer buffer' h in
+    record { status = refl; sense = refl; size = h.size; data_in = all.data_in }
+by-outcome (after.ShortDataIn bytes) done reply buffer buffer' h =
+    let d = done.answer.data_in in
+    record {
+      status = h.status;
+      sense = h.sense;
+      size = ap (min bytes) h.size ∙ sym (length-take bytes d);
+      data_in = h.data_in ∙ ap (λ xs. overwritten xs buffer) (sym (take-append-drop bytes d));
+    }
 
 afterwards-carried : (struck : Option (Struck Afterwards)) (done : Step) (reply : Reply)
     (buffer buffer' : List ℕ) (faults : Faults)
     → Carries done.answer reply buffer buffer'
-    → Carries (afterwards_step struck done faults).answer
+    → CarriesStep (afterwards_step struck done faults)
     (finished_reply (sense_format done.state) reply struck) buffer buffer'
-afterwards-carried None done reply buffer buffer' faults h = h
+afterwards-carried None done reply buffer buffer' faults h =
+    carries-all done.answer reply buffer buffer' h
 afterwards-carried (Some struck) done reply buffer buffer' faults h =
     by-outcome struck.outcome done reply buffer buffer' h
 
@@ -144,6 +169,16 @@ module _ (bounds : CostBounds) (pool : ℕ) (over : List Range) (from to : Meter
       → IsCharged bounds pool over from to (reply_afterwards format reply outcome)
   charged-by after.NoReply = without-good NoReply reply.sense (λ bad. cc)
   charged-by (after.CheckCondition code) = without-good CheckCondition _ (λ bad. cc)
+  charged-by (after.ShortDataIn bytes) = record {
+    visits = h.visits;
+    probes = h.probes;
+    links = h.links;
+    least = h.least;
+    visited = h.visited;
+    counted = h.counted;
+    restarts = h.restarts;
+    idle = h.idle;
+  }
 
   finished-charged : (struck : Option (Struck Afterwards))
       → IsCharged bounds pool over from to (finished_reply format reply struck)
@@ -212,8 +247,8 @@ module _ (bounds : CostBounds) (i : ℕ) (cdb : List ℕ) (checked : Result Oper
       let is = finished-bad step.answer.status mark command tried.faults step bad in
       record {
         answer =
-            subst (λ (a : Answer). Carries a reply buffer buffer')
-            (sym (ap (λ (s : ArmedStep). s.answer) is)) takes.answer;
+            subst (λ (s : ArmedStep). CarriesStep s reply buffer buffer') (sym is)
+            (carries-all step.answer reply buffer buffer' takes.answer);
         after =
             (λ d. record { state = takes.state d; faults = kept d })
             ∙ sym (ap (λ (s : ArmedStep). s.after) is);
@@ -245,10 +280,9 @@ module _ (bounds : CostBounds) (i : ℕ) (cdb : List ℕ) (checked : Result Oper
       let format = ap sense_format takes.state in
       record {
         answer =
-            subst (λ (a : Answer). Carries a last buffer buffer')
-            (sym (ap (λ (s : ArmedStep). s.answer) is))
+            subst (λ (s : ArmedStep). CarriesStep s last buffer buffer') (sym is)
             (subst
-            (λ (r : Reply). Carries (afterwards_step due step final).answer r buffer buffer')
+            (λ (r : Reply). CarriesStep (afterwards_step due step final) r buffer buffer')
             (sym (last_is ∙ (λ d. finished_reply (format d) reply (struck d))))
             (afterwards-carried due step reply buffer buffer' final takes.answer));
         after =

@@ -1,7 +1,8 @@
 -- The laws of armed faults.
-use Rattle.std.proofs.Common.{◌≡◌, ◌⊎◌, inl, inr, ℕ, Bool, true, false, not, List, [], ◌∷◌}
+use Rattle.std.proofs.Common.{◌≡◌, ◌⊎◌, inl, inr, ℕ, Bool, true, false, not, List, [], ◌∷◌, ◌++◌}
 use Rattle.std.proofs.Common.{Option, Some, None, Result, Ok, Err, refl, sym, ap, ◌∙◌, subst, zero, suc}
 use Rattle.std.proofs.lemmas.Bool.{and_parts, not-true}
+use Rattle.std.proofs.lemmas.List.{append-nil, take-append-drop}
 use Rattle.std.specs.List.{list_all}
 use Rattle.sg_wire.specs.CdbDecoding.{command_in}
 use Rattle.sg_wire.specs.declared.profile.Profile.{Profile}
@@ -23,7 +24,7 @@ use Rattle.sg_target.specs.Armed.{answer_afterwards, armed_step_by, arrival_atte
 use Rattle.sg_target.specs.Armed.{attempt_of, checked_attempt, faults_left, finished_attempt}
 use Rattle.sg_target.specs.Armed.{finished_if_good, first_blocks, lacks_room, marked_by}
 use Rattle.sg_target.specs.Armed.{medium_attempt, refusal_on_arrival, result_at_medium, seen}
-use Rattle.sg_target.specs.Armed.{step_of_checked, with_room}
+use Rattle.sg_target.specs.Armed.{step_of_checked, unsent_afterwards, whole_answer, with_room}
 use Rattle.sg_target.specs.Checks.{checked_cdb}
 use Rattle.sg_target.specs.Config.{ConfigFields}
 use Rattle.sg_target.specs.FaultLaws.{ArrivalChangesOnlyCounts, AsWithoutFaults}
@@ -153,7 +154,8 @@ module _ (state : State) (i : ℕ) (cdb data_out : List ℕ) where
   -- a step that ends with GOOD is the step of what the faults have left of an operation
   tried-good : (given : ArmedStep) (result : Result Operation Refusal) → Tried result
       → (step_of_checked state i result).answer.status ≡ Good
-      → given.answer ≡ (step_of_checked state i result).answer → given.after.state ≡ state_by result
+      → whole_answer given ≡ (step_of_checked state i result).answer
+      → given.after.state ≡ state_by result
       → IsExecutedInPart state i cdb data_out given
   tried-good given (Err refusal) tried good answer after = absurd (not_good state i refusal good)
   tried-good given (Ok o) (inl same) good answer after = record {
@@ -174,24 +176,34 @@ module _ (state : State) (i : ℕ) (cdb data_out : List ℕ) where
     after = after;
   }
 
--- a fault afterwards leaves no GOOD
+-- all data-in is the same
+with-data : (answer : Answer) (data_in : List ℕ) → data_in ≡ answer.data_in
+    → record answer { data_in = data_in } ≡ answer
+with-data answer data_in e = ap (λ d. record answer { data_in = d }) e
+
+-- a fault afterwards leaves no GOOD, or GOOD with the first bytes of data-in
 answer-if-good : (struck : Option (Struck Afterwards)) (done : Step) (faults : Faults)
     → (afterwards_step struck done faults).answer.status ≡ Good
-    → (afterwards_step struck done faults).answer ≡ done.answer
-answer-if-good None done faults e = refl
-answer-if-good (Some struck) done faults e = absurd (changed struck.outcome e)
+    → whole_answer (afterwards_step struck done faults) ≡ done.answer
+answer-if-good None done faults e = with-data done.answer _ (append-nil done.answer.data_in)
+answer-if-good (Some struck) done faults e = left struck.outcome e
   where
-    changed : (outcome : Afterwards) → (answer_afterwards outcome done).status ≡ Good → ⊥
-    changed after.NoReply e = cc
-    changed (after.CheckCondition code) e = cc
+    left : (outcome : Afterwards) → (answer_afterwards outcome done).status ≡ Good
+        → (let answer = answer_afterwards outcome done in
+        record answer { data_in = answer.data_in ++ unsent_afterwards outcome done }) ≡ done.answer
+    left after.NoReply e = cc
+    left (after.CheckCondition code) e = cc
+    left (after.ShortDataIn bytes) e =
+        with-data done.answer _ (take-append-drop bytes done.answer.data_in)
 
 finished-good : (status : Status) (mark : Option Fault) (command : Seen) (faults : Faults) (done : Step)
     → (finished_if_good status mark command faults done).answer.status ≡ Good
-    → (finished_if_good status mark command faults done).answer ≡ done.answer
+    → whole_answer (finished_if_good status mark command faults done) ≡ done.answer
 finished-good Good mark command faults done e =
     let left = faults_left mark command faults in
     answer-if-good (decided afterwards command left) done (asked afterwards command left) e
-finished-good _ mark command faults done e = refl
+finished-good _ mark command faults done e =
+    with-data done.answer _ (append-nil done.answer.data_in)
 
 module _ (disk : Armed) (i : ℕ) (cdb data_out : List ℕ) where
   abbrev tried_by : Attempt
@@ -245,12 +257,13 @@ module _ (disk : Armed) (i : ℕ) (cdb : List ℕ) (by_checks : Refusal) where
       finished_if_good done.answer.status None command faults done)
   refused-by refusal whose command faults =
       let done = refused disk.state i refusal in
+      let bad = not_good disk.state i refusal in
+      let is = finished-bad done.answer.status None command faults done bad in
       record {
         refusal = refusal;
         whose = whose;
-        answer =
-            ap (λ (s : ArmedStep). s.answer)
-            (finished-bad done.answer.status None command faults done (not_good disk.state i refusal));
+        answer = ap (λ (s : ArmedStep). s.answer) is;
+        all_sent = ap (λ (s : ArmedStep). s.unsent) is;
         after = finished-state done.answer.status None command faults done;
       }
 
@@ -386,15 +399,20 @@ module _ (condition : Seen → Faults → Bool) (law : KeepsQuiet condition) (i 
       (arrival_attempt d command checked left))
       (sym idle.0) (checked-untouched command checked left idle.1)
 
+  record IsAnswer (done : Step) (given : ArmedStep) : Type 0 where
+    answer : given.answer ≡ done.answer
+    all_sent : given.unsent ≡ []
+
   finished-untouched : (status : Status) (command : Seen) (faults : Faults) (done : Step)
       → condition command faults ≡ true
-      → (finished_if_good status None command faults done).answer ≡ done.answer
+      → IsAnswer done (finished_if_good status None command faults done)
   finished-untouched Good command faults done e =
       let left = healed command faults in
       let idle = law.afterwards command left (law.healing command faults e) in
-      ap (λ (d : Option (Struck Afterwards)). (afterwards_step d done (asked afterwards command left)).answer)
-      idle.0
-  finished-untouched _ command faults done e = refl
+      let final = asked afterwards command left in
+      subst (λ (d : Option (Struck Afterwards)). IsAnswer done (afterwards_step d done final))
+      (sym idle.0) (record { answer = refl; all_sent = refl })
+  finished-untouched _ command faults done e = record { answer = refl; all_sent = refl }
 
   pub untouched-step : (disk : Armed) (data_out : List ℕ)
       → condition (seen i cdb (checked_cdb disk.state i cdb data_out)) disk.faults ≡ true
@@ -420,11 +438,12 @@ module _ (condition : Seen → Faults → Bool) (law : KeepsQuiet condition) (i 
       ap (finished_attempt disk.state i cdb) is
       ∙ ap (λ (m : Option Fault). finished_if_good done.answer.status m seen_again met.faults done)
       unmarked in
+      let final = finished-untouched done.answer.status seen_again met.faults done again in
       record {
         answer =
             ap (λ (s : ArmedStep). s.answer) given
-            ∙ (finished-untouched done.answer.status seen_again met.faults done again
-            ∙ ap (λ (s : Step). s.answer) same);
+            ∙ (final.answer ∙ ap (λ (s : Step). s.answer) same);
+        all_sent = ap (λ (s : ArmedStep). s.unsent) given ∙ final.all_sent;
         state =
             ap (λ (s : ArmedStep). s.after.state) given
             ∙ (finished-state done.answer.status None seen_again met.faults done

@@ -13,7 +13,7 @@ pub mod ExtentLemmas
 pub mod UnmapLemmas
 mod InTurnLemmas
 mod EachExtentLemmas
-mod CommandLemmas
+pub mod CommandLemmas
 mod JoiningLemmas
 pub mod NeedLemmas
 pub mod Space

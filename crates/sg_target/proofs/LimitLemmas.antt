@@ -42,6 +42,7 @@ use Rattle.sg_target.specs.declared.happening.Happening.TheVariants.{Establish, 
 use Rattle.sg_target.specs.declared.happening.Happening.TheVariants.{Arm, Disarm, DisarmAll}
 use Rattle.sg_target.specs.declared.operation.Operation.{Operation}
 use Rattle.sg_target.specs.declared.operation.Operation.TheVariants.{ReturnSense, ReturnModes}
+use Rattle.sg_target.specs.declared.operation.Operation.TheVariants.{ReturnLuns}
 use Rattle.sg_target.specs.declared.operation.Operation.TheVariants.{ChangeModes, ChangeReservations}
 use Rattle.sg_target.specs.declared.refusal.Reason.TheVariants.{UnitAttention as Attention}
 use Rattle.sg_target.specs.declared.refusal.Refusal.{Refusal}
@@ -111,6 +112,8 @@ module _ (reservations : ReservationsStayConsistent) (queues : QueuesKeepTheirLi
   operation-keeps : (state : State) (i : ℕ) (operation : Operation) → KeepsOthers state
       → EffectKeeps (effect_of state i operation)
   operation-keeps state i (ReturnSense format n) h = (queues.cleared state.attentions i h.0, h.1)
+  operation-keeps state i (ReturnLuns listed n) h =
+      (queues.without state.attentions i attention.ReportedLunsDataChanged h.0, h.1)
   operation-keeps state i (ReturnModes request n) h =
       sound-keeps (mode_parameters state.modes request) (returning_up_to state n) (λ list e. h)
   operation-keeps state i (ChangeModes width sp list) h =

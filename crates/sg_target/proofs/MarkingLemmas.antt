@@ -7,6 +7,9 @@ use Rattle.sg_wire.specs.FirstBytes.{first_bytes}
 use Rattle.sg_wire.specs.declared.command.Command.{Command}
 use Rattle.sg_wire.specs.declared.command.Command.TheVariants as command
 use Rattle.sg_wire.specs.declared.extent.Extent.{Extent}
+use Rattle.sg_wire.specs.SupportedOperations.{requested_report}
+use Rattle.sg_pages.specs.Reports.{lists_unit, log_page_with}
+use Rattle.sg_pages.specs.declared.reports.Report.TheVariants as report
 use Rattle.sg_faults.specs.Faults.{have_room_after}
 use Rattle.sg_faults.specs.Meeting.{Seen}
 use Rattle.sg_faults.specs.declared.fault.Fault.{Fault}
@@ -17,12 +20,13 @@ use Rattle.sg_target.specs.Demands.{demands, unmap_extent, unmap_extents}
 use Rattle.sg_target.specs.FaultLaws.{is_write_long}
 use Rattle.sg_target.specs.PrimaryCommands.{inquiry_page}
 use Rattle.sg_target.specs.ProvisioningCommands.{block_out, listed_extents, unmaps}
-use Rattle.sg_target.specs.Refusal.{when_sound}
+use Rattle.sg_target.specs.Refusal.{or_refused, when_sound}
 use Rattle.sg_target.specs.ReservationCommands.{fields_out}
 use Rattle.sg_target.specs.State.{State, config_of, profile_of}
 use Rattle.sg_target.specs.declared.operation.Operation.{Operation}
 use Rattle.sg_target.specs.declared.operation.Operation.TheVariants.{ChangeReservations, Fill}
-use Rattle.sg_target.specs.declared.operation.Operation.TheVariants.{ReturnInquiry}
+use Rattle.sg_target.specs.declared.operation.Operation.TheVariants.{ReturnInquiry, ReturnLuns}
+use Rattle.sg_target.specs.declared.operation.Operation.TheVariants.{ReturnReport}
 use Rattle.sg_target.specs.declared.refusal.Reason.TheVariants.{InsufficientResources, InvalidFieldInCdb}
 use Rattle.sg_target.specs.declared.refusal.Refusal.{Refusal}
 use Rattle.sg_target.specs.declared.refusal.Refusal.TheVariants.{CheckCondition}
@@ -62,6 +66,18 @@ unmarked config (command.Inquiry c) data_out other =
     (ok_or (inquiry_page config.identity.profile c.evpd c.page_code)
     (CheckCondition (InvalidFieldInCdb 2)))
     (λ page. ReturnInquiry page c.allocation_length) (λ page. refl)
+unmarked config (command.LogSense c) data_out other =
+    sound-unmarked
+    (or_refused (λ byte. CheckCondition (InvalidFieldInCdb byte))
+    (log_page_with c.page_code c.subpage_code))
+    (λ page. ReturnReport (report.Log page) c.allocation_length) (λ page. refl)
+unmarked config (command.ReportSupportedOperationCodes c) data_out other =
+    sound-unmarked
+    (ok_or (requested_report config.identity.profile c) (CheckCondition (InvalidFieldInCdb 2)))
+    (λ requested. ReturnReport (report.Commands requested) c.allocation_length) (λ requested. refl)
+unmarked config (command.ReportLuns c) data_out other =
+    sound-unmarked (ok_or (lists_unit c.select) (CheckCondition (InvalidFieldInCdb 2)))
+    (λ listed. ReturnLuns listed c.allocation_length) (λ listed. refl)
 unmarked config (command.WriteLong10 c) data_out other = cc
 unmarked config (command.WriteSame10 c) data_out other =
     same-unmarked c.anchor (unmaps c.unmap (block_out data_out)) _ (block_out data_out)

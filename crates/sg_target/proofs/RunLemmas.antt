@@ -12,7 +12,7 @@ use Rattle.sg_units.specs.Attentions.{ArePending}
 use Rattle.sg_units.specs.Reservations.{IsConsistent}
 use Rattle.sg_target.specs.Armed.{Armed}
 use Rattle.sg_target.specs.Charge.{CostBounds, IsCharged}
-use Rattle.sg_target.specs.Reply.{Carries}
+use Rattle.sg_target.specs.Reply.{CarriesOf}
 use Rattle.sg_target.specs.Runs.{Machine, after_event, after_events, answers_to, armed_disk}
 use Rattle.sg_target.specs.Runs.{armed_after_happening, armed_step_of, ranges_of_call, Exchange}
 use Rattle.sg_target.specs.Runs.{exchange, answer_in, AreCharged, HaveSizes, Exchanged}
@@ -171,20 +171,23 @@ all-within limits disk (event.Happen happening ∷ events) (suc n) h =
     (limits.happening happening disk.state h)
 
 -- the data-in of a reply is at the beginning of the buffer
-pub answer-carried : (answer : Answer) (reply : Reply) (before after : List ℕ)
-    → Carries answer reply before after → answer_in (exchange reply (take reply.data_in after)) ≡
-    answer
-answer-carried answer reply before after t =
+pub answer-carried : (answer : Answer) (unsent : List ℕ) (reply : Reply) (before after : List ℕ)
+    → CarriesOf (answer.data_in ++ unsent) answer reply before after
+    → answer_in (exchange reply (take reply.data_in after)) ≡ answer
+answer-carried answer unsent reply before after t =
+    let rest = drop (length (answer.data_in ++ unsent)) before in
     let data_in : take reply.data_in after ≡ answer.data_in =
-    ap (λ n. take n after) t.size ∙ ap (take (length answer.data_in)) t.data_in
-    ∙ take-append_seam answer.data_in (drop (length answer.data_in) before) in
+    ap (λ n. take n after) t.size
+    ∙ ap (take (length answer.data_in)) (t.data_in ∙ append_assoc answer.data_in unsent rest)
+    ∙ take-append_seam answer.data_in (unsent ++ rest) in
     λ i. record { status = t.status i; sense = t.sense i; data_in = data_in i }
 
 -- and it is as long as the reply says
-pub size-carried : (answer : Answer) (reply : Reply) (before after : List ℕ)
-    → Carries answer reply before after → reply.data_in ≡ length (take reply.data_in after)
-size-carried answer reply before after t = t.size
-    ∙ sym (ap (λ (a : Answer). length a.data_in) (answer-carried answer reply before after t))
+pub size-carried : (answer : Answer) (unsent : List ℕ) (reply : Reply) (before after : List ℕ)
+    → CarriesOf (answer.data_in ++ unsent) answer reply before after
+    → reply.data_in ≡ length (take reply.data_in after)
+size-carried answer unsent reply before after t = t.size
+    ∙ sym (ap (λ (a : Answer). length a.data_in) (answer-carried answer unsent reply before after t))
 
 -- a target to which something happens
 pub happened : (happening : Happening) (old new : TargetFields) → Happens happening old new

@@ -2,9 +2,10 @@
 -- without faults answers.
 use Rattle.std.specs.Prelude.{ℕ, min, List, Option, Some, None, Result, Ok, Err}
 use Rattle.std.specs.Prelude.{[], Bool, ◌&&◌, ◌||◌, not, if◌then◌else◌, slice_get}
-use Rattle.std.specs.Prelude.{is_some}
+use Rattle.std.specs.Prelude.{◌++◌, drop, is_some}
 use Rattle.std.specs.Option.{option_map_or}
 use Rattle.sg_wire.specs.declared.extent.Extent.{Extent}
+use Rattle.sg_wire.specs.FirstBytes.{first_bytes}
 use Rattle.sg_wire.specs.SenseData.{sense_data}
 use Rattle.sg_faults.specs.Arming.{unrecovered_error}
 use Rattle.sg_faults.specs.Faults.{Faults, asked, decided, have_room_after, healed, with_fault}
@@ -142,25 +143,44 @@ attempt faults command checked =
 
 -- ---- Afterwards
 
--- What a command returns in place of GOOD. Its data-in is the same.
+-- Only the first bytes of data-in arrive.
+abbrev pub with_first : (bytes : ℕ) → Answer → Answer
+with_first bytes answer = record answer { data_in = first_bytes bytes answer.data_in }
+
+-- What a command returns after a fault: another status than GOOD and the same data-in, or GOOD and only
+-- the first bytes of data-in.
 abbrev pub answer_afterwards : Afterwards → Step → Answer
 answer_afterwards after.NoReply done = record done.answer { status = NoReply }
 answer_afterwards (after.CheckCondition code) done =
     check_condition (sense_data (sense_format done.state) (fault_sense code)) done.answer.data_in
+answer_afterwards (after.ShortDataIn bytes) done = with_first bytes done.answer
 
--- The answer to a command, and what the disk becomes.
+-- The bytes of data-in after these do not arrive.
+abbrev pub unsent_afterwards : Afterwards → Step → List ℕ
+unsent_afterwards (after.ShortDataIn bytes) done = drop bytes done.answer.data_in
+unsent_afterwards _ done = []
+
+-- The answer to a command, the bytes after its data-in that do not arrive, and what the disk becomes.
 pub record ArmedStep : Type 0 where
   pub answer : Answer
+  pub unsent : List ℕ
   pub after : Armed
 
+-- The answer with all of its data-in, whether it arrives or not.
+abbrev pub whole_answer : ArmedStep → Answer
+whole_answer done = record done.answer { data_in = done.answer.data_in ++ done.unsent }
+
 abbrev pub afterwards_step : Option (Struck Afterwards) → Step → Faults → ArmedStep
-afterwards_step None done faults =
-    record { answer = done.answer; after = record { state = done.state; faults = faults } }
-afterwards_step (Some struck) done faults =
-    record {
-      answer = answer_afterwards struck.outcome done;
-      after = record { state = done.state; faults = faults };
-    }
+afterwards_step None done faults = record {
+  answer = done.answer;
+  unsent = [];
+  after = record { state = done.state; faults = faults };
+}
+afterwards_step (Some struck) done faults = record {
+  answer = answer_afterwards struck.outcome done;
+  unsent = unsent_afterwards struck.outcome done;
+  after = record { state = done.state; faults = faults };
+}
 
 -- A command that has ended with GOOD heals blocks that it wrote, or marks one as bad. Then it meets the
 -- faults afterwards.

@@ -5,7 +5,7 @@ use Rattle.sg_store.specs.Disk.{Contents}
 use Rattle.sg_store.specs.Meter.{Meter, probe_bound}
 use Rattle.sg_target.specs.Armed.{Armed, ArmedStep, attempt_by}
 use Rattle.sg_target.specs.Ranges.{Range, ranges, ranges_if_passed}
-use Rattle.sg_target.specs.Reply.{Carries}
+use Rattle.sg_target.specs.Reply.{Carries, CarriesStep}
 use Rattle.sg_target.specs.Step.{Step, outcome}
 use Rattle.sg_target.specs.Target.{TargetFields, disk_of}
 use Rattle.sg_target.specs.declared.reply.Reply.{Reply}
@@ -92,7 +92,7 @@ pub record TakesStep (bounds : CostBounds) (done : Step) (over : List Range)
 -- The same on a disk with armed faults.
 pub record TakesArmedStep (bounds : CostBounds) (done : ArmedStep) (over : List Range)
     (old new : TargetFields) (reply : Reply) (buffer buffer' : List ℕ) : Type 0 where
-  pub answer : Carries done.answer reply buffer buffer'
+  pub answer : CarriesStep done reply buffer buffer'
   pub after : disk_of new ≡ done.after
   pub charge : IsCharged bounds old.state.disk.pool over old.meter new.meter reply
 

@@ -8,6 +8,8 @@ use Rattle.sg_wire.specs.declared.command.CdbFault.{CdbFault}
 use Rattle.sg_wire.specs.declared.command.Command.{Command}
 use Rattle.sg_wire.specs.declared.command.Command.TheVariants as command
 use Rattle.sg_wire.specs.declared.command.provisioning.Unmap.{Unmap}
+use Rattle.sg_wire.specs.declared.command.verify.ByteCheck.{ByteCheck}
+use Rattle.sg_wire.specs.declared.command.verify.ByteCheck.TheVariants.{Nothing, DataOut}
 use Rattle.sg_wire.specs.declared.extent.Extent.{Extent}
 use Rattle.sg_store.specs.Disk.{block, block_at, blocks, lies_in, zero_block}
 use Rattle.sg_store.specs.LbaStatus.{status_at}
@@ -40,12 +42,13 @@ pub record Changes (before after : State) (addresses : ℕ → Bool) (status : P
       ≡ (if addresses address then given address else block before.disk.contents address)
   pub rest : after ≡ with_contents before after.disk.contents
 
--- ---- READ (SBC-3, 5.11 and 5.13; READ(6) of SBC-2)
+-- ---- READ (SBC-3, 5.11 to 5.13; READ(6) of SBC-2)
 
--- The blocks of a READ(6), READ(10) or READ(16).
+-- The blocks of a READ(6), READ(10), READ(12) or READ(16).
 abbrev pub blocks_to_read : Result Command CdbFault → Option Extent
 blocks_to_read (Ok (command.Read6 short)) = Some (extent short.0 short.1)
 blocks_to_read (Ok (command.Read10 c)) = Some (extent c.lba c.count)
+blocks_to_read (Ok (command.Read12 c)) = Some (extent c.lba c.count)
 blocks_to_read (Ok (command.Read16 c)) = Some (extent c.lba c.count)
 blocks_to_read _ = None
 
@@ -60,13 +63,26 @@ ReadsReturnTheirBlocks =
     → blocks_to_read (command_of cdb) ≡ Some read → EndsWithGood state initiator cdb data_out
     → ReturnsBlocks state (step state initiator cdb data_out) read
 
--- ---- WRITE (SBC-3, 5.33 and 5.35; WRITE(6) of SBC-2)
+-- ---- WRITE and WRITE AND VERIFY (SBC-3, 5.33 to 5.39; WRITE(6) of SBC-2)
 
--- The blocks of a WRITE(6), WRITE(10) or WRITE(16).
+-- The blocks of a WRITE AND VERIFY, unless it asks for a comparison that is not supported.
+abbrev pub verified_blocks : ByteCheck → Extent → Option Extent
+verified_blocks Nothing extent = Some extent
+verified_blocks DataOut extent = Some extent
+verified_blocks _ extent = None
+
+-- The blocks of a WRITE(6), WRITE(10), WRITE(12) or WRITE(16), and of a WRITE AND VERIFY.
 abbrev pub blocks_to_write : Result Command CdbFault → Option Extent
 blocks_to_write (Ok (command.Write6 short)) = Some (extent short.0 short.1)
 blocks_to_write (Ok (command.Write10 c)) = Some (extent c.lba c.count)
+blocks_to_write (Ok (command.Write12 c)) = Some (extent c.lba c.count)
 blocks_to_write (Ok (command.Write16 c)) = Some (extent c.lba c.count)
+blocks_to_write (Ok (command.WriteAndVerify10 c)) =
+    verified_blocks c.byte_check (extent c.extent.lba c.extent.count)
+blocks_to_write (Ok (command.WriteAndVerify12 c)) =
+    verified_blocks c.byte_check (extent c.extent.lba c.extent.count)
+blocks_to_write (Ok (command.WriteAndVerify16 c)) =
+    verified_blocks c.byte_check (extent c.extent.lba c.extent.count)
 blocks_to_write _ = None
 
 -- They are mapped, and each has its bytes of the data-out.

@@ -3,6 +3,7 @@ use Rattle.std.specs.Prelude.{ℕ, Bool, true, false, List}
 use Rattle.sg_wire.specs.SenseData.{sense_data}
 use Rattle.sg_pages.specs.CapacityData.{capacity_10, capacity_16}
 use Rattle.sg_pages.specs.DataLengths.{capacity_10_length, capacity_16_length}
+use Rattle.sg_pages.specs.Reports.{longest_report, report_data}
 use Rattle.sg_pages.specs.Identity.{IdentityFields}
 use Rattle.sg_units.specs.declared.reservation_state.ReservationState.{ReservationState}
 use Rattle.sg_units.specs.FullStatus.{longest_reserve_in}
@@ -16,9 +17,10 @@ use Rattle.sg_target.specs.declared.operation.Operation.TheVariants.{ReturnModes
 use Rattle.sg_target.specs.declared.operation.Operation.TheVariants.{ReturnCapacity16, Read}
 use Rattle.sg_target.specs.declared.operation.Operation.TheVariants.{ReturnLbaStatus}
 use Rattle.sg_target.specs.declared.operation.Operation.TheVariants.{ReturnReservations}
+use Rattle.sg_target.specs.declared.operation.Operation.TheVariants.{ReturnLuns, ReturnReport}
 use Rattle.sg_target.specs.declared.data_in.DataIn.{DataIn}
 use Rattle.sg_target.specs.declared.data_in.DataIn.TheVariants.{Sense, Inquiry, Reservations}
-use Rattle.sg_target.specs.declared.data_in.DataIn.TheVariants.{Capacity10, Capacity16}
+use Rattle.sg_target.specs.declared.data_in.DataIn.TheVariants.{Capacity10, Capacity16, Report}
 
 -- The full data-in of a kind, of a disk with an identity, a number of blocks and reservations.
 abbrev pub data_of : IdentityFields → (capacity : ℕ) → ReservationState → DataIn → List ℕ
@@ -26,6 +28,7 @@ data_of identity capacity reservations (Sense condition format) =
     sense_data format (pending_sense condition)
 data_of identity capacity reservations (Inquiry page) = inquiry_data identity page
 data_of identity capacity reservations (Reservations action) = reserve_in_data reservations action
+data_of identity capacity reservations (Report report) = report_data identity.profile report
 data_of identity capacity reservations Capacity10 = capacity_10 capacity
 data_of identity capacity reservations Capacity16 = capacity_16 capacity
 
@@ -34,6 +37,8 @@ abbrev pub returns_data : Operation → Bool
 returns_data (ReturnSense format n) = true
 returns_data (ReturnInquiry page n) = true
 returns_data (ReturnModes request n) = true
+returns_data (ReturnLuns listed n) = true
+returns_data (ReturnReport report n) = true
 returns_data ReturnCapacity10 = true
 returns_data (ReturnCapacity16 n) = true
 returns_data (Read extent) = true
@@ -46,5 +51,6 @@ abbrev pub longest_of : DataIn → ℕ
 longest_of (Sense condition format) = longest_sense
 longest_of (Inquiry page) = longest_inquiry
 longest_of (Reservations action) = longest_reserve_in
+longest_of (Report report) = longest_report
 longest_of Capacity10 = capacity_10_length
 longest_of Capacity16 = capacity_16_length

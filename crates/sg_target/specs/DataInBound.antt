@@ -4,6 +4,7 @@ use Rattle.sg_wire.specs.LbaStatus.{status_data_length}
 use Rattle.sg_store.specs.LbaStatus.{max_descriptors}
 use Rattle.sg_pages.specs.DataLengths.{capacity_10_length, capacity_16_length, longest_list}
 use Rattle.sg_pages.specs.DataLengths.{longest_page, longest_standard_inquiry}
+use Rattle.sg_pages.specs.Reports.{longest_report}
 use Rattle.sg_units.specs.FullStatus.{longest_reserve_in}
 use Rattle.sg_target.specs.BlockCommands.{bytes_of}
 use Rattle.sg_target.specs.Checks.{checked_cdb}
@@ -14,6 +15,7 @@ use Rattle.sg_target.specs.declared.operation.Operation.TheVariants.{ReturnModes
 use Rattle.sg_target.specs.declared.operation.Operation.TheVariants.{ReturnCapacity16, Read}
 use Rattle.sg_target.specs.declared.operation.Operation.TheVariants.{ReturnLbaStatus}
 use Rattle.sg_target.specs.declared.operation.Operation.TheVariants.{ReturnReservations}
+use Rattle.sg_target.specs.declared.operation.Operation.TheVariants.{ReturnLuns, ReturnReport}
 use Rattle.sg_target.specs.declared.refusal.Refusal.{Refusal}
 use Rattle.sg_wire.specs.Profile.{maximum_transfer_length}
 use Rattle.sg_pages.specs.BlockDescriptor.{logical_block_length}
@@ -43,6 +45,8 @@ abbrev pub data_in_bound : Operation → ℕ
 data_in_bound (ReturnSense format n) = min longest_sense n
 data_in_bound (ReturnInquiry page n) = min longest_inquiry n
 data_in_bound (ReturnModes request n) = min longest_list n
+data_in_bound (ReturnLuns listed n) = min longest_report n
+data_in_bound (ReturnReport report n) = min longest_report n
 data_in_bound ReturnCapacity10 = capacity_10_length
 data_in_bound (ReturnCapacity16 n) = min capacity_16_length n
 data_in_bound (Read extent) = bytes_of extent

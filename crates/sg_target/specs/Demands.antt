@@ -1,25 +1,38 @@
 -- Each command's demands on its fields and its data-out, and the operation that it asks for. The
 -- demands depend on the disk only by its configuration, which never changes.
-use Rattle.std.specs.Prelude.{ℕ, ◌==◌, List, Bool, false, ◌&&◌, not, Option, Some, None, Result, Ok}
-use Rattle.std.specs.Prelude.{nat_le, nat_lt, if◌then◌else◌, ok_or}
+use Rattle.std.specs.Prelude.{ℕ, ◌+◌, ◌==◌, List, Bool, true, false, ◌&&◌, not, Option, Some, None}
+use Rattle.std.specs.Prelude.{Result, Ok, nat_le, nat_lt, if◌then◌else◌, ok_or}
 use Rattle.sg_wire.specs.declared.command.Command.{Command}
 use Rattle.sg_wire.specs.declared.command.Command.TheVariants as command
+use Rattle.sg_wire.specs.Profile.{rules_of}
 use Rattle.sg_wire.specs.declared.command.block.WriteLong10.{WriteLong10}
+use Rattle.sg_wire.specs.declared.command.diagnostic.LogSense.{LogSense}
+use Rattle.sg_wire.specs.declared.command.diagnostic.SendDiagnostic.{SendDiagnostic}
 use Rattle.sg_wire.specs.declared.command.mode.CdbWidth.{CdbWidth}
 use Rattle.sg_wire.specs.declared.command.mode.CdbWidth.TheVariants.{Six, Ten}
 use Rattle.sg_wire.specs.declared.command.mode.PageRequest.{PageRequest}
 use Rattle.sg_wire.specs.declared.command.primary.Inquiry.{Inquiry}
 use Rattle.sg_wire.specs.declared.command.provisioning.Unmap.{Unmap}
+use Rattle.sg_wire.specs.SupportedOperations.{requested_report}
+use Rattle.sg_wire.specs.declared.command.report.ReportLuns.{ReportLuns}
+use Rattle.sg_wire.specs.declared.command.report.ReportSupportedOperationCodes.{ReportSupportedOperationCodes}
+use Rattle.sg_wire.specs.declared.profile.Profile.{Profile}
 use Rattle.sg_wire.specs.declared.command.reservation.PersistentReserveOut.{PersistentReserveOut}
+use Rattle.sg_wire.specs.declared.command.verify.ByteCheck.{ByteCheck}
+use Rattle.sg_wire.specs.declared.command.verify.ByteCheck.TheVariants.{Nothing, DataOut}
+use Rattle.sg_wire.specs.declared.command.verify.ByteCheck.TheVariants.{Reserved, OneBlock}
 use Rattle.sg_wire.specs.FirstBytes.{first_bytes}
 use Rattle.sg_wire.specs.declared.extent.Extent.{Extent}
 use Rattle.sg_target.specs.BlockCommands.{blocks_out, bytes_of}
 use Rattle.sg_pages.specs.BlockDescriptor.{logical_block_length}
+use Rattle.sg_pages.specs.Reports.{lists_unit, log_page_with}
+use Rattle.sg_pages.specs.declared.reports.Report.{Report}
+use Rattle.sg_pages.specs.declared.reports.Report.TheVariants as report
 use Rattle.sg_target.specs.Config.{ConfigFields, limits_for}
 use Rattle.sg_target.specs.ModeCommands.{bad_page_format}
 use Rattle.sg_target.specs.PrimaryCommands.{format_of, inquiry_page}
 use Rattle.sg_target.specs.ProvisioningCommands.{block_out, listed_extents, unmaps}
-use Rattle.sg_target.specs.Refusal.{when_sound}
+use Rattle.sg_target.specs.Refusal.{or_refused, when_sound}
 use Rattle.sg_target.specs.ReservationCommands.{fields_out, bad_type}
 use Rattle.sg_target.specs.declared.operation.Operation.{Operation}
 use Rattle.sg_target.specs.declared.operation.Operation.TheVariants as operation
@@ -60,6 +73,44 @@ inquiry config c =
     (when_sound (ok_or page (CheckCondition (InvalidFieldInCdb 2)))
     (λ page. operation.ReturnInquiry page c.allocation_length))
 
+-- REPORT LUNS lists the units that SELECT REPORT, byte 2, asks for.
+abbrev pub report_luns : ReportLuns → Demands
+report_luns c =
+    takes_no_data None
+    (when_sound (ok_or (lists_unit c.select) (CheckCondition (InvalidFieldInCdb 2)))
+    (λ listed. operation.ReturnLuns listed c.allocation_length))
+
+-- A command that returns a report of the disk about itself.
+abbrev pub reports : (unsupported : Option ℕ) → Report → (allocation_length : ℕ) → Demands
+reports unsupported report n = takes_no_data unsupported (Ok (operation.ReturnReport report n))
+
+-- REPORT SUPPORTED OPERATION CODES has REPORTING OPTIONS, in byte 2, that fit the operation code.
+abbrev pub report_operation_codes : Profile → ReportSupportedOperationCodes → Demands
+report_operation_codes profile c =
+    takes_no_data None
+    (when_sound (ok_or (requested_report profile c) (CheckCondition (InvalidFieldInCdb 2)))
+    (λ requested. operation.ReturnReport (report.Commands requested) c.allocation_length))
+
+-- REPORT SUPPORTED TASK MANAGEMENT FUNCTIONS has an allocation length of at least 4, from byte 6 on
+-- (SPC-4, 6.36).
+abbrev pub short_allocation : (allocation_length : ℕ) → Option ℕ
+short_allocation n = if nat_lt n 4 then Some 6 else None
+
+-- LOG SENSE asks for a page that the disk has.
+abbrev pub log_sense : LogSense → Demands
+log_sense c =
+    takes_no_data None
+    (when_sound
+    (or_refused (λ byte. CheckCondition (InvalidFieldInCdb byte))
+    (log_page_with c.page_code c.subpage_code))
+    (λ page. operation.ReturnReport (report.Log page) c.allocation_length))
+
+-- SEND DIAGNOSTIC runs the default self-test or none, and takes no parameter list: SELF-TEST CODE is in
+-- byte 1, and PARAMETER LIST LENGTH begins at byte 3. The self-test passes.
+abbrev pub bad_self_test : SendDiagnostic → Option ℕ
+bad_self_test c =
+    if c.code == 0 then (if c.list_length == 0 then None else Some 3) else Some 1
+
 abbrev pub mode_select : CdbWidth → (pf sp : Bool) (list_length : ℕ) (data_out : List ℕ) → Demands
 mode_select width pf sp n data_out =
     takes n (bad_page_format pf) (Ok (operation.ChangeModes width sp (first_bytes n data_out)))
@@ -94,6 +145,30 @@ read extent unsupported = takes_no_data unsupported (Ok (operation.Read extent))
 abbrev pub write : Extent → (unsupported : Option ℕ) → (data_out : List ℕ) → Demands
 write extent unsupported data_out =
     takes (bytes_of extent) unsupported (Ok (operation.Write (blocks_out extent data_out)))
+
+-- WRITE AND VERIFY compares its blocks with their own data-out, or with nothing, so the verification
+-- passes: BYTCHK, in byte 1, asks for no other comparison.
+abbrev pub bad_comparison : ByteCheck → (otherwise : Option ℕ) → Option ℕ
+bad_comparison Nothing otherwise = otherwise
+bad_comparison DataOut otherwise = otherwise
+bad_comparison Reserved otherwise = Some 1
+bad_comparison OneBlock otherwise = Some 1
+
+-- A count of 0 reaches to the last block, if the profile says so: then the first block is looked up,
+-- as those after it are on the disk if it is.
+abbrev pub reached : ConfigFields → (lba count : ℕ) → Extent
+reached config lba count =
+    if (rules_of config.identity.profile).zero_reaches_last && count == 0 then extent lba 1
+    else extent lba count
+
+-- READ DEFECT DATA: the lists that are asked for, and their format, as in the CDB. Formats 6 and 7 are
+-- not supported; the byte is where DEFECT LIST FORMAT is.
+abbrev pub defect_lists : (plist glist : Bool) (format : ℕ) → ℕ
+defect_lists plist glist format =
+    (if plist then 0x10 else 0) + ((if glist then 0x08 else 0) + format)
+
+abbrev pub bad_defect_format : (format byte : ℕ) → Option ℕ
+bad_defect_format format byte = if nat_lt format 6 then None else Some byte
 
 -- WRITE LONG only marks a block, with no data: WR_UNCOR, in byte 1, is 1, and BYTE TRANSFER LENGTH, from
 -- byte 7 on, is 0.
@@ -144,6 +219,24 @@ unmap c data_out =
 
 -- ---- The row of each command, on a disk of a configuration, with its data-out
 
+-- The commands of SPC-4, 6.
+abbrev pub is_primary : Command → Bool
+is_primary command.TestUnitReady = true
+is_primary (command.RequestSense c) = true
+is_primary (command.Inquiry c) = true
+is_primary (command.ModeSelect6 c) = true
+is_primary (command.ModeSelect10 c) = true
+is_primary (command.ModeSense6 c) = true
+is_primary (command.ModeSense10 c) = true
+is_primary (command.LogSense c) = true
+is_primary (command.ReportLuns c) = true
+is_primary (command.ReportSupportedOperationCodes c) = true
+is_primary (command.ReportSupportedTaskManagementFunctions c) = true
+is_primary (command.SendDiagnostic c) = true
+is_primary (command.PersistentReserveIn c) = true
+is_primary (command.PersistentReserveOut c) = true
+is_primary command = false
+
 -- READ(6) and WRITE(6) name at most 256 blocks by their layout. The CDB of MODE SENSE(6) has no
 -- LLBAA.
 abbrev pub demands : ConfigFields → Command → (data_out : List ℕ) → Demands
@@ -157,21 +250,55 @@ demands config (command.ModeSense6 c) data_out =
     asks (mode_sense Six false c.page config.blocks c.allocation_length)
 demands config (command.ModeSense10 c) data_out =
     asks (mode_sense Ten c.llbaa c.page config.blocks c.allocation_length)
+demands config (command.LogSense c) data_out = log_sense c
+demands config (command.ReportLuns c) data_out = report_luns c
+demands config (command.ReportSupportedOperationCodes c) data_out =
+    report_operation_codes config.identity.profile c
+demands config (command.ReportSupportedTaskManagementFunctions c) data_out =
+    reports (short_allocation c.allocation_length) (report.TaskManagementFunctions c.timeouts)
+    c.allocation_length
+demands config (command.SendDiagnostic c) data_out =
+    takes_no_data (bad_self_test c) (Ok operation.Nothing)
+demands config (command.PreFetch10 c) data_out =
+    asks (operation.PreFetch (reached config c.lba c.count))
+demands config (command.PreFetch16 c) data_out =
+    asks (operation.PreFetch (reached config c.lba c.count))
 demands config (command.Read6 short) data_out = read (extent short.0 short.1) None
 demands config (command.Read10 c) data_out =
     read (extent c.lba c.count) (too_long config c.count 7)
+demands config (command.Read12 c) data_out =
+    read (extent c.lba c.count) (too_long config c.count 6)
 demands config (command.Read16 c) data_out =
     read (extent c.lba c.count) (too_long config c.count 10)
 demands config (command.Write6 short) data_out = write (extent short.0 short.1) None data_out
 demands config (command.Write10 c) data_out =
     write (extent c.lba c.count) (too_long config c.count 7) data_out
+demands config (command.Write12 c) data_out =
+    write (extent c.lba c.count) (too_long config c.count 6) data_out
 demands config (command.Write16 c) data_out =
     write (extent c.lba c.count) (too_long config c.count 10) data_out
 demands config command.ReadCapacity10 data_out = asks operation.ReturnCapacity10
 demands config (command.ReadCapacity16 c) data_out =
     asks (operation.ReturnCapacity16 c.allocation_length)
+demands config (command.ReadDefectData10 c) data_out =
+    reports (bad_defect_format c.format 2)
+    (report.DefectLists10 (defect_lists c.plist c.glist c.format)) c.allocation_length
+demands config (command.ReadDefectData12 c) data_out =
+    reports (bad_defect_format c.format 1)
+    (report.DefectLists12 (defect_lists c.plist c.glist c.format)) c.allocation_length
 demands config (command.SynchronizeCache10 c) data_out =
-    asks (operation.Synchronize (extent c.lba c.count))
+    asks (operation.Synchronize (reached config c.lba c.count))
+demands config (command.SynchronizeCache16 c) data_out =
+    asks (operation.Synchronize (reached config c.lba c.count))
+demands config (command.WriteAndVerify10 c) data_out =
+    write (extent c.extent.lba c.extent.count)
+    (bad_comparison c.byte_check (too_long config c.extent.count 7)) data_out
+demands config (command.WriteAndVerify12 c) data_out =
+    write (extent c.extent.lba c.extent.count)
+    (bad_comparison c.byte_check (too_long config c.extent.count 6)) data_out
+demands config (command.WriteAndVerify16 c) data_out =
+    write (extent c.extent.lba c.extent.count)
+    (bad_comparison c.byte_check (too_long config c.extent.count 10)) data_out
 demands config (command.WriteLong10 c) data_out = write_long c
 demands config (command.WriteSame10 c) data_out =
     write_same config c.anchor c.unmap (extent c.lba c.count) 7 data_out

@@ -1,7 +1,7 @@
 -- A target executes a command: it answers as the definition's step does, and becomes what it says.
 use Rattle.std.specs.Prelude.{◌≡◌, ℕ, List}
 use Rattle.sg_target.specs.Armed.{Armed, armed_step}
-use Rattle.sg_target.specs.Reply.{Carries}
+use Rattle.sg_target.specs.Reply.{CarriesStep}
 use Rattle.sg_target.specs.State.{IsWithinLimits}
 use Rattle.sg_target.specs.declared.reply.Reply.{Reply}
 
@@ -9,7 +9,7 @@ use Rattle.sg_target.specs.declared.reply.Reply.{Reply}
 pub record IsExecuted (initiator : ℕ) (cdb data_out : List ℕ) (old new : Armed)
     (reply : Reply) (buffer buffer' : List ℕ) : Type 0 where
   -- the reply and the buffer have the step's status, sense data and data-in
-  pub answer : Carries (armed_step old initiator cdb data_out).answer reply buffer buffer'
+  pub answer : CarriesStep (armed_step old initiator cdb data_out) reply buffer buffer'
   -- the state and the armed faults afterwards are the step's
   pub after : new ≡ (armed_step old initiator cdb data_out).after
   -- no table passes its limit

@@ -1,5 +1,5 @@
 -- Laws of armed faults.
-use Rattle.std.specs.Prelude.{◌≡◌, ◌⊎◌, ℕ, Bool, true, false, List, not, Some, Result, Ok}
+use Rattle.std.specs.Prelude.{◌≡◌, ◌⊎◌, ℕ, Bool, true, false, List, [], not, Some, Result, Ok}
 use Rattle.std.specs.Prelude.{Err}
 use Rattle.std.specs.List.{list_all}
 use Rattle.sg_wire.specs.CdbDecoding.{command_in}
@@ -13,7 +13,7 @@ use Rattle.sg_faults.specs.Places.{on_arrival}
 use Rattle.sg_faults.specs.declared.outcome.OnArrival.{OnArrival}
 use Rattle.sg_faults.specs.declared.outcome.Struck.{Struck}
 use Rattle.sg_target.specs.Armed.{Armed, ArmedStep, armed_step, first_blocks, refusal_on_arrival}
-use Rattle.sg_target.specs.Armed.{seen, step_of_checked}
+use Rattle.sg_target.specs.Armed.{seen, step_of_checked, whole_answer}
 use Rattle.sg_target.specs.Checks.{checked_cdb}
 use Rattle.sg_target.specs.Runs.{after_events, answers_to, answers_to_events, armed_disk}
 use Rattle.sg_target.specs.Runs.{state_after_events}
@@ -42,7 +42,7 @@ WithoutFaultsNothingChanges =
     → is_write_long (command_in (profile_of disk.state) cdb) ≡ false
     → armed_step disk initiator cdb data_out
     ≡ (let done = step disk.state initiator cdb data_out in
-    record { answer = done.answer; after = record disk { state = done.state } })
+    record { answer = done.answer; unsent = []; after = record disk { state = done.state } })
 
 abbrev pub is_arming : Profile → Event → Bool
 is_arming profile (event.Call call) = is_write_long (command_in profile call.cdb.now)
@@ -66,6 +66,7 @@ WithoutFaultsARunIsSound =
 pub record AsWithoutFaults (disk : Armed) (initiator : ℕ) (cdb data_out : List ℕ) : Type 0 where
   pub answer : (armed_step disk initiator cdb data_out).answer
       ≡ (step disk.state initiator cdb data_out).answer
+  pub all_sent : (armed_step disk initiator cdb data_out).unsent ≡ []
   pub state : (armed_step disk initiator cdb data_out).after.state
       ≡ (step disk.state initiator cdb data_out).state
 
@@ -118,6 +119,7 @@ pub record StaysRefused (state : State) (initiator : ℕ) (by_checks : Refusal) 
   pub refusal : Refusal
   pub whose : (refusal ≡ by_checks) ⊎ ((fault : OnArrival) × (refusal ≡ refusal_on_arrival fault))
   pub answer : given.answer ≡ (refused state initiator refusal).answer
+  pub all_sent : given.unsent ≡ []
   pub after : given.after.state ≡ (refused state initiator refusal).state
 
 -- Whatever faults are armed, a command that the checks refuse stays refused.
@@ -128,14 +130,14 @@ RefusedCommandsStayRefused =
     → StaysRefused disk.state initiator refusal (armed_step disk initiator cdb data_out)
 
 -- A command passes the checks. Its operation is executed as on a disk without faults, all of it or on
--- only its first blocks.
+-- only its first blocks. The answer is the operation's, but the last bytes of data-in may not arrive.
 pub record IsExecutedInPart (state : State) (initiator : ℕ) (cdb data_out : List ℕ)
     (given : ArmedStep) : Type 0 where
   pub operation : Operation
   pub passed : checked_cdb state initiator cdb data_out ≡ Ok operation
   pub part : Operation
   pub part_is : (part ≡ operation) ⊎ ((blocks : ℕ) × (part ≡ first_blocks blocks operation))
-  pub answer : given.answer ≡ (step_of_checked state initiator (Ok part)).answer
+  pub answer : whole_answer given ≡ (step_of_checked state initiator (Ok part)).answer
   pub after : given.after.state ≡ (step_of_checked state initiator (Ok part)).state
 
 -- Whatever faults are armed, this holds for each command that ends with GOOD.

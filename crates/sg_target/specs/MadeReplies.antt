@@ -1,5 +1,5 @@
 -- The replies that a target makes.
-use Rattle.std.specs.Prelude.{◌≡◌, ℕ, List, [], length, Option, Some, None}
+use Rattle.std.specs.Prelude.{◌≡◌, ℕ, min, List, [], length, Option, Some, None}
 use Rattle.sg_wire.specs.FirstBytes.{overwritten}
 use Rattle.sg_wire.specs.SenseData.{sense_data}
 use Rattle.sg_wire.specs.declared.sense.Format.{Format}
@@ -33,6 +33,8 @@ abbrev pub reply_afterwards : Format → Reply → Afterwards → Reply
 reply_afterwards format reply after.NoReply = record reply { status = NoReply }
 reply_afterwards format reply (after.CheckCondition code) =
     record reply { status = CheckCondition; sense = sense_data format (fault_sense code) }
+reply_afterwards format reply (after.ShortDataIn bytes) =
+    record reply { data_in = min bytes reply.data_in }
 
 abbrev pub finished_reply : Format → Reply → Option (Struck Afterwards) → Reply
 finished_reply format reply None = reply

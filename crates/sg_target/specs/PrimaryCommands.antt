@@ -8,10 +8,13 @@ use Rattle.sg_wire.specs.declared.sense.Format.TheVariants.{Fixed, Descriptor}
 use Rattle.sg_pages.specs.Identity.{IdentityFields}
 use Rattle.sg_pages.specs.InquiryData.{standard_inquiry}
 use Rattle.sg_pages.specs.VitalProductData.{page_data, page_with_code}
-use Rattle.sg_units.specs.Attentions.{oldest}
+use Rattle.sg_pages.specs.Reports.{report_data}
+use Rattle.sg_pages.specs.declared.reports.Report.TheVariants.{LogicalUnits}
+use Rattle.sg_units.specs.Attentions.{oldest, without_condition}
+use Rattle.sg_units.specs.declared.unit_attention.UnitAttention.TheVariants.{ReportedLunsDataChanged}
 use Rattle.sg_target.specs.Effect.{Effect, returning_up_to, without_attention}
 use Rattle.sg_target.specs.Refusal.{pending_sense}
-use Rattle.sg_target.specs.State.{State}
+use Rattle.sg_target.specs.State.{State, profile_of}
 use Rattle.sg_target.specs.declared.primary.InquiryPage.{InquiryPage}
 use Rattle.sg_target.specs.declared.primary.InquiryPage.TheVariants.{Standard, VitalProductData}
 
@@ -38,3 +41,13 @@ inquiry_data identity (VitalProductData page) = page_data page identity
 
 abbrev pub returning_page : State → InquiryPage → (allocation_length : ℕ) → Effect
 returning_page state page n = returning_up_to state n (inquiry_data state.identity page)
+
+-- REPORT LUNS returns the list of logical units, and so clears the pending condition that the list has
+-- changed (SAM-5, 5.14).
+abbrev pub returning_luns : State → (initiator : ℕ) → (listed : Bool) → (allocation_length : ℕ) → Effect
+returning_luns state initiator listed n =
+    record (returning_up_to state n (report_data (profile_of state) (LogicalUnits listed))) {
+      after = record state {
+        attentions = without_condition state.attentions initiator ReportedLunsDataChanged;
+      };
+    }

@@ -6,18 +6,20 @@ use Rattle.sg_target.specs.Demands.{extent}
 use Rattle.sg_pages.specs.CapacityData.{capacity_10, capacity_16}
 use Rattle.sg_target.specs.Effect.{Effect, no_effect, returning, returning_up_to}
 use Rattle.sg_target.specs.ModeCommands.{changing_modes, mode_parameters, selected_modes}
-use Rattle.sg_target.specs.PrimaryCommands.{returning_page, returning_sense}
+use Rattle.sg_pages.specs.Reports.{report_data}
+use Rattle.sg_target.specs.PrimaryCommands.{returning_luns, returning_page, returning_sense}
 use Rattle.sg_target.specs.ProvisioningCommands.{anchoring, filling, reporting_status, unmapping}
 use Rattle.sg_target.specs.Refusal.{when_sound}
 use Rattle.sg_target.specs.ReservationCommands.{changing_reservations, reporting, reservation_change}
-use Rattle.sg_target.specs.State.{State}
+use Rattle.sg_target.specs.State.{State, profile_of}
 use Rattle.sg_target.specs.declared.operation.Operation.{Operation}
 use Rattle.sg_target.specs.declared.operation.Operation.TheVariants.{Nothing, ReturnSense}
 use Rattle.sg_target.specs.declared.operation.Operation.TheVariants.{ReturnInquiry, ReturnModes}
 use Rattle.sg_target.specs.declared.operation.Operation.TheVariants.{ChangeModes, ReturnCapacity10}
 use Rattle.sg_target.specs.declared.operation.Operation.TheVariants.{ReturnCapacity16, Read, Write}
 use Rattle.sg_target.specs.declared.operation.Operation.TheVariants.{Synchronize, Fill, Unmap}
-use Rattle.sg_target.specs.declared.operation.Operation.TheVariants.{MarkBad}
+use Rattle.sg_target.specs.declared.operation.Operation.TheVariants.{MarkBad, PreFetch}
+use Rattle.sg_target.specs.declared.operation.Operation.TheVariants.{ReturnLuns, ReturnReport}
 use Rattle.sg_target.specs.declared.operation.Operation.TheVariants.{UnmapExtent, ReturnLbaStatus}
 use Rattle.sg_target.specs.declared.operation.Operation.TheVariants.{Anchor, AnchorExtent}
 use Rattle.sg_target.specs.declared.operation.Operation.TheVariants.{ReturnReservations}
@@ -47,19 +49,21 @@ reads_from extents = record (only_names extents) { reads = true }
 abbrev pub writes_to : List Extent → MediumUse
 writes_to extents = record (only_names extents) { writes = true }
 
--- SYNCHRONIZE CACHE has its extent checked, and GET LBA STATUS has to start at a block of the disk.
--- They read no data: the latter returns which blocks are mapped or anchored.
--- Departure (SBC-3, 5.26): a count of 0 in SYNCHRONIZE CACHE reaches to the last block there.
+-- SYNCHRONIZE CACHE and PRE-FETCH have their extents checked, and GET LBA STATUS has to start at a block
+-- of the disk. They read no data: the last returns which blocks are mapped or anchored.
 abbrev pub medium_use : Operation → MediumUse
 medium_use Nothing = uses_no_block
 medium_use (ReturnSense format n) = uses_no_block
 medium_use (ReturnInquiry page n) = uses_no_block
 medium_use (ReturnModes request n) = uses_no_block
 medium_use (ChangeModes width sp list) = uses_no_block
+medium_use (ReturnLuns listed n) = uses_no_block
+medium_use (ReturnReport report n) = uses_no_block
 medium_use ReturnCapacity10 = uses_no_block
 medium_use (ReturnCapacity16 n) = uses_no_block
 medium_use (Read extent) = reads_from (extent ∷ [])
 medium_use (Write out) = writes_to (out.extent ∷ [])
+medium_use (PreFetch extent) = only_names (extent ∷ [])
 medium_use (Synchronize extent) = only_names (extent ∷ [])
 medium_use (Fill extent block) = writes_to (extent ∷ [])
 medium_use (MarkBad lba cor_dis) = writes_to (extent lba 1 ∷ [])
@@ -74,9 +78,9 @@ medium_use (ChangeReservations action scope_type list) = uses_no_block
 -- ---- The effect
 
 -- The effect of an initiator's operation, or what is wrong with its page or its parameter list on a
--- disk in this state. SYNCHRONIZE CACHE does nothing, because there is no cache. `MarkBad` is WRITE
--- LONG: it arms a fault (`Armed`), and leaves the state. `Fill` is a WRITE SAME that writes its block,
--- and a WRITE SAME that unmaps or anchors is `UnmapExtent` or `AnchorExtent`.
+-- disk in this state. SYNCHRONIZE CACHE and PRE-FETCH do nothing, because there is no cache.
+-- `MarkBad` is WRITE LONG: it arms a fault (`Armed`), and leaves the state. `Fill` is a WRITE SAME
+-- that writes its block, and a WRITE SAME that unmaps or anchors is `UnmapExtent` or `AnchorExtent`.
 abbrev pub effect_of : State → (initiator : ℕ) → Operation → Result Effect Refusal
 effect_of state i Nothing = Ok (no_effect state)
 effect_of state i (ReturnSense format n) = Ok (returning_sense state i format n)
@@ -85,11 +89,15 @@ effect_of state i (ReturnModes request n) =
     when_sound (mode_parameters state.modes request) (returning_up_to state n)
 effect_of state i (ChangeModes width sp list) =
     when_sound (selected_modes state width sp list) (changing_modes state i)
+effect_of state i (ReturnLuns listed n) = Ok (returning_luns state i listed n)
+effect_of state i (ReturnReport report n) =
+    Ok (returning_up_to state n (report_data (profile_of state) report))
 effect_of state i ReturnCapacity10 = Ok (returning state (capacity_10 state.disk.capacity))
 effect_of state i (ReturnCapacity16 n) =
     Ok (returning_up_to state n (capacity_16 state.disk.capacity))
 effect_of state i (Read extent) = Ok (reading state extent)
 effect_of state i (Write out) = Ok (writing state out)
+effect_of state i (PreFetch extent) = Ok (no_effect state)
 effect_of state i (Synchronize extent) = Ok (no_effect state)
 effect_of state i (Fill extent block) = Ok (filling state extent block)
 effect_of state i (MarkBad lba cor_dis) = Ok (no_effect state)

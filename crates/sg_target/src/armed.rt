@@ -57,10 +57,13 @@ impl<'a> Operation<'a> {
             Operation::Nothing
             | Operation::ReturnSense { .. }
             | Operation::ReturnInquiry { .. }
+            | Operation::ReturnLuns { .. }
+            | Operation::ReturnReport { .. }
             | Operation::ReturnModes { .. }
             | Operation::ChangeModes { .. }
             | Operation::ReturnCapacity10
             | Operation::ReturnCapacity16(_)
+            | Operation::PreFetch(_)
             | Operation::Synchronize(_)
             | Operation::ReturnLbaStatus { .. }
             | Operation::ReturnReservations { .. }

@@ -1,5 +1,5 @@
-// READ, WRITE and READ CAPACITY (SBC-3, 5). SYNCHRONIZE CACHE has its blocks checked and nothing to
-// do, because there is no cache.
+// READ, WRITE, WRITE AND VERIFY and READ CAPACITY (SBC-3, 5). SYNCHRONIZE CACHE and PRE-FETCH have their
+// blocks checked and nothing to do, because there is no cache.
 ghost use Rattle.std.specs.Prelude.{◌≡◌, ◌≤◌, ◌+◌, ◌∷◌, [], length, Some, None, Ok, OnOk, OnErr};
 ghost use Rattle.std.specs.Prelude.{IfOk, IfErr, min};
 ghost use Rattle.sg_pages.specs.CapacityData.{capacity_10, capacity_16};
@@ -8,7 +8,7 @@ ghost use Rattle.sg_wire.specs.FirstBytes.{first_bytes};
 ghost use Rattle.sg_target.specs.Armed.{first_of};
 ghost use Rattle.sg_target.specs.BlockCommands.{blocks_out, bytes_of, reading, writing};
 ghost use Rattle.sg_target.specs.Checks.{requested, unsupported_value};
-ghost use Rattle.sg_target.specs.Demands.{read, too_long, write};
+ghost use Rattle.sg_target.specs.Demands.{bad_comparison, extent, reached, read, too_long, write};
 ghost use Rattle.sg_target.specs.Charge.{TakesStep, cost_bounds};
 ghost use Rattle.sg_target.specs.Ranges.{range};
 ghost use Rattle.sg_target.specs.MadeReplies.{ReturnsData, executed_reply, refused_reply};
@@ -18,18 +18,20 @@ use crate::armed::first_of;
 use crate::config::Config;
 use crate::data_in::DataIn;
 use crate::data_out::needed_data_out;
-use crate::extent::byte_length;
+use crate::extent::{byte_length, one_block};
 use crate::operation::Operation;
 use crate::refusal::{Reason, Refusal};
 use crate::reply::Reply;
 use crate::target::Target;
 use sg_pages::{CAPACITY_10_LENGTH, CAPACITY_16_LENGTH};
 use sg_store::{Space, Store};
-use sg_wire::{Extent, Initiator};
+use sg_wire::{ByteCheck, Extent, Initiator, Verify10, Verify12, Verify16};
 use std::marker::Model;
 
-// Where TRANSFER LENGTH begins in a CDB of ten bytes, and in one of sixteen.
+// Where TRANSFER LENGTH begins in CDBs of ten, twelve and sixteen bytes.
 pub(crate) const TRANSFER_LENGTH_10: u16 = 7;
+
+pub(crate) const TRANSFER_LENGTH_12: u16 = 6;
 
 pub(crate) const TRANSFER_LENGTH_16: u16 = 10;
 
@@ -74,7 +76,7 @@ pub(crate) fn check_read_6(extent: Extent) -> Operation<'static>
     Operation::Read(BlocksIn { extent })
 }
 
-/// READ (10) and (16); TRANSFER LENGTH begins at the byte.
+/// READ (10), (12) and (16); TRANSFER LENGTH begins at the byte.
 pub(crate) fn check_read(
     config: &Config,
     extent: Extent,
@@ -167,7 +169,7 @@ pub(crate) fn check_write_6(extent: Extent, data_out: &[u8]) -> Result<Operation
     take_blocks(extent, data_out)
 }
 
-/// WRITE (10) and (16); TRANSFER LENGTH begins at the byte.
+/// WRITE (10), (12) and (16); TRANSFER LENGTH begins at the byte.
 pub(crate) fn check_write<'a>(
     config: &Config,
     extent: Extent,
@@ -179,6 +181,113 @@ pub(crate) fn check_write<'a>(
 {
     check_transfer_length(config, extent, byte)?;
     take_blocks(extent, data_out)
+}
+
+/// A WRITE AND VERIFY, whose data-out is at most compared with the blocks that it has just replaced;
+/// TRANSFER LENGTH begins at the byte.
+fn check_write_and_verify<'a>(
+    config: &Config,
+    byte_check: ByteCheck,
+    extent: Extent,
+    byte: u16,
+    data_out: &'a [u8],
+) -> Result<Operation<'a>, Refusal>
+    ensures { result ≡ requested (write extent
+        (bad_comparison byte_check (too_long config.now extent.count byte)) data_out.now) data_out.now }
+{
+    match byte_check {
+        ByteCheck::Nothing | ByteCheck::DataOut => check_write(config, extent, byte, data_out),
+        ByteCheck::Reserved | ByteCheck::OneBlock => {
+            Err(Refusal::CheckCondition(Reason::InvalidFieldInCdb { byte: 1 }))
+        }
+    }
+}
+
+pub(crate) fn check_write_and_verify_10<'a>(
+    config: &Config,
+    fields: Verify10,
+    data_out: &'a [u8],
+) -> Result<Operation<'a>, Refusal>
+    ensures { let blocks = extent fields.extent.lba fields.extent.count in
+        let unsupported = bad_comparison fields.byte_check (too_long config.now blocks.count 7) in
+        result ≡ requested (write blocks unsupported data_out.now) data_out.now }
+{
+    let extent = Extent::from(fields.extent);
+    check_write_and_verify(
+        config,
+        fields.byte_check,
+        extent,
+        TRANSFER_LENGTH_10,
+        data_out,
+    )
+}
+
+pub(crate) fn check_write_and_verify_12<'a>(
+    config: &Config,
+    fields: Verify12,
+    data_out: &'a [u8],
+) -> Result<Operation<'a>, Refusal>
+    ensures { let blocks = extent fields.extent.lba fields.extent.count in
+        let unsupported = bad_comparison fields.byte_check (too_long config.now blocks.count 6) in
+        result ≡ requested (write blocks unsupported data_out.now) data_out.now }
+{
+    let extent = Extent::from(fields.extent);
+    check_write_and_verify(
+        config,
+        fields.byte_check,
+        extent,
+        TRANSFER_LENGTH_12,
+        data_out,
+    )
+}
+
+pub(crate) fn check_write_and_verify_16<'a>(
+    config: &Config,
+    fields: Verify16,
+    data_out: &'a [u8],
+) -> Result<Operation<'a>, Refusal>
+    ensures { let blocks = extent fields.extent.lba fields.extent.count in
+        let unsupported = bad_comparison fields.byte_check (too_long config.now blocks.count 10) in
+        result ≡ requested (write blocks unsupported data_out.now) data_out.now }
+{
+    let extent = Extent::from(fields.extent);
+    check_write_and_verify(
+        config,
+        fields.byte_check,
+        extent,
+        TRANSFER_LENGTH_16,
+        data_out,
+    )
+}
+
+// ---- SYNCHRONIZE CACHE and PRE-FETCH
+
+/// SYNCHRONIZE CACHE (10) and (16).
+#[inline(always)]
+pub(crate) fn synchronize(config: &Config, extent: Extent) -> Operation<'static>
+    ensures { result ≡ Operation.Synchronize (reached config.now extent.lba extent.count) }
+{
+    Operation::Synchronize(reached(config, extent))
+}
+
+/// PRE-FETCH (10) and (16).
+#[inline(always)]
+pub(crate) fn pre_fetch(config: &Config, extent: Extent) -> Operation<'static>
+    ensures { result ≡ Operation.PreFetch (reached config.now extent.lba extent.count) }
+{
+    Operation::PreFetch(reached(config, extent))
+}
+
+/// The blocks that have to be on the disk for a range that may reach to the last block.
+#[inline(always)]
+fn reached(config: &Config, extent: Extent) -> Extent
+    ensures { result ≡ reached config.now extent.lba extent.count }
+{
+    if extent.count == 0 && config.rules().zero_reaches_last {
+        one_block(extent.lba)
+    } else {
+        extent
+    }
 }
 
 impl<S: Store> Target<S> {

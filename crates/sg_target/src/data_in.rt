@@ -11,7 +11,10 @@ use crate::refusal::pending_sense;
 use crate::reply::Reply;
 use crate::reservation::write_reserve_in_data;
 use crate::target::Target;
-use sg_pages::{CAPACITY_10_LENGTH, CAPACITY_16_LENGTH, write_capacity_10, write_capacity_16};
+use sg_pages::{
+    CAPACITY_10_LENGTH, CAPACITY_16_LENGTH, LONGEST_REPORT, Report, write_capacity_10,
+    write_capacity_16,
+};
 use sg_store::Store;
 use sg_units::{LONGEST_RESERVE_IN_DATA, Reservations, UnitAttention};
 use sg_wire::laws::answers_are_in_their_buffers;
@@ -29,6 +32,8 @@ pub(crate) enum DataIn {
     Inquiry(InquiryPage),
     /// The data that a service action of PERSISTENT RESERVE IN returns.
     Reservations(InAction),
+    /// What the disk reports about itself.
+    Report(Report),
     Capacity10,
     Capacity16,
 }
@@ -42,6 +47,7 @@ impl DataIn {
             DataIn::Sense { .. } => LONGEST_SENSE_DATA,
             DataIn::Inquiry(_) => LONGEST_INQUIRY_DATA,
             DataIn::Reservations(_) => LONGEST_RESERVE_IN_DATA,
+            DataIn::Report(_) => LONGEST_REPORT,
             DataIn::Capacity10 => CAPACITY_10_LENGTH,
             DataIn::Capacity16 => CAPACITY_16_LENGTH,
         }
@@ -80,6 +86,7 @@ impl DataIn {
             DataIn::Sense { condition, format } => pending_sense(condition).write(format, cut),
             DataIn::Inquiry(page) => page.write(config.identity(), cut),
             DataIn::Reservations(action) => write_reserve_in_data(action, reservations, cut),
+            DataIn::Report(report) => report.write(config.identity().profile(), cut),
             DataIn::Capacity10 => write_capacity_10(config.blocks(), cut),
             DataIn::Capacity16 => write_capacity_16(config.blocks(), cut),
         }

@@ -75,7 +75,8 @@ pub fn refused_commands_stay_refused()
 {}
 
 /// Whatever faults are armed, a command that ends with GOOD has passed the checks. It is executed as on
-/// a disk without faults, or only its first blocks are moved.
+/// a disk without faults, or only its first blocks are moved. Its answer is the same, but the last bytes
+/// of data-in may not arrive.
 pub fn only_passed_commands_end_with_good()
     ensures { OnlyPassedCommandsEndWithGood }
 {}

@@ -22,6 +22,7 @@ mod primary;
 mod provisioning;
 mod refusal;
 mod reply;
+mod report;
 mod reservation;
 mod room;
 mod run;

@@ -1,7 +1,7 @@
 // The operation that a command asks for, and its execution.
 ghost use Rattle.std.specs.Prelude.{◌≡◌, ◌≤◌, ◌∷◌, [], length, true, IfNone};
 ghost use Rattle.sg_target.specs.Checks.{out_of_range, requested};
-ghost use Rattle.sg_target.specs.Demands.{demands};
+ghost use Rattle.sg_target.specs.Demands.{demands, is_primary};
 ghost use Rattle.sg_target.specs.Charge.{TakesStep, cost_bounds, step_by};
 ghost use Rattle.sg_target.specs.DataIn.{returns_data};
 ghost use Rattle.sg_target.specs.DataInBound.{data_in_bound};
@@ -11,8 +11,9 @@ ghost use Rattle.sg_target.specs.Semantics.{medium_use};
 ghost use Rattle.sg_target.specs.State.{IsWithinLimits};
 
 use crate::block::{
-    BlocksIn, BlocksOut, TRANSFER_LENGTH_10, TRANSFER_LENGTH_16, check_read, check_read_6,
-    check_write, check_write_6,
+    BlocksIn, BlocksOut, TRANSFER_LENGTH_10, TRANSFER_LENGTH_12, TRANSFER_LENGTH_16, check_read,
+    check_read_6, check_write, check_write_6, check_write_and_verify_10, check_write_and_verify_12,
+    check_write_and_verify_16, pre_fetch, synchronize,
 };
 use crate::config::Config;
 use crate::data_in::DataIn;
@@ -27,9 +28,14 @@ use crate::provisioning::{
 };
 use crate::refusal::Refusal;
 use crate::reply::Reply;
+use crate::report::{
+    check_log_sense, check_operation_codes, check_read_defect_data_10, check_read_defect_data_12,
+    check_report_luns, check_send_diagnostic, check_task_management,
+};
 use crate::reservation::{check_reserve_in, check_reserve_out};
 use crate::target::Target;
 use crate::write_long::check_write_long_10;
+use sg_pages::Report;
 use sg_store::{MAX_CAPACITY, Store};
 use sg_units::OutList;
 use sg_wire::{CdbWidth, Command, Extent, Format, InAction, Initiator, ListedExtents, OutAction};
@@ -40,7 +46,7 @@ use sg_wire::{CdbWidth, Command, Extent, Format, InAction, Initiator, ListedExte
 /// against them as they are executed.
 #[derive(Drop)]
 pub enum Operation<'a> {
-    /// Nothing more than the checks: TEST UNIT READY.
+    /// Nothing more than the checks: TEST UNIT READY, and SEND DIAGNOSTIC.
     Nothing,
     /// Returns the oldest unit attention as sense data, and clears it.
     ReturnSense {
@@ -53,6 +59,19 @@ pub enum Operation<'a> {
         page: InquiryPage,
         /// In bytes.
         allocation_length: u16,
+    },
+    /// Returns the list of logical units, and clears the pending condition that it has changed.
+    ReturnLuns {
+        /// Whether the disk's own logical unit is listed.
+        listed: bool,
+        /// In bytes.
+        allocation_length: u32,
+    },
+    /// Returns a report of the disk about itself.
+    ReturnReport {
+        report: Report,
+        /// In bytes.
+        allocation_length: u32,
     },
     /// Returns a mode parameter list.
     ReturnModes {
@@ -76,6 +95,8 @@ pub enum Operation<'a> {
     Read(BlocksIn),
     /// Replaces blocks.
     Write(BlocksOut<'a>),
+    /// Asks for blocks to be read into a cache, which the disk lacks: PRE-FETCH.
+    PreFetch(Extent),
     /// Asks for blocks to be written through, which they are.
     Synchronize(Extent),
     /// Replaces blocks by one block.
@@ -141,7 +162,9 @@ impl<'a> Operation<'a> {
     {
         let (out_of_range, writes) = match self {
             Operation::Read(blocks) => (past_capacity(blocks.extent, capacity), false),
-            Operation::Synchronize(extent) => (past_capacity(*extent, capacity), false),
+            Operation::PreFetch(extent) | Operation::Synchronize(extent) => {
+                (past_capacity(*extent, capacity), false)
+            }
             Operation::ReturnLbaStatus { start, .. } => {
                 (past_capacity(one_block(*start), capacity), false)
             }
@@ -156,6 +179,8 @@ impl<'a> Operation<'a> {
             Operation::Nothing
             | Operation::ReturnSense { .. }
             | Operation::ReturnInquiry { .. }
+            | Operation::ReturnLuns { .. }
+            | Operation::ReturnReport { .. }
             | Operation::ReturnModes { .. }
             | Operation::ChangeModes { .. }
             | Operation::ReturnCapacity10
@@ -181,19 +206,18 @@ pub(crate) fn operation_of<'a>(
     ensures { result ≡ requested (demands config.now command.now data_out.now) data_out.now }
 {
     match *command {
-        Command::TestUnitReady => Ok(Operation::Nothing),
-        Command::RequestSense(fields) => Ok(check_request_sense(fields)),
-        Command::Inquiry(fields) => check_inquiry(config, fields),
-        Command::ModeSelect6(fields) => check_mode_select_6(fields, data_out),
-        Command::ModeSelect10(fields) => check_mode_select_10(fields, data_out),
-        Command::ModeSense6(fields) => Ok(check_mode_sense_6(config.blocks(), fields)),
-        Command::ModeSense10(fields) => Ok(check_mode_sense_10(config.blocks(), fields)),
+        Command::PreFetch10(extent) => Ok(pre_fetch(config, Extent::from(extent))),
+        Command::PreFetch16(extent) => Ok(pre_fetch(config, Extent::from(extent))),
         Command::Read6(extent) => Ok(check_read_6(Extent::from(extent))),
         Command::Read10(extent) => check_read(config, Extent::from(extent), TRANSFER_LENGTH_10),
+        Command::Read12(extent) => check_read(config, Extent::from(extent), TRANSFER_LENGTH_12),
         Command::Read16(extent) => check_read(config, Extent::from(extent), TRANSFER_LENGTH_16),
         Command::Write6(extent) => check_write_6(Extent::from(extent), data_out),
         Command::Write10(extent) => {
             check_write(config, Extent::from(extent), TRANSFER_LENGTH_10, data_out)
+        }
+        Command::Write12(extent) => {
+            check_write(config, Extent::from(extent), TRANSFER_LENGTH_12, data_out)
         }
         Command::Write16(extent) => {
             check_write(config, Extent::from(extent), TRANSFER_LENGTH_16, data_out)
@@ -202,7 +226,13 @@ pub(crate) fn operation_of<'a>(
         Command::ReadCapacity16(fields) => {
             Ok(Operation::ReturnCapacity16(fields.allocation_length))
         }
-        Command::SynchronizeCache10(extent) => Ok(Operation::Synchronize(Extent::from(extent))),
+        Command::ReadDefectData10(fields) => check_read_defect_data_10(fields),
+        Command::ReadDefectData12(fields) => check_read_defect_data_12(fields),
+        Command::SynchronizeCache10(extent) => Ok(synchronize(config, Extent::from(extent))),
+        Command::SynchronizeCache16(extent) => Ok(synchronize(config, Extent::from(extent))),
+        Command::WriteAndVerify10(fields) => check_write_and_verify_10(config, fields, data_out),
+        Command::WriteAndVerify12(fields) => check_write_and_verify_12(config, fields, data_out),
+        Command::WriteAndVerify16(fields) => check_write_and_verify_16(config, fields, data_out),
         Command::WriteLong10(fields) => check_write_long_10(fields),
         Command::WriteSame10(fields) => check_write_same_10(config, fields, data_out),
         Command::WriteSame16(fields) => check_write_same_16(config, fields, data_out),
@@ -211,8 +241,36 @@ pub(crate) fn operation_of<'a>(
             start: fields.start,
             allocation_length: fields.allocation_length,
         }),
+        _ => primary_operation_of(config, command, data_out),
+    }
+}
+
+/// The operation that a command of SPC-4 asks for.
+#[inline(always)]
+fn primary_operation_of<'a>(
+    config: &Config,
+    command: &Command,
+    data_out: &'a [u8],
+) -> Result<Operation<'a>, Refusal>
+    requires { is_primary command.now ≡ true }
+    ensures { result ≡ requested (demands config.now command.now data_out.now) data_out.now }
+{
+    match *command {
+        Command::TestUnitReady => Ok(Operation::Nothing),
+        Command::RequestSense(fields) => Ok(check_request_sense(fields)),
+        Command::Inquiry(fields) => check_inquiry(config, fields),
+        Command::ModeSelect6(fields) => check_mode_select_6(fields, data_out),
+        Command::ModeSelect10(fields) => check_mode_select_10(fields, data_out),
+        Command::ModeSense6(fields) => Ok(check_mode_sense_6(config.blocks(), fields)),
+        Command::ModeSense10(fields) => Ok(check_mode_sense_10(config.blocks(), fields)),
+        Command::LogSense(fields) => check_log_sense(fields),
+        Command::ReportLuns(fields) => check_report_luns(fields),
+        Command::ReportSupportedOperationCodes(fields) => check_operation_codes(config, &fields),
+        Command::ReportSupportedTaskManagementFunctions(fields) => check_task_management(fields),
+        Command::SendDiagnostic(fields) => check_send_diagnostic(fields),
         Command::PersistentReserveIn(fields) => Ok(check_reserve_in(fields)),
         Command::PersistentReserveOut(fields) => check_reserve_out(fields, data_out),
+        _ => unreachable!(),
     }
 }
 
@@ -236,11 +294,14 @@ impl<S: Store> Target<S> {
     {
         match operation {
             // A block is marked with an error as the command ends: see `conclude_armed`.
-            Operation::Nothing | Operation::Synchronize(_) | Operation::MarkBad { .. } => {
-                Reply::without_blocks(0)
-            }
+            Operation::Nothing
+            | Operation::PreFetch(_)
+            | Operation::Synchronize(_)
+            | Operation::MarkBad { .. } => Reply::without_blocks(0),
             Operation::ReturnSense { .. }
             | Operation::ReturnInquiry { .. }
+            | Operation::ReturnLuns { .. }
+            | Operation::ReturnReport { .. }
             | Operation::ReturnModes { .. }
             | Operation::ReturnCapacity10
             | Operation::ReturnCapacity16(_)
@@ -293,6 +354,14 @@ impl<S: Store> Target<S> {
                 page,
                 allocation_length,
             } => self.return_data(DataIn::Inquiry(*page), usize::from(*allocation_length), buf),
+            Operation::ReturnLuns {
+                listed,
+                allocation_length,
+            } => self.return_luns(initiator, *listed, *allocation_length, buf),
+            Operation::ReturnReport {
+                report,
+                allocation_length,
+            } => self.return_data(DataIn::Report(*report), *allocation_length as usize, buf),
             Operation::ReturnModes {
                 request,
                 allocation_length,

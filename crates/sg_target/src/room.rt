@@ -21,7 +21,7 @@ use crate::provisioning::LONGEST_STATUS_DATA;
 use crate::refusal::Refusal;
 use crate::reply::Reply;
 use crate::target::Target;
-use sg_pages::{CAPACITY_10_LENGTH, CAPACITY_16_LENGTH, LONGEST_MODE_LIST};
+use sg_pages::{CAPACITY_10_LENGTH, CAPACITY_16_LENGTH, LONGEST_MODE_LIST, LONGEST_REPORT};
 use sg_store::{Counts, Store};
 use sg_units::LONGEST_RESERVE_IN_DATA;
 use sg_wire::Initiator;
@@ -41,6 +41,14 @@ impl<'a> Operation<'a> {
                 allocation_length,
                 ..
             } => LONGEST_INQUIRY_DATA.min(usize::from(*allocation_length)),
+            Operation::ReturnLuns {
+                allocation_length,
+                ..
+            }
+            | Operation::ReturnReport {
+                allocation_length,
+                ..
+            } => LONGEST_REPORT.min(*allocation_length as usize),
             Operation::ReturnModes {
                 allocation_length,
                 ..
@@ -58,17 +66,7 @@ impl<'a> Operation<'a> {
                 allocation_length,
                 ..
             } => LONGEST_STATUS_DATA.min(*allocation_length as usize),
-            Operation::Nothing
-            | Operation::ChangeModes { .. }
-            | Operation::Write(_)
-            | Operation::Synchronize(_)
-            | Operation::MarkBad { .. }
-            | Operation::Fill { .. }
-            | Operation::Unmap(_)
-            | Operation::UnmapExtent(_)
-            | Operation::Anchor(_)
-            | Operation::AnchorExtent(_)
-            | Operation::ChangeReservations { .. } => 0,
+            _ => 0,
         }
     }
 }

@@ -101,7 +101,8 @@ impl<S: Store> Target<S> {
     }
 
     /// Executes a command. The buffer has [`BUFFER_LENGTH`] bytes at least; data-in is the first
-    /// [`Reply::data_in`] of them, and those after it stay as they were.
+    /// [`Reply::data_in`] of them, and those after it stay as they were. After a fault that cuts data-in
+    /// short, the bytes that do not arrive follow.
     pub fn execute(
         &mut self,
         initiator: Initiator,

@@ -28,9 +28,9 @@ returns-in_err-take-in-Call g c =
     ∙ events-more g.E.ToEvent.event list i c.item-item.result (event.Call call) here c.item-item.is
     (sym c.to_event.ensures ∙ c.in-Call.is) in
     let so_far = c.loop-item.invariant.after in
-    let answered = answer-carried _ c.execute-reply.result _ _ c.execute-reply.ensures.executed.answer
+    let answered = answer-carried _ _ c.execute-reply.result _ _ c.execute-reply.ensures.executed.answer
     ∙ ap (λ d. (armed_step_of d call).answer) so_far in
-    let size = size-carried _ c.execute-reply.result _ _ c.execute-reply.ensures.executed.answer in
+    let size = size-carried _ _ c.execute-reply.result _ _ c.execute-reply.ensures.executed.answer in
     let charged =
     subst (λ (d : Armed). IsCharged (cost_bounds g.S.Store.price g.S.Store.least) d.state.disk.pool
     (ranges_of_call d call) c.loop-item.self.meter c.execute-reply.new.self.meter
@@ -78,9 +78,9 @@ loop-item-preserved g c =
       | in-Call+in_ok-take-in-Call w ↦
           let call = w.in-Call.call in
           let next = more (event.Call call) (sym c.to_event.ensures ∙ w.in-Call.is) in
-          let answered = answer-carried _ w.execute-reply.result _ _ w.execute-reply.ensures.executed.answer
+          let answered = answer-carried _ _ w.execute-reply.result _ _ w.execute-reply.ensures.executed.answer
           ∙ ap (λ d. (armed_step_of d call).answer) so_far in
-          let size = size-carried _ w.execute-reply.result _ _ w.execute-reply.ensures.executed.answer in
+          let size = size-carried _ _ w.execute-reply.result _ _ w.execute-reply.ensures.executed.answer in
           let charged =
           subst (λ (d : Armed). IsCharged (cost_bounds g.S.Store.price g.S.Store.least) d.state.disk.pool
           (ranges_of_call d call) c.loop-item.self.meter w.execute-reply.new.self.meter
