@@ -20,7 +20,7 @@ from sense import (
 )
 
 MAXIMUM_TRANSFER_LENGTH = 256  # these three are in the block limits page, `pages.block_limits`
-MAXIMUM_WRITE_SAME_LENGTH = 65536
+MAXIMUM_WRITE_SAME_LENGTH = {"base": 65536, "extended": 65535}
 MAXIMUM_UNMAP_BLOCK_DESCRIPTOR_COUNT = 64
 
 
@@ -64,14 +64,14 @@ def check_write_protection(device):
 
 
 def read(device, _initiator, command, _data_out):
-    """READ (SBC-2, READ(6); SBC-3, 5.11 and 5.13)"""
+    """READ (SBC-2, READ(6); SBC-3, 5.11 to 5.13)"""
     address, count = command["address"], transfer_length(command)
     check_addresses(device, [(address, count)])
     return device.provisioning.read(address, count)
 
 
 def write(device, _initiator, command, data_out):
-    """WRITE (SBC-2, WRITE(6); SBC-3, 5.33 and 5.35)"""
+    """WRITE (SBC-2, WRITE(6); SBC-3, 5.33 to 5.35)"""
     address, count = command["address"], transfer_length(command)
     data = need_data_out(data_out, BLOCK_LENGTH * count)
     check_addresses(device, [(address, count)])
@@ -81,12 +81,19 @@ def write(device, _initiator, command, data_out):
     return b""
 
 
+def write_and_verify(device, initiator, command, data_out):
+    """SBC-3, 5.37 to 5.39: BYTCHK 00b or 01b. What was just written is as it was sent."""
+    if command["bytchk"] not in (0, 1):
+        raise command.unsupported("bytchk")
+    return write(device, initiator, command, data_out)
+
+
 def write_same(device, _initiator, command, data_out):
     """WRITE SAME (SBC-3, 5.43 and 5.44); with UNMAP 1 and a block of zeros 4.7 applies"""
     address, count = command["address"], command["count"]
     if command["anchor"] and not command["unmap"]:
         raise command.unsupported("anchor")
-    if not 1 <= count <= MAXIMUM_WRITE_SAME_LENGTH:
+    if not 1 <= count <= MAXIMUM_WRITE_SAME_LENGTH[device.profile]:
         raise command.unsupported("count")
     block = need_data_out(data_out, BLOCK_LENGTH)
     extents = [(address, count)]
@@ -101,9 +108,16 @@ def write_same(device, _initiator, command, data_out):
     return b""
 
 
-def synchronize_cache(device, _initiator, command, _data_out):
-    """SYNCHRONIZE CACHE(10) (SBC-3, 5.26): nothing is cached, and 0 blocks are no block"""
-    check_addresses(device, [(command["address"], command["count"])])
+def check_cached_range(device, _initiator, command, _data_out):
+    """SYNCHRONIZE CACHE (SBC-3, 5.26 and 5.27) and PRE-FETCH (5.8 and 5.9): nothing is cached.
+
+    A count of 0 reaches to the last block, so the first one has to exist. A base disk departs from
+    that: there 0 blocks are no block.
+    """
+    count = command["count"]
+    if count == 0 and device.profile == "extended":
+        count = 1
+    check_addresses(device, [(command["address"], count)])
     return b""
 
 

@@ -1,8 +1,8 @@
 """The device server: the order of checks, happenings, and the way to each command.
 
 docs/PROFILE.md, "The order of checks", numbers the checks; the numbers below are the same. Checks 1
-to 6 are here and in `layouts.Command`. Checks 7 to 12 are in `blocks`, `pages`, `modes` and
-`reservations`, in each command in the order of its lines.
+to 6 are here and in `layouts.Command`. Checks 7 to 12 are in `blocks`, `pages`, `modes`, `reports`
+and `reservations`, in each command in the order of its lines.
 """
 
 from dataclasses import dataclass
@@ -11,6 +11,7 @@ import blocks
 import faults
 import modes
 import pages
+import reports
 import reservations
 import sense
 from attentions import with_condition
@@ -20,7 +21,12 @@ from sense import CheckCondition, Sense, invalid_field_in_cdb
 
 GOOD, CHECK_CONDITION, RESERVATION_CONFLICT = 0x00, 0x02, 0x18  # SAM-5, the table of statuses
 INITIATORS = range(8)
-REQUEST_SENSE, INQUIRY = 0x03, 0x12
+# A pending unit attention does not stop these (SPC-4, 6.39, 6.6.1 and 6.33).
+REQUEST_SENSE, INQUIRY, REPORT_LUNS = 0x03, 0x12, 0xA0
+UNBLOCKED = {
+    "base": (INQUIRY, REQUEST_SENSE),
+    "extended": (INQUIRY, REQUEST_SENSE, REPORT_LUNS),
+}
 
 
 @dataclass
@@ -95,7 +101,7 @@ class Device:
         """What a command that ends with GOOD returns; raises whatever refuses it."""
         if not cdb:  # 1
             raise invalid_field_in_cdb(0)
-        if self.attentions[initiator] and cdb[0] not in (INQUIRY, REQUEST_SENSE):  # 2
+        if self.attentions[initiator] and cdb[0] not in UNBLOCKED[self.profile]:  # 2
             raise CheckCondition(sense.UNIT_ATTENTION, self.attentions[initiator].pop(0))
         if cdb[0] not in OPERATION_CODES[self.profile]:  # 3
             raise CheckCondition(sense.ILLEGAL_REQUEST, sense.INVALID_COMMAND_OPERATION_CODE)
@@ -130,13 +136,18 @@ OPERATIONS = {
     "INQUIRY": pages.inquiry,
     "MODE SELECT(6)": modes.mode_select,
     "MODE SENSE(6)": modes.mode_sense,
+    "SEND DIAGNOSTIC": reports.send_diagnostic,
     "READ CAPACITY(10)": blocks.read_capacity_10,
     "READ(10)": blocks.read,
     "WRITE(10)": blocks.write,
-    "SYNCHRONIZE CACHE(10)": blocks.synchronize_cache,
+    "WRITE AND VERIFY(10)": blocks.write_and_verify,
+    "PRE-FETCH(10)": blocks.check_cached_range,
+    "SYNCHRONIZE CACHE(10)": blocks.check_cached_range,
+    "READ DEFECT DATA(10)": reports.read_defect_data,
     "WRITE LONG(10)": blocks.write_long,
     "WRITE SAME(10)": blocks.write_same,
     "UNMAP": blocks.unmap,
+    "LOG SENSE": reports.log_sense,
     "MODE SELECT(10)": modes.mode_select,
     "MODE SENSE(10)": modes.mode_sense,
     "READ KEYS": reservations.read_keys,
@@ -146,7 +157,17 @@ OPERATIONS = {
     **dict.fromkeys(reservations.ACTIONS, reservations.persistent_reserve_out),
     "READ(16)": blocks.read,
     "WRITE(16)": blocks.write,
+    "WRITE AND VERIFY(16)": blocks.write_and_verify,
+    "PRE-FETCH(16)": blocks.check_cached_range,
+    "SYNCHRONIZE CACHE(16)": blocks.check_cached_range,
     "WRITE SAME(16)": blocks.write_same,
     "READ CAPACITY(16)": blocks.read_capacity_16,
     "GET LBA STATUS": blocks.get_lba_status,
+    "REPORT LUNS": reports.report_luns,
+    "REPORT SUPPORTED OPERATION CODES": reports.operation_codes,
+    "REPORT SUPPORTED TASK MANAGEMENT FUNCTIONS": reports.task_management_functions,
+    "READ(12)": blocks.read,
+    "WRITE(12)": blocks.write,
+    "WRITE AND VERIFY(12)": blocks.write_and_verify,
+    "READ DEFECT DATA(12)": reports.read_defect_data,
 }

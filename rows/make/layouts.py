@@ -21,16 +21,24 @@ TABLE = """
 15    | MODE SELECT(6)         | writes  | pf 1:10, sp 1:01, list_length 4             |
 1A    | MODE SENSE(6)          | reads   | dbd 1:08, pc 2:C0, page_code 2:3F, \
                                            subpage_code 3, allocation_length 4         |
+1D    | SEND DIAGNOSTIC        | writes  | self_test_code 1:E0, self_test 1:04, \
+                                           parameter_list_length 3-4                   | 1:13
 25    | READ CAPACITY(10)      | allowed |                                             |
 28    | READ(10)               | reads   | address 2-5, count 7-8                      | 1:1A, 6:1F
 2A    | WRITE(10)              | writes  | address 2-5, count 7-8                      | 1:1A, 6:1F
+2E    | WRITE AND VERIFY(10)   | writes  | bytchk 1:06, address 2-5, count 7-8         | 1:10, 6:1F
+34    | PRE-FETCH(10)          | reads   | address 2-5, count 7-8                      | 1:02, 6:1F
 35    | SYNCHRONIZE CACHE(10)  | writes  | address 2-5, count 7-8                      | 1:06, 6:1F
+37    | READ DEFECT DATA(10)   | reads   | req_plist 2:10, req_glist 2:08, format 2:07, \
+                                           allocation_length 7-8                       |
 3F    | WRITE LONG(10)         | writes  | cor_dis 1:80, wr_uncor 1:40, address 2-5, \
                                            transfer_length 7-8                         |
 41    | WRITE SAME(10)         | writes  | anchor 1:10, unmap 1:08, address 2-5, \
                                            count 7-8                                   | 6:1F
 42    | UNMAP                  | writes  | anchor 1:01, group_number 6:1F, \
                                            list_length 7-8                             |
+4D    | LOG SENSE              | allowed | page_code 2:3F, subpage_code 3, \
+                                           allocation_length 7-8                       | 2:C0, 5-6
 55    | MODE SELECT(10)        | writes  | pf 1:10, sp 1:01, list_length 7-8           |
 5A    | MODE SENSE(10)         | reads   | llbaa 1:10, dbd 1:08, pc 2:C0, \
                                            page_code 2:3F, subpage_code 3, \
@@ -39,14 +47,40 @@ TABLE = """
 5F    | PERSISTENT RESERVE OUT | allowed | scope 2:F0, type 2:0F, list_length 5-8      |
 88    | READ(16)               | reads   | address 2-9, count 10-13                    | 1:1A, 14:1F
 8A    | WRITE(16)              | writes  | address 2-9, count 10-13                    | 1:1A, 14:1F
+8E    | WRITE AND VERIFY(16)   | writes  | bytchk 1:06, address 2-9, count 10-13       | 1:10, 14:1F
+90    | PRE-FETCH(16)          | reads   | address 2-9, count 10-13                    | 1:02, 14:1F
+91    | SYNCHRONIZE CACHE(16)  | writes  | address 2-9, count 10-13                    | 1:06, 14:1F
 93    | WRITE SAME(16)         | writes  | anchor 1:10, unmap 1:08, address 2-9, \
                                            count 10-13                                 | 14:1F
 9E.10 | READ CAPACITY(16)      | allowed | allocation_length 10-13                     |
 9E.12 | GET LBA STATUS         | reads   | address 2-9, allocation_length 10-13        |
+A0    | REPORT LUNS            | allowed | select_report 2, allocation_length 6-9      |
+A3.0C | REPORT SUPPORTED OPERATION CODES \
+                               | reads   | rctd 2:80, options 2:07, opcode 3, \
+                                           action 4-5, allocation_length 6-9           |
+A3.0D | REPORT SUPPORTED TASK MANAGEMENT FUNCTIONS \
+                               | reads   | repd 2:80, allocation_length 6-9            |
+A8    | READ(12)               | reads   | address 2-5, count 6-9                      | 1:1A, 10:1F
+AA    | WRITE(12)              | writes  | address 2-5, count 6-9                      | 1:1A, 10:1F
+AE    | WRITE AND VERIFY(12)   | writes  | bytchk 1:06, address 2-5, count 6-9         | 1:10, 10:1F
+B7    | READ DEFECT DATA(12)   | reads   | req_plist 1:10, req_glist 1:08, format 1:07, \
+                                           index 2-5, allocation_length 6-9            |
 """
 
+# Ignored bits that REPORT SUPPORTED OPERATION CODES shows: DPO and FUA, IMMED, and PC. It shows each
+# field but a GROUP NUMBER (SPC-4, 6.35.3).
+SHOWN = {
+    **dict.fromkeys(("READ(10)", "READ(12)", "READ(16)", "WRITE(10)", "WRITE(12)", "WRITE(16)"),
+                    "1:18"),
+    **dict.fromkeys((f"WRITE AND VERIFY({length})" for length in (10, 12, 16)), "1:10"),
+    **dict.fromkeys((f"{name}({length})" for name in ("SYNCHRONIZE CACHE", "PRE-FETCH")
+                     for length in (10, 16)), "1:02"),
+    "LOG SENSE": "2:C0",
+}
+
 # Operation codes that only a disk of the extended profile knows.
-OF_EXTENDED = {0x3F}
+OF_EXTENDED = {0x1D, 0x2E, 0x34, 0x37, 0x3F, 0x4D, 0x8E, 0x90, 0x91, 0xA0, 0xA3, 0xA8, 0xAA, 0xAE,
+               0xB7}
 
 # These two have a name for each service action, from 00h on.
 SERVICE_ACTIONS = {
@@ -58,7 +92,7 @@ SERVICE_ACTIONS = {
 }
 
 # The length of a CDB by the group code, bits 7 to 5 of the operation code (SPC-4, OPERATION CODE).
-LENGTH_OF_GROUP = {0: 6, 1: 10, 2: 10, 4: 16}
+LENGTH_OF_GROUP = {0: 6, 1: 10, 2: 10, 4: 16, 5: 12}
 
 
 class Field:
@@ -100,11 +134,22 @@ class Layout:
         allowed = [*self.fields.values(), *map(Field, filter(None, ignored.split(",")))]
         if action is not None:
             allowed.append(Field("1:1F"))
-        self.allowed_bits = [0xFF] + [0] * (self.length - 1)
-        for place in allowed:
-            self.allowed_bits[place.first] |= place.mask
-            for byte in range(place.first + 1, place.last + 1):
-                self.allowed_bits[byte] = 0xFF
+        self.allowed_bits = bits_of(allowed, self.length)
+        shown = [place for field, place in self.fields.items() if field != "group_number"]
+        shown += [Field(SHOWN[name])] if name in SHOWN else []
+        self.usage = bytearray(bits_of(shown, self.length))
+        self.usage[0] = code
+        self.usage[1] |= action or 0  # 1:1F has no field, but the service action is in its place
+
+
+def bits_of(places, length):
+    """The bits of some fields, byte by byte. Byte 0, the operation code, has all."""
+    bits = [0xFF] + [0] * (length - 1)
+    for place in places:
+        bits[place.first] |= place.mask
+        for byte in range(place.first + 1, place.last + 1):
+            bits[byte] = 0xFF
+    return bits
 
 
 def read_table():

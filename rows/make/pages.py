@@ -7,39 +7,47 @@ PRODUCT = b"THIN DISK       "  # 16 bytes
 REVISION = b"0100"
 SERIAL_NUMBER = b"00000001"
 LOCAL_NUMBER = 1  # of the NAA designator, 60 bits
+SAM_5, SPC_4, SBC_3 = 0x00A0, 0x0460, 0x04C0  # version descriptors, of no version of a draft
 
 
-def inquiry(_device, _initiator, command, _data_out):
+def inquiry(device, _initiator, command, _data_out):
     """SPC-4, 6.6"""
     code = command["page_code"]
+    pages = VITAL_PRODUCT_DATA[device.profile]
     if not command["evpd"]:
         if code != 0x00:
             raise command.unsupported("page_code")
-        data = standard_inquiry_data()
-    elif code in VITAL_PRODUCT_DATA:
-        parameters = VITAL_PRODUCT_DATA[code]()
-        data = bytes([0x00, code]) + len(parameters).to_bytes(2, "big") + parameters
+        data = STANDARD_INQUIRY_DATA[device.profile]()
+    elif code == 0x00:  # SPC-4, 7.8: the codes of the supported pages in ascending order
+        data = page(code, bytes(sorted([code, *pages])))
+    elif code in pages:
+        data = page(code, pages[code](device.profile))
     else:
         raise command.unsupported("page_code")
     return data[:command["allocation_length"]]
 
 
-def standard_inquiry_data():
+def page(code, parameters):
+    return bytes([0x00, code]) + len(parameters).to_bytes(2, "big") + parameters
+
+
+def standard_inquiry_data(cmdque=0x00, after_revision=b""):
     """SPC-4, 6.6.2: VERSION 06h is SPC-4, RESPONSE DATA FORMAT 2"""
-    after_length = bytes([0, 0, 0]) + VENDOR + PRODUCT + REVISION
+    after_length = bytes([0, 0, cmdque]) + VENDOR + PRODUCT + REVISION + after_revision
     return bytes([0x00, 0x00, 0x06, 0x02, len(after_length)]) + after_length
 
 
-def supported_pages():
-    """SPC-4, 7.8: the codes in ascending order"""
-    return bytes(sorted(VITAL_PRODUCT_DATA))
+def extended_standard_inquiry_data():
+    """SPC-4, 6.6.2: byte 7 is CMDQUE, and VERSION DESCRIPTOR 1 begins at byte 58"""
+    descriptors = b"".join(it.to_bytes(2, "big") for it in (SAM_5, SPC_4, SBC_3))
+    return standard_inquiry_data(0x02, bytes(58 - 36) + descriptors.ljust(16, bytes(1)))
 
 
-def unit_serial_number():
+def unit_serial_number(_profile):
     return SERIAL_NUMBER
 
 
-def device_identification():
+def device_identification(_profile):
     """SPC-4, 7.8.6: a designator by the vendor (7.8.6.4), and a locally assigned NAA (7.8.6.6)"""
     by_vendor = VENDOR + PRODUCT + SERIAL_NUMBER
     naa = (0x3 << 60 | LOCAL_NUMBER).to_bytes(8, "big")
@@ -48,7 +56,7 @@ def device_identification():
             + bytes([binary, naa_type, 0, len(naa)]) + naa)
 
 
-def block_limits():
+def block_limits(profile):
     """SBC-3, vital product data parameters; numbers of bytes are those of the page"""
     page = bytearray(64)
     page[4] = 0x01  # WSNZ
@@ -58,22 +66,63 @@ def block_limits():
         (20, 4): 2**32 - 1,  # MAXIMUM UNMAP LBA COUNT
         (24, 4): blocks.MAXIMUM_UNMAP_BLOCK_DESCRIPTOR_COUNT,
         (28, 4): 1,  # OPTIMAL UNMAP GRANULARITY
-        (36, 8): blocks.MAXIMUM_WRITE_SAME_LENGTH,
+        (36, 8): blocks.MAXIMUM_WRITE_SAME_LENGTH[profile],
     }
     for (place, length), value in fields.items():
         page[place:place + length] = value.to_bytes(length, "big")
     return bytes(page[4:])
 
 
-def logical_block_provisioning():
+# Pages of an extended disk. The numbers of bytes are those of the page.
+
+
+def extended_inquiry_data(_profile):
+    """SPC-4, 7.8.7"""
+    page = bytearray(64)
+    page[5] = 0x04 | 0x02 | 0x01  # HEADSUP, ORDSUP, SIMPSUP
+    page[6] = 0x08 | 0x04 | 0x01  # WU_SUP, CRD_SUP, V_SUP
+    page[7] = 0x01  # LUICLR
+    return bytes(page[4:])
+
+
+def mode_page_policy(_profile):
+    """SPC-4, 7.8: pages 3Fh and subpages FFh are all, and policy 00b is shared"""
+    return bytes([0x3F, 0xFF, 0, 0])
+
+
+def scsi_ports(_profile):
+    """SPC-4, 7.8: RELATIVE PORT IDENTIFIER 1, no initiator port, no target port descriptor"""
+    page = bytearray(16)
+    page[6:8] = (1).to_bytes(2, "big")
+    return bytes(page[4:])
+
+
+def block_device_characteristics(_profile):
+    """SBC-3, vital product data parameters"""
+    page = bytearray(64)
+    page[4:6] = (1).to_bytes(2, "big")  # MEDIUM ROTATION RATE: it does not rotate
+    page[8] = 0x02 | 0x01  # FUAB, VBULS
+    return bytes(page[4:])
+
+
+def logical_block_provisioning(_profile):
     """SBC-3: LBPU, LBPWS, LBPWS10, LBPRZ and ANC_SUP are 1, PROVISIONING TYPE is 2"""
     return bytes([0, 0x80 | 0x40 | 0x20 | 0x04 | 0x02, 2, 0])
 
 
-VITAL_PRODUCT_DATA = {
-    0x00: supported_pages,
+STANDARD_INQUIRY_DATA = {"base": standard_inquiry_data, "extended": extended_standard_inquiry_data}
+
+# The pages of a disk of each profile, besides 00h
+OF_BOTH = {
     0x80: unit_serial_number,
     0x83: device_identification,
     0xB0: block_limits,
     0xB2: logical_block_provisioning,
 }
+OF_EXTENDED = {
+    0x86: extended_inquiry_data,
+    0x87: mode_page_policy,
+    0x88: scsi_ports,
+    0xB1: block_device_characteristics,
+}
+VITAL_PRODUCT_DATA = {"base": OF_BOTH, "extended": OF_BOTH | OF_EXTENDED}

@@ -12,12 +12,17 @@ from random_words import attention_words, fault_words, show_line, tool_line
 from reservations import TYPES
 
 INITIATORS = (0, 0, 0, 0, 1, 1, 1, 2, 2, 3, 4, 5, 6, 7)
-# Some commands are more frequent in a script: of reservations, mode pages, provisioning, or none.
+# Some commands are more frequent in a script: of reservations, mode pages, provisioning, blocks,
+# reports, or none. A base disk has few of the last two.
 THEMES = (
     3 * ("REGISTER", "REGISTER AND IGNORE EXISTING KEY", "RESERVE")
     + ("RELEASE", "PREEMPT", "READ RESERVATION", "READ FULL STATUS", "TEST UNIT READY"),
     ("MODE SELECT(6)", "MODE SENSE(6)", "MODE SELECT(10)", "MODE SENSE(10)"),
     ("WRITE SAME(10)", "UNMAP", "WRITE SAME(16)", "GET LBA STATUS", "WRITE LONG(10)"),
+    ("WRITE AND VERIFY(10)", "WRITE AND VERIFY(16)", "READ(12)", "WRITE(12)", "PRE-FETCH(16)",
+     "SYNCHRONIZE CACHE(10)"),
+    ("REPORT LUNS", "LOG SENSE", "READ DEFECT DATA(12)", "SEND DIAGNOSTIC",
+     *2 * ("REPORT SUPPORTED OPERATION CODES",), "REPORT SUPPORTED TASK MANAGEMENT FUNCTIONS"),
     (),
 )
 OFTEN = 6
@@ -89,10 +94,15 @@ class Script:
         """A command that reads, writes or marks the blocks of the last fault, if it is on blocks."""
         initiator = self.random.choice(INITIATORS)
         address, count = max(0, self.bad - self.random.choice((0, 0, 1))), self.small()
+        few = min(count, 3)  # as many as a line has room for
         return self.random.choice((
             f"fill {initiator} {address} {count} 9",
             f"raw {initiator} 8800{address:016x}{count:08x}0000",
             f"raw {initiator} 3f40{address % 2**32:08x}00000000",
+            f"raw {initiator} a800{address % 2**32:08x}{count:08x}0000",
+            f"raw {initiator} 8e02{address:016x}{few:08x}0000 {'5a' * 512 * few or '-'}",
+            f"raw {initiator} 9000{address:016x}{count:08x}0000",
+            f"raw {initiator} 9100{address:016x}{count:08x}0000",
             f"{initiator} sg_unmap -l {address} -n 6",
             f"{initiator} sg_unmap -l {address + 1},{address} -n 6,6",
             f"{initiator} sg_get_lba_status -b -l {address}",
@@ -142,6 +152,10 @@ class Script:
         pages = (0x01, 0x08, 0x0A, 0x1C, 0x3F)
         if command == "INQUIRY":
             pages = (0x00, 0x00, 0x80, 0x83, 0xB0, 0xB2)
+        if command == "LOG SENSE":
+            pages = (0x00, 0x00, 0x2F)
+        if field == "count" and self.is_rare(0.03):
+            return self.random.choice((256, 257, 65535, 65536))
         usual = {
             "address": self.address(),
             "count": self.small(),
@@ -151,6 +165,14 @@ class Script:
             "pf": 1,
             "wr_uncor": 1,
             "transfer_length": 0,
+            "bytchk": self.random.choice((0, 1)),
+            "format": self.random.randrange(6),
+            "options": self.random.randrange(4),
+            "opcode": self.random.choice(self.layouts)[0][0],
+            "action": self.random.choice((0, 0, 1, 3, 0x0C, 0x10, 0x12)),
+            "select_report": self.random.choice((0, 1, 2)),
+            "self_test_code": 0,
+            "parameter_list_length": 0,
             "scope": 0,
             "type": self.random.choice((self.type, self.type, self.random.choice(TYPES))),
         }
@@ -159,7 +181,7 @@ class Script:
         return self.random.randrange(256)  # as much of it as the field has room for
 
     def data_out(self, command, values):
-        if command.startswith("WRITE("):
+        if command.startswith(("WRITE(", "WRITE AND VERIFY(")):
             return bytes([self.small()]) * 512 * min(values["count"] or 256, 3)
         if command.startswith("WRITE SAME"):
             return bytes([self.random.choice((0, 0, 7))]) * 512

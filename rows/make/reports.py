@@ -1,0 +1,141 @@
+"""What an extended disk reports about itself, whatever its blocks, and SEND DIAGNOSTIC.
+
+They are commands of SPC-4, except READ DEFECT DATA (SBC-3, 5.17 and 5.18).
+"""
+
+import sense
+from layouts import CODES_WITH_ACTIONS, LAYOUTS
+
+LUN_0 = bytes(8)
+# SELECT REPORT (SPC-4, 6.33): all units but well known ones, only well known ones, and both.
+SELECTED_LUNS = {0x00: [LUN_0], 0x01: [], 0x02: [LUN_0]}
+
+# SPC-4, 6.36: functions that have nothing to do, as each command is executed at once, and a reset
+ABORT_TASK, ABORT_TASK_SET, CLEAR_TASK_SET, LOGICAL_UNIT_RESET = 0x80, 0x40, 0x10, 0x08
+FUNCTIONS = ABORT_TASK | ABORT_TASK_SET | CLEAR_TASK_SET | LOGICAL_UNIT_RESET
+
+ALL_SUBPAGES = 0xFF
+# A log parameter (SPC-4, 7.3): its code, its control byte, its length, and three bytes. These are no
+# additional sense code with its qualifier, and no temperature.
+INFORMATIONAL_EXCEPTIONS = bytes([0x00, 0x00, 0x03, 3, 0x00, 0x00, 0xFF])
+LOG_PAGES = {0x00: (0x00, ALL_SUBPAGES), 0x2F: (0x00,)}  # page codes, each with its subpage codes
+DISABLE_SAVE, SUBPAGE_FORMAT = 0x80, 0x40
+
+MOST_FORMATS = 6  # DEFECT LIST FORMAT 110b is vendor specific, and 111b reserved (SBC-3, 5.3)
+
+
+def report_luns(device, initiator, command, _data_out):
+    """SPC-4, 6.33. The initiator then knows that the list has changed (SAM-5, 5.14)."""
+    if command["select_report"] not in SELECTED_LUNS:
+        raise command.unsupported("select_report")
+    luns = b"".join(SELECTED_LUNS[command["select_report"]])
+    device.attentions[initiator] = [
+        code for code in device.attentions[initiator]
+        if code != sense.REPORTED_LUNS_DATA_HAS_CHANGED]
+    return (len(luns).to_bytes(4, "big") + bytes(4) + luns)[:command["allocation_length"]]
+
+
+# REPORT SUPPORTED OPERATION CODES (SPC-4, 6.35). The standard leaves the order of all commands free;
+# docs/PROFILE.md has this one.
+ORDER = (0x00, 0x03, 0x12, 0x15, 0x55, 0x1A, 0x5A, 0x4D, 0xA0, 0xA3, 0x1D, 0x34, 0x90, 0x08, 0x28, 0xA8,
+         0x88, 0x0A, 0x2A, 0xAA, 0x8A, 0x25, (0x9E, 0x10), 0x37, 0xB7, 0x35, 0x91, 0x2E, 0xAE, 0x8E,
+         0x3F, 0x41, 0x93, 0x42, (0x9E, 0x12), 0x5E, 0x5F)
+ALL, OF_CODE, OF_CODE_WITH_ACTION, OF_EITHER = range(4)  # REPORTING OPTIONS
+CTDP, SERVACTV, CTDP_OF_ONE = 0x02, 0x01, 0x80
+NOT_SUPPORTED, AS_IN_STANDARD = 1, 3
+TIMEOUTS = bytes([0x00, 0x0A]) + bytes(10)  # none is told
+
+
+def operation_codes(_device, _initiator, command, _data_out):
+    """SPC-4, 6.35: all commands, or one, with timeouts if RCTD is 1"""
+    timeouts = TIMEOUTS if command["rctd"] else b""
+    options, code, action = command["options"], command["opcode"], command["action"]
+    has_actions = code in CODES_WITH_ACTIONS
+    known = any(code == its for its, _ in LAYOUTS)
+    if options > OF_EITHER or options == OF_CODE and has_actions \
+            or options == OF_CODE_WITH_ACTION and known and not has_actions:
+        raise command.unsupported("options")
+    if options == ALL:
+        data = all_commands(timeouts)
+    elif has_actions:
+        data = one_command(LAYOUTS.get((code, action)), timeouts)
+    else:
+        found = options == OF_CODE or action == 0
+        data = one_command(LAYOUTS.get((code, None)) if found else None, timeouts)
+    return data[:command["allocation_length"]]
+
+
+def all_commands(timeouts):
+    descriptors = b""
+    for item in ORDER:
+        code, one = item if isinstance(item, tuple) else (item, None)
+        for (its, action), layout in sorted(LAYOUTS.items(), key=lambda it: it[0][1] or 0):
+            if its == code and one in (None, action):
+                flags = (CTDP if timeouts else 0) | (SERVACTV if action is not None else 0)
+                descriptors += bytes([code, 0, 0, action or 0, 0, flags, 0, layout.length]) + timeouts
+    return len(descriptors).to_bytes(4, "big") + descriptors
+
+
+def one_command(layout, timeouts):
+    if layout is None:
+        return bytes([0, NOT_SUPPORTED, 0, 0])
+    support = AS_IN_STANDARD | (CTDP_OF_ONE if timeouts else 0)
+    return bytes([0, support, 0, layout.length]) + layout.usage + timeouts
+
+
+def task_management_functions(_device, _initiator, command, _data_out):
+    """SPC-4, 6.36: with REPD there are timeouts, of which none is told"""
+    if command["allocation_length"] < 4:
+        raise command.unsupported("allocation_length")
+    timeouts = bytes(12) if command["repd"] else b""
+    return (bytes([FUNCTIONS, 0, 0, len(timeouts)]) + timeouts)[:command["allocation_length"]]
+
+
+def log_sense(_device, _initiator, command, _data_out):
+    """SPC-4, 6.8 and 7.3"""
+    code, subcode = command["page_code"], command["subpage_code"]
+    if code not in LOG_PAGES:
+        raise command.unsupported("page_code")
+    if subcode not in LOG_PAGES[code]:
+        raise command.unsupported("subpage_code")
+    flags, parameters = LOG_CONTENTS[code, subcode]()
+    page = bytes([flags | code, subcode]) + len(parameters).to_bytes(2, "big") + parameters
+    return page[:command["allocation_length"]]
+
+
+def supported_pages():
+    return 0, bytes(sorted(LOG_PAGES))
+
+
+def supported_subpages():
+    pairs = sorted((code, subcode) for code, its in LOG_PAGES.items() for subcode in its)
+    return SUBPAGE_FORMAT, b"".join(map(bytes, pairs))
+
+
+def informational_exceptions():
+    return DISABLE_SAVE, INFORMATIONAL_EXCEPTIONS
+
+
+LOG_CONTENTS = {
+    (0x00, 0x00): supported_pages,
+    (0x00, ALL_SUBPAGES): supported_subpages,
+    (0x2F, 0x00): informational_exceptions,
+}
+
+
+def read_defect_data(_device, _initiator, command, _data_out):
+    """SBC-3, 5.17 and 5.18: the lists that are asked for are valid, and empty"""
+    defect_format = command["format"]
+    if defect_format >= MOST_FORMATS:
+        raise command.unsupported("format")
+    lists = command["req_plist"] << 4 | command["req_glist"] << 3 | defect_format
+    after_lists = 2 if command.name == "READ DEFECT DATA(10)" else 6  # (12) has GENERATION CODE
+    return (bytes([0, lists]) + bytes(after_lists))[:command["allocation_length"]]
+
+
+def send_diagnostic(_device, _initiator, command, _data_out):
+    """SPC-4, 6.42: the default self-test has passed, and there is no diagnostic page"""
+    for field in ("self_test_code", "parameter_list_length"):
+        if command[field]:
+            raise command.unsupported(field)
+    return b""
