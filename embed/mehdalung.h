@@ -180,7 +180,7 @@ void mdl_free(mdl_disk *disk);
  *     - A command with an allocation length: that length, and no more than its longest data:
  *           REQUEST SENSE              18
  *           READ CAPACITY(16)          32
- *           INQUIRY                    64
+ *           INQUIRY                    74
  *           MODE SENSE                 80
  *           PERSISTENT RESERVE IN     296
  *           GET LBA STATUS          8,200

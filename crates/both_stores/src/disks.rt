@@ -1,11 +1,11 @@
-// The same disk over each store, and how often a reply has each status.
+// The same disk of the extended profile over each store, and how often a reply has each status.
 use sg_block_map::BlockMap;
 use sg_extent_map::ExtentMap;
 use sg_pages::Identity;
 use sg_plain_map::PlainMap;
 use sg_store::Store;
 use sg_target::{BUFFER_LENGTH, Config, Happening, Reply, Status, Target};
-use sg_wire::Initiator;
+use sg_wire::{Initiator, Profile};
 use std::alloc::Global;
 
 /// A small disk with a smaller pool, so that runs of mapped blocks are joined and cut, and the pool
@@ -31,7 +31,8 @@ fn are_equal(one: &Reply, other: &Reply) -> bool {
 }
 
 fn new_disk<S: Store>(alloc: Global) -> Option<Target<S>> {
-    let config = Config::new(BLOCKS, POOL, Identity::standard()).ok()?;
+    let identity = Identity::standard().with_profile(Profile::Extended);
+    let config = Config::new(BLOCKS, POOL, identity).ok()?;
     Target::new(alloc, config).ok()
 }
 

@@ -6,8 +6,8 @@ use sg_units::{Initiators, UnitAttention};
 use sg_wire::{Extent, Initiator};
 use std::alloc::Global;
 
-/// The number of different events: 6 commands, 7 happenings and 13 faults.
-const EVENTS: u64 = 26;
+/// The number of different events: 10 commands, 7 happenings and 13 faults.
+const EVENTS: u64 = 30;
 
 /// The number of events in a list.
 const LENGTH: u64 = 3;
@@ -22,13 +22,13 @@ pub(crate) const LISTS: u64 = EVENTS * EVENTS * EVENTS;
 /// and one event takes all faults away. Such a fault is armed after a list if the last of these
 /// seven events in it arms one:
 ///
-/// - It is the third event of the list: 26 x 26 x 6 lists.
-/// - It is the second, with one of the 19 other events after it: 26 x 6 x 19 lists.
-/// - It is the first, with two of them after it: 6 x 19 x 19 lists.
+/// - It is the third event of the list: 30 x 30 x 6 lists.
+/// - It is the second, with one of the 23 other events after it: 30 x 6 x 23 lists.
+/// - It is the first, with two of them after it: 6 x 23 x 23 lists.
 ///
-/// These are 9,186 lists. The first such fault that is not taken away decides, and each of the six
+/// These are 12,714 lists. The first such fault that is not taken away decides, and each of the six
 /// does so in as many lists as another.
-pub(crate) const EACH_REFUSAL: u64 = 1_531;
+pub(crate) const EACH_REFUSAL: u64 = 2_119;
 
 /// A command: the number of its initiator, its CDB and its data-out.
 type Step = (u8, &'static [u8], &'static [u8]);
@@ -46,6 +46,16 @@ const UNMAP_LIST: &[u8] = &[
     0, 22, 0, 16, 0, 0, 0, 0, 0, 0, 0, 0, 0, 0, 0, 0, 0, 0, 0, 2, 0, 0, 0, 0,
 ];
 
+/// WRITE(12) and WRITE AND VERIFY(10) of blocks 0 and 1.
+const WRITE_12: &[u8] = &[0xAA, 0, 0, 0, 0, 0, 0, 0, 0, 2, 0, 0];
+
+const WRITE_AND_VERIFY: &[u8] = &[0x2E, 2, 0, 0, 0, 0, 0, 0, 2, 0];
+
+/// PRE-FETCH(16) of block 1 and all blocks after it.
+const PRE_FETCH: &[u8] = &[0x90, 0, 0, 0, 0, 0, 0, 0, 0, 1, 0, 0, 0, 0, 0, 0];
+
+const REPORT_LUNS: &[u8] = &[0xA0, 0, 0, 0, 0, 0, 0, 0, 0, 16, 0, 0];
+
 const DATA: &[u8] = &[0xB2; 1_024];
 
 const OTHER_DATA: &[u8] = &[0xC3; 1_024];
@@ -53,13 +63,17 @@ const OTHER_DATA: &[u8] = &[0xC3; 1_024];
 /// Before a list no unit attention is pending for initiators 0 and 1, and the blocks are written.
 const BEFORE: [Step; 3] = [(0, READY, &[]), (1, READY, &[]), (0, WRITE, &[0xA1; 1_024])];
 
-const COMMANDS: [Step; 6] = [
+const COMMANDS: [Step; 10] = [
     (0, READ, &[]),
     (1, READ, &[]),
     (0, WRITE, DATA),
     (1, WRITE, OTHER_DATA),
     (0, UNMAP, UNMAP_LIST),
     (1, READY, &[]),
+    (1, WRITE_12, OTHER_DATA),
+    (0, WRITE_AND_VERIFY, DATA),
+    (1, PRE_FETCH, &[]),
+    (0, REPORT_LUNS, &[]),
 ];
 
 /// After a list at most three unit attentions are pending for each. The last READ reports none.
@@ -176,7 +190,10 @@ impl Disks {
             self.execute(Initiator::new(*initiator)?, cdb, data_out)?;
             return Some(());
         }
-        match (faults, happening(number.saturating_sub(6))?) {
+        match (
+            faults,
+            happening(number.saturating_sub(COMMANDS.len() as u64))?,
+        ) {
             (Faults::MeetNone, Happening::Arm(fault)) => self.arm_for_none(fault)?,
             (_, happening) => self.happen(&happening),
         }

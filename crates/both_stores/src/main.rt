@@ -7,11 +7,13 @@
 #![tactic(auto)]
 
 mod disks;
+mod extended;
 mod faults;
 mod lists;
 mod random;
 
 use disks::{BLOCKS, Disks, Tally};
+use extended::next_extended;
 use faults::next_fault;
 use lists::{EACH_REFUSAL, Faults, LISTS, run_lists};
 use random::Random;
@@ -63,7 +65,7 @@ fn next_command(
     let lba = u32::from(random.byte());
     let count = random.byte() % 9;
     data_out.fill(random.byte() % 4);
-    match random.byte() % 16 {
+    match random.byte() % 20 {
         0..=4 => Some((write(lba, count), BLOCK_LENGTH * usize::from(count))),
         5 => Some((write_same(random, lba, count), BLOCK_LENGTH)),
         6..=8 => {
@@ -75,7 +77,8 @@ fn next_command(
             list_keys(random, data_out);
             Some((reserve_out(random)?, KEY_LIST))
         }
-        _ => Some((read(lba, count), 0)),
+        13..=15 => Some((read(lba, count), 0)),
+        _ => next_extended(random, lba, count),
     }
 }
 

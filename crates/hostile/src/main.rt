@@ -1,8 +1,10 @@
 //! `hostile`: sends commands that are cut short, have a bit that no field has, or come with too
-//! little or too much data-out. For each command of a table:
+//! little or too much data-out. For each command of two tables, on a disk of the base profile and on
+//! one of the extended profile:
 //!
 //! - The disk refuses each shorter length of its CDB, with a pointer to the first byte that is
-//!   missing. After a power cycle it first reports POWER ON, except for REQUEST SENSE and INQUIRY.
+//!   missing. After a power cycle it first reports POWER ON, except for REQUEST SENSE, INQUIRY and
+//!   REPORT LUNS.
 //! - The disk refuses each single bit that no field has and that is not ignored, with a pointer to
 //!   its byte. It refuses CONTROL 01h in the same way.
 //! - One byte of data-out less than the command announces is a DATA PHASE ERROR, and one more
@@ -16,17 +18,19 @@
 #![tactic(auto)]
 
 mod ending;
+mod extended;
 mod faults;
 mod table;
 
 ghost use Rattle.std.specs.Prelude.{◌≡◌, ◌<◌, if◌then◌else◌, ◌==◌, ◌&&◌, length};
 
 use crate::ending::Ending;
+use crate::extended::EXTENDED_COMMANDS;
 use crate::table::{COMMANDS, Row, WRONG};
 use sg_pages::Identity;
 use sg_plain_map::PlainMap;
 use sg_target::{BUFFER_LENGTH, Config, Target};
-use sg_wire::Initiator;
+use sg_wire::{Initiator, Profile};
 use std::alloc::Global;
 use std::io;
 use std::process::ExitCode;
@@ -52,8 +56,9 @@ struct TestDisk {
 
 impl TestDisk {
     /// A new disk, after its unit attention was reported. Its commands may be tried with faults.
-    fn new(alloc: Global, has_faults: bool) -> Option<TestDisk> {
-        let config = Config::new(4_096, 4, Identity::standard()).ok()?;
+    fn new(alloc: Global, profile: Profile, has_faults: bool) -> Option<TestDisk> {
+        let identity = Identity::standard().with_profile(profile);
+        let config = Config::new(4_096, 4, identity).ok()?;
         let mut disk = TestDisk {
             target: Target::new(alloc, config).ok()?,
             initiator: Initiator::new(0)?,
@@ -81,11 +86,11 @@ impl TestDisk {
     }
 
     /// Whether a command has this ending after a power cycle. First it reports POWER ON, unless its
-    /// CDB has no byte or no unit attention stops it. None stops REQUEST SENSE or INQUIRY (SAM-5,
-    /// 5.14).
+    /// CDB has no byte or no unit attention stops it. None stops REQUEST SENSE, INQUIRY or REPORT
+    /// LUNS (SAM-5, 5.14).
     fn ends_after_power_on(&mut self, cdb: &[u8], data_out: &[u8], ending: Ending) -> bool {
         self.target.power_cycle();
-        let reports = matches!(cdb.first(), None | Some(0x03 | 0x12))
+        let reports = matches!(cdb.first(), None | Some(0x03 | 0x12 | 0xA0))
             || self.ends(cdb, data_out, Ending::PowerOn);
         self.ends(cdb, data_out, ending) && reports
     }
@@ -225,8 +230,8 @@ fn print_tally(rt: &impl Print, name: &str, tally: Tally) -> io::Result<()> {
 }
 
 /// Executes a command on a new disk, and then tries it in each way on the same disk.
-fn try_row(rt: &HostRuntime, row: Row, has_faults: bool) -> io::Result<Tally> {
-    let Some(mut disk) = TestDisk::new(rt.alloc(), has_faults) else {
+fn try_row(rt: &HostRuntime, row: Row, profile: Profile, has_faults: bool) -> io::Result<Tally> {
+    let Some(mut disk) = TestDisk::new(rt.alloc(), profile, has_faults) else {
         return Err(io::Error::from(io::ErrorKind::OutOfMemory));
     };
     let more = vec![in rt.alloc(); 0; row.data_out.saturating_add(1)]?;
@@ -251,11 +256,16 @@ fn try_row(rt: &HostRuntime, row: Row, has_faults: bool) -> io::Result<Tally> {
     Ok(tally)
 }
 
-/// Tries all rows of a table.
-fn try_rows(rt: &HostRuntime, rows: &[Row], has_faults: bool) -> io::Result<Tally> {
+/// Tries all rows of a table, on disks of a profile.
+fn try_rows(
+    rt: &HostRuntime,
+    rows: &[Row],
+    profile: Profile,
+    has_faults: bool,
+) -> io::Result<Tally> {
     let mut tally = Tally::default();
     for row in rows {
-        tally = tally.plus(try_row(rt, *row, has_faults)?);
+        tally = tally.plus(try_row(rt, *row, profile, has_faults)?);
     }
     Ok(tally)
 }
@@ -269,11 +279,13 @@ fn exit_status(wrong: u64, found: u64) -> u8
 
 /// Tries all commands, and then the wrong rows. Returns the status.
 fn try_all(rt: &HostRuntime, name: &str, has_faults: bool) -> io::Result<u8> {
-    let tally = try_rows(rt, &COMMANDS, has_faults)?;
+    let base = try_rows(rt, &COMMANDS, Profile::Base, has_faults)?;
+    let extended = try_rows(rt, &EXTENDED_COMMANDS, Profile::Extended, has_faults)?;
+    let tally = base.plus(extended);
     print_tally(rt, name, tally)?;
     let wrong = tally.wrong;
     println!(rt; "{wrong} tries end otherwise")?;
-    let found = try_rows(rt, &WRONG, has_faults)?.wrong;
+    let found = try_rows(rt, &WRONG, Profile::Base, has_faults)?.wrong;
     println!(rt; "{found} of {FOUND} faults of the wrong rows are found")?;
     Ok(exit_status(wrong, found))
 }

@@ -16,7 +16,7 @@ pub(crate) struct Row {
     pub(crate) ending: Ending,
 }
 
-/// The commands of docs/PROFILE.md, in the order of their operation codes, and then of their
+/// The base profile's commands of docs/PROFILE.md, in the order of their operation codes, and then of their
 /// service actions, if they have any. RESERVE, RELEASE, CLEAR and PREEMPT come from an initiator
 /// that is not registered.
 pub(crate) const COMMANDS: [Row; 34] = [

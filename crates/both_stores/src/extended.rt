@@ -1,0 +1,88 @@
+// Commands of the extended profile from a fixed seed.
+use crate::random::Random;
+use sg_store::BLOCK_LENGTH;
+use sg_wire::{
+    ByteCheck, Command, Extent12, Extent16, LogSense, PageCode, ReadDefectData12, ReportLuns,
+    ReportSupportedTaskManagementFunctions, SendDiagnostic, ThreeBits, Verify12,
+};
+
+/// Makes a command of the next kind, and returns its data-out's length too.
+pub(crate) fn next_extended(random: &mut Random, lba: u32, count: u8) -> Option<(Command, usize)> {
+    let twelve = Extent12 {
+        lba,
+        count: u32::from(count),
+    };
+    let sixteen = Extent16 {
+        lba: u64::from(lba),
+        count: u32::from(count),
+    };
+    let bytes = BLOCK_LENGTH * usize::from(count);
+    Some(match random.byte() % 12 {
+        0 | 1 => (Command::Read12(twelve), 0),
+        2 | 3 => (Command::Write12(twelve), bytes),
+        4 => (write_and_verify(random, twelve), bytes),
+        5 => (Command::PreFetch16(sixteen), 0),
+        6 => (Command::SynchronizeCache16(sixteen), 0),
+        7 => (report_luns(random), 0),
+        8 => (log_sense(random)?, 0),
+        9 => (read_defect_data(random)?, 0),
+        10 => (send_diagnostic(random)?, 0),
+        _ => (task_management(random), 0),
+    })
+}
+
+fn write_and_verify(random: &mut Random, extent: Extent12) -> Command {
+    let byte_check = match random.byte() % 4 {
+        0 => ByteCheck::OneBlock,
+        1 => ByteCheck::Nothing,
+        _ => ByteCheck::DataOut,
+    };
+    Command::WriteAndVerify12(Verify12 { byte_check, extent })
+}
+
+fn report_luns(random: &mut Random) -> Command {
+    Command::ReportLuns(ReportLuns {
+        select: random.byte() % 4,
+        allocation_length: u32::from(random.byte() % 32),
+    })
+}
+
+/// LOG SENSE, most often of a page that the disk has.
+fn log_sense(random: &mut Random) -> Option<Command> {
+    let (page, subpage_code) = match random.byte() % 4 {
+        0 => (0x00, 0x00),
+        1 => (0x00, 0xFF),
+        2 => (0x2F, 0x00),
+        _ => (0x0D, 0x00),
+    };
+    Some(Command::LogSense(LogSense {
+        page_code: PageCode::new(page)?,
+        subpage_code,
+        allocation_length: u16::from(random.byte()),
+    }))
+}
+
+fn read_defect_data(random: &mut Random) -> Option<Command> {
+    Some(Command::ReadDefectData12(ReadDefectData12 {
+        plist: random.byte() < 128,
+        glist: random.byte() < 128,
+        format: ThreeBits::new(random.byte() % 8)?,
+        index: 0,
+        allocation_length: u32::from(random.byte()),
+    }))
+}
+
+fn send_diagnostic(random: &mut Random) -> Option<Command> {
+    Some(Command::SendDiagnostic(SendDiagnostic {
+        code: ThreeBits::new(random.byte() % 2)?,
+        self_test: random.byte() < 128,
+        list_length: 0,
+    }))
+}
+
+fn task_management(random: &mut Random) -> Command {
+    Command::ReportSupportedTaskManagementFunctions(ReportSupportedTaskManagementFunctions {
+        timeouts: random.byte() < 128,
+        allocation_length: u32::from(random.byte()),
+    })
+}
