@@ -154,6 +154,11 @@ bad_comparison DataOut otherwise = otherwise
 bad_comparison Reserved otherwise = Some 1
 bad_comparison OneBlock otherwise = Some 1
 
+abbrev pub write_and_verify : ConfigFields → ByteCheck → Extent → (byte : ℕ) → (data_out : List ℕ)
+    → Demands
+write_and_verify config check extent byte data_out =
+    write extent (bad_comparison check (too_long config extent.count byte)) data_out
+
 -- A count of 0 reaches to the last block, if the profile says so: then the first block is looked up,
 -- as those after it are on the disk if it is.
 abbrev pub reached : ConfigFields → (lba count : ℕ) → Extent
@@ -219,24 +224,6 @@ unmap c data_out =
 
 -- ---- The row of each command, on a disk of a configuration, with its data-out
 
--- The commands of SPC-4, 6.
-abbrev pub is_primary : Command → Bool
-is_primary command.TestUnitReady = true
-is_primary (command.RequestSense c) = true
-is_primary (command.Inquiry c) = true
-is_primary (command.ModeSelect6 c) = true
-is_primary (command.ModeSelect10 c) = true
-is_primary (command.ModeSense6 c) = true
-is_primary (command.ModeSense10 c) = true
-is_primary (command.LogSense c) = true
-is_primary (command.ReportLuns c) = true
-is_primary (command.ReportSupportedOperationCodes c) = true
-is_primary (command.ReportSupportedTaskManagementFunctions c) = true
-is_primary (command.SendDiagnostic c) = true
-is_primary (command.PersistentReserveIn c) = true
-is_primary (command.PersistentReserveOut c) = true
-is_primary command = false
-
 -- READ(6) and WRITE(6) name at most 256 blocks by their layout. The CDB of MODE SENSE(6) has no
 -- LLBAA.
 abbrev pub demands : ConfigFields → Command → (data_out : List ℕ) → Demands
@@ -291,14 +278,11 @@ demands config (command.SynchronizeCache10 c) data_out =
 demands config (command.SynchronizeCache16 c) data_out =
     asks (operation.Synchronize (reached config c.lba c.count))
 demands config (command.WriteAndVerify10 c) data_out =
-    write (extent c.extent.lba c.extent.count)
-    (bad_comparison c.byte_check (too_long config c.extent.count 7)) data_out
+    write_and_verify config c.byte_check (extent c.extent.lba c.extent.count) 7 data_out
 demands config (command.WriteAndVerify12 c) data_out =
-    write (extent c.extent.lba c.extent.count)
-    (bad_comparison c.byte_check (too_long config c.extent.count 6)) data_out
+    write_and_verify config c.byte_check (extent c.extent.lba c.extent.count) 6 data_out
 demands config (command.WriteAndVerify16 c) data_out =
-    write (extent c.extent.lba c.extent.count)
-    (bad_comparison c.byte_check (too_long config c.extent.count 10)) data_out
+    write_and_verify config c.byte_check (extent c.extent.lba c.extent.count) 10 data_out
 demands config (command.WriteLong10 c) data_out = write_long c
 demands config (command.WriteSame10 c) data_out =
     write_same config c.anchor c.unmap (extent c.lba c.count) 7 data_out

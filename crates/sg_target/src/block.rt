@@ -8,7 +8,7 @@ ghost use Rattle.sg_wire.specs.FirstBytes.{first_bytes};
 ghost use Rattle.sg_target.specs.Armed.{first_of};
 ghost use Rattle.sg_target.specs.BlockCommands.{blocks_out, bytes_of, reading, writing};
 ghost use Rattle.sg_target.specs.Checks.{requested, unsupported_value};
-ghost use Rattle.sg_target.specs.Demands.{bad_comparison, extent, reached, read, too_long, write};
+ghost use Rattle.sg_target.specs.Demands.{extent, reached, read, too_long, write, write_and_verify};
 ghost use Rattle.sg_target.specs.Charge.{TakesStep, cost_bounds};
 ghost use Rattle.sg_target.specs.Ranges.{range};
 ghost use Rattle.sg_target.specs.MadeReplies.{ReturnsData, executed_reply, refused_reply};
@@ -25,15 +25,15 @@ use crate::reply::Reply;
 use crate::target::Target;
 use sg_pages::{CAPACITY_10_LENGTH, CAPACITY_16_LENGTH};
 use sg_store::{Space, Store};
-use sg_wire::{ByteCheck, Extent, Initiator, Verify10, Verify12, Verify16};
+use sg_wire::{ByteCheck, Extent, Initiator, ReadCapacity16, Verify10, Verify12, Verify16};
 use std::marker::Model;
 
 // Where TRANSFER LENGTH begins in CDBs of ten, twelve and sixteen bytes.
-pub(crate) const TRANSFER_LENGTH_10: u16 = 7;
+pub(crate) const LENGTH_AT_10: u16 = 7;
 
-pub(crate) const TRANSFER_LENGTH_12: u16 = 6;
+pub(crate) const LENGTH_AT_12: u16 = 6;
 
-pub(crate) const TRANSFER_LENGTH_16: u16 = 10;
+pub(crate) const LENGTH_AT_16: u16 = 10;
 
 /// Refuses more blocks than the disk moves at once; TRANSFER LENGTH begins at the byte.
 fn check_transfer_length(config: &Config, extent: Extent, byte: u16) -> Result<(), Refusal>
@@ -185,15 +185,15 @@ pub(crate) fn check_write<'a>(
 
 /// A WRITE AND VERIFY, whose data-out is at most compared with the blocks that it has just replaced;
 /// TRANSFER LENGTH begins at the byte.
-fn check_write_and_verify<'a>(
+fn check_verified_write<'a>(
     config: &Config,
     byte_check: ByteCheck,
     extent: Extent,
     byte: u16,
     data_out: &'a [u8],
 ) -> Result<Operation<'a>, Refusal>
-    ensures { result ≡ requested (write extent
-        (bad_comparison byte_check (too_long config.now extent.count byte)) data_out.now) data_out.now }
+    ensures { result ≡ requested (write_and_verify config.now byte_check extent byte data_out.now)
+        data_out.now }
 {
     match byte_check {
         ByteCheck::Nothing | ByteCheck::DataOut => check_write(config, extent, byte, data_out),
@@ -208,18 +208,12 @@ pub(crate) fn check_write_and_verify_10<'a>(
     fields: Verify10,
     data_out: &'a [u8],
 ) -> Result<Operation<'a>, Refusal>
-    ensures { let blocks = extent fields.extent.lba fields.extent.count in
-        let unsupported = bad_comparison fields.byte_check (too_long config.now blocks.count 7) in
-        result ≡ requested (write blocks unsupported data_out.now) data_out.now }
+    ensures { let named = extent fields.extent.lba fields.extent.count in
+        result ≡ requested (write_and_verify config.now fields.byte_check named 7 data_out.now)
+        data_out.now }
 {
     let extent = Extent::from(fields.extent);
-    check_write_and_verify(
-        config,
-        fields.byte_check,
-        extent,
-        TRANSFER_LENGTH_10,
-        data_out,
-    )
+    check_verified_write(config, fields.byte_check, extent, LENGTH_AT_10, data_out)
 }
 
 pub(crate) fn check_write_and_verify_12<'a>(
@@ -227,18 +221,12 @@ pub(crate) fn check_write_and_verify_12<'a>(
     fields: Verify12,
     data_out: &'a [u8],
 ) -> Result<Operation<'a>, Refusal>
-    ensures { let blocks = extent fields.extent.lba fields.extent.count in
-        let unsupported = bad_comparison fields.byte_check (too_long config.now blocks.count 6) in
-        result ≡ requested (write blocks unsupported data_out.now) data_out.now }
+    ensures { let named = extent fields.extent.lba fields.extent.count in
+        result ≡ requested (write_and_verify config.now fields.byte_check named 6 data_out.now)
+        data_out.now }
 {
     let extent = Extent::from(fields.extent);
-    check_write_and_verify(
-        config,
-        fields.byte_check,
-        extent,
-        TRANSFER_LENGTH_12,
-        data_out,
-    )
+    check_verified_write(config, fields.byte_check, extent, LENGTH_AT_12, data_out)
 }
 
 pub(crate) fn check_write_and_verify_16<'a>(
@@ -246,18 +234,12 @@ pub(crate) fn check_write_and_verify_16<'a>(
     fields: Verify16,
     data_out: &'a [u8],
 ) -> Result<Operation<'a>, Refusal>
-    ensures { let blocks = extent fields.extent.lba fields.extent.count in
-        let unsupported = bad_comparison fields.byte_check (too_long config.now blocks.count 10) in
-        result ≡ requested (write blocks unsupported data_out.now) data_out.now }
+    ensures { let named = extent fields.extent.lba fields.extent.count in
+        result ≡ requested (write_and_verify config.now fields.byte_check named 10 data_out.now)
+        data_out.now }
 {
     let extent = Extent::from(fields.extent);
-    check_write_and_verify(
-        config,
-        fields.byte_check,
-        extent,
-        TRANSFER_LENGTH_16,
-        data_out,
-    )
+    check_verified_write(config, fields.byte_check, extent, LENGTH_AT_16, data_out)
 }
 
 // ---- SYNCHRONIZE CACHE and PRE-FETCH
@@ -336,6 +318,13 @@ impl<S: Store> Target<S> {
 }
 
 // ---- READ CAPACITY
+
+#[inline(always)]
+pub(crate) fn check_read_capacity_16(fields: ReadCapacity16) -> Operation<'static>
+    ensures { result ≡ Operation.ReturnCapacity16 fields.allocation_length }
+{
+    Operation::ReturnCapacity16(fields.allocation_length)
+}
 
 impl<S: Store> Target<S> {
     /// Returns READ CAPACITY(10) parameter data.

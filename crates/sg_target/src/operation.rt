@@ -1,7 +1,7 @@
 // The operation that a command asks for, and its execution.
 ghost use Rattle.std.specs.Prelude.{◌≡◌, ◌≤◌, ◌∷◌, [], length, true, IfNone};
 ghost use Rattle.sg_target.specs.Checks.{out_of_range, requested};
-ghost use Rattle.sg_target.specs.Demands.{demands, is_primary};
+ghost use Rattle.sg_target.specs.Demands.{demands};
 ghost use Rattle.sg_target.specs.Charge.{TakesStep, cost_bounds, step_by};
 ghost use Rattle.sg_target.specs.DataIn.{returns_data};
 ghost use Rattle.sg_target.specs.DataInBound.{data_in_bound};
@@ -11,9 +11,9 @@ ghost use Rattle.sg_target.specs.Semantics.{medium_use};
 ghost use Rattle.sg_target.specs.State.{IsWithinLimits};
 
 use crate::block::{
-    BlocksIn, BlocksOut, TRANSFER_LENGTH_10, TRANSFER_LENGTH_12, TRANSFER_LENGTH_16, check_read,
-    check_read_6, check_write, check_write_6, check_write_and_verify_10, check_write_and_verify_12,
-    check_write_and_verify_16, pre_fetch, synchronize,
+    BlocksIn, BlocksOut, LENGTH_AT_10, LENGTH_AT_12, LENGTH_AT_16, check_read, check_read_6,
+    check_read_capacity_16, check_write, check_write_6, check_write_and_verify_10,
+    check_write_and_verify_12, check_write_and_verify_16, pre_fetch, synchronize,
 };
 use crate::config::Config;
 use crate::data_in::DataIn;
@@ -24,7 +24,8 @@ use crate::mode::{
 };
 use crate::primary::{InquiryPage, check_inquiry, check_request_sense};
 use crate::provisioning::{
-    BlockOut, check_unmap, check_write_same_10, check_write_same_16, listed_out_of_range,
+    BlockOut, check_get_lba_status, check_unmap, check_write_same_10, check_write_same_16,
+    listed_out_of_range,
 };
 use crate::refusal::Refusal;
 use crate::reply::Reply;
@@ -206,56 +207,6 @@ pub(crate) fn operation_of<'a>(
     ensures { result ≡ requested (demands config.now command.now data_out.now) data_out.now }
 {
     match *command {
-        Command::PreFetch10(extent) => Ok(pre_fetch(config, Extent::from(extent))),
-        Command::PreFetch16(extent) => Ok(pre_fetch(config, Extent::from(extent))),
-        Command::Read6(extent) => Ok(check_read_6(Extent::from(extent))),
-        Command::Read10(extent) => check_read(config, Extent::from(extent), TRANSFER_LENGTH_10),
-        Command::Read12(extent) => check_read(config, Extent::from(extent), TRANSFER_LENGTH_12),
-        Command::Read16(extent) => check_read(config, Extent::from(extent), TRANSFER_LENGTH_16),
-        Command::Write6(extent) => check_write_6(Extent::from(extent), data_out),
-        Command::Write10(extent) => {
-            check_write(config, Extent::from(extent), TRANSFER_LENGTH_10, data_out)
-        }
-        Command::Write12(extent) => {
-            check_write(config, Extent::from(extent), TRANSFER_LENGTH_12, data_out)
-        }
-        Command::Write16(extent) => {
-            check_write(config, Extent::from(extent), TRANSFER_LENGTH_16, data_out)
-        }
-        Command::ReadCapacity10 => Ok(Operation::ReturnCapacity10),
-        Command::ReadCapacity16(fields) => {
-            Ok(Operation::ReturnCapacity16(fields.allocation_length))
-        }
-        Command::ReadDefectData10(fields) => check_read_defect_data_10(fields),
-        Command::ReadDefectData12(fields) => check_read_defect_data_12(fields),
-        Command::SynchronizeCache10(extent) => Ok(synchronize(config, Extent::from(extent))),
-        Command::SynchronizeCache16(extent) => Ok(synchronize(config, Extent::from(extent))),
-        Command::WriteAndVerify10(fields) => check_write_and_verify_10(config, fields, data_out),
-        Command::WriteAndVerify12(fields) => check_write_and_verify_12(config, fields, data_out),
-        Command::WriteAndVerify16(fields) => check_write_and_verify_16(config, fields, data_out),
-        Command::WriteLong10(fields) => check_write_long_10(fields),
-        Command::WriteSame10(fields) => check_write_same_10(config, fields, data_out),
-        Command::WriteSame16(fields) => check_write_same_16(config, fields, data_out),
-        Command::Unmap(fields) => check_unmap(fields, data_out),
-        Command::GetLbaStatus(fields) => Ok(Operation::ReturnLbaStatus {
-            start: fields.start,
-            allocation_length: fields.allocation_length,
-        }),
-        _ => primary_operation_of(config, command, data_out),
-    }
-}
-
-/// The operation that a command of SPC-4 asks for.
-#[inline(always)]
-fn primary_operation_of<'a>(
-    config: &Config,
-    command: &Command,
-    data_out: &'a [u8],
-) -> Result<Operation<'a>, Refusal>
-    requires { is_primary command.now ≡ true }
-    ensures { result ≡ requested (demands config.now command.now data_out.now) data_out.now }
-{
-    match *command {
         Command::TestUnitReady => Ok(Operation::Nothing),
         Command::RequestSense(fields) => Ok(check_request_sense(fields)),
         Command::Inquiry(fields) => check_inquiry(config, fields),
@@ -268,9 +219,32 @@ fn primary_operation_of<'a>(
         Command::ReportSupportedOperationCodes(fields) => check_operation_codes(config, &fields),
         Command::ReportSupportedTaskManagementFunctions(fields) => check_task_management(fields),
         Command::SendDiagnostic(fields) => check_send_diagnostic(fields),
+        Command::PreFetch10(extent) => Ok(pre_fetch(config, Extent::from(extent))),
+        Command::PreFetch16(extent) => Ok(pre_fetch(config, Extent::from(extent))),
+        Command::Read6(extent) => Ok(check_read_6(Extent::from(extent))),
+        Command::Read10(extent) => check_read(config, Extent::from(extent), LENGTH_AT_10),
+        Command::Read12(extent) => check_read(config, Extent::from(extent), LENGTH_AT_12),
+        Command::Read16(extent) => check_read(config, Extent::from(extent), LENGTH_AT_16),
+        Command::Write6(extent) => check_write_6(Extent::from(extent), data_out),
+        Command::Write10(extent) => check_write(config, extent.into(), LENGTH_AT_10, data_out),
+        Command::Write12(extent) => check_write(config, extent.into(), LENGTH_AT_12, data_out),
+        Command::Write16(extent) => check_write(config, extent.into(), LENGTH_AT_16, data_out),
+        Command::ReadCapacity10 => Ok(Operation::ReturnCapacity10),
+        Command::ReadCapacity16(fields) => Ok(check_read_capacity_16(fields)),
+        Command::ReadDefectData10(fields) => check_read_defect_data_10(fields),
+        Command::ReadDefectData12(fields) => check_read_defect_data_12(fields),
+        Command::SynchronizeCache10(extent) => Ok(synchronize(config, Extent::from(extent))),
+        Command::SynchronizeCache16(extent) => Ok(synchronize(config, Extent::from(extent))),
+        Command::WriteAndVerify10(fields) => check_write_and_verify_10(config, fields, data_out),
+        Command::WriteAndVerify12(fields) => check_write_and_verify_12(config, fields, data_out),
+        Command::WriteAndVerify16(fields) => check_write_and_verify_16(config, fields, data_out),
+        Command::WriteLong10(fields) => check_write_long_10(fields),
+        Command::WriteSame10(fields) => check_write_same_10(config, fields, data_out),
+        Command::WriteSame16(fields) => check_write_same_16(config, fields, data_out),
+        Command::Unmap(fields) => check_unmap(fields, data_out),
+        Command::GetLbaStatus(fields) => Ok(check_get_lba_status(fields)),
         Command::PersistentReserveIn(fields) => Ok(check_reserve_in(fields)),
         Command::PersistentReserveOut(fields) => check_reserve_out(fields, data_out),
-        _ => unreachable!(),
     }
 }
 

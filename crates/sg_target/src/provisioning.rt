@@ -29,8 +29,8 @@ use sg_store::lba_status::MAX_DESCRIPTORS;
 use sg_store::{BLOCK_LENGTH, MAX_CAPACITY, Store};
 use sg_wire::laws::answers_are_in_their_buffers;
 use sg_wire::{
-    Cut, Extent, Initiator, ListedExtents, STATUS_DESCRIPTOR_LENGTH, STATUS_HEADER_LENGTH, Unmap,
-    UnmapList, UnmapListFault, WriteSame10, WriteSame16, are_zeros,
+    Cut, Extent, GetLbaStatus, Initiator, ListedExtents, STATUS_DESCRIPTOR_LENGTH,
+    STATUS_HEADER_LENGTH, Unmap, UnmapList, UnmapListFault, WriteSame10, WriteSame16, are_zeros,
 };
 use std::marker::Model;
 
@@ -318,6 +318,16 @@ impl<S: Store> Target<S> {
 }
 
 // ---- GET LBA STATUS
+
+#[inline(always)]
+pub(crate) fn check_get_lba_status(fields: GetLbaStatus) -> Operation<'static>
+    ensures { result ≡ Operation.ReturnLbaStatus fields.start fields.allocation_length }
+{
+    Operation::ReturnLbaStatus {
+        start: fields.start,
+        allocation_length: fields.allocation_length,
+    }
+}
 
 /// The length of the longest data of GET LBA STATUS, in bytes.
 pub(crate) const LONGEST_STATUS_DATA: usize = STATUS_HEADER_LENGTH

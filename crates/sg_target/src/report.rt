@@ -145,13 +145,14 @@ pub(crate) fn check_read_defect_data_10(
         (Report.DefectLists10 (defect_lists fields.plist fields.glist fields.format))
         fields.allocation_length) [] }
 {
-    if fields.format.number() > LAST_DEFECT_FORMAT {
-        return invalid_field(2);
-    }
-    Ok(Operation::ReturnReport {
-        report: Report::DefectLists10(defect_lists(fields.plist, fields.glist, fields.format)),
-        allocation_length: u32::from(fields.allocation_length),
-    })
+    let lists = defect_lists(fields.plist, fields.glist, fields.format);
+    let allocation_length = u32::from(fields.allocation_length);
+    check_defects(
+        fields.format,
+        2,
+        Report::DefectLists10(lists),
+        allocation_length,
+    )
 }
 
 /// READ DEFECT DATA(12). DEFECT LIST FORMAT is in byte 1.
@@ -162,12 +163,31 @@ pub(crate) fn check_read_defect_data_12(
         (Report.DefectLists12 (defect_lists fields.plist fields.glist fields.format))
         fields.allocation_length) [] }
 {
-    if fields.format.number() > LAST_DEFECT_FORMAT {
-        return invalid_field(1);
+    let lists = defect_lists(fields.plist, fields.glist, fields.format);
+    check_defects(
+        fields.format,
+        1,
+        Report::DefectLists12(lists),
+        fields.allocation_length,
+    )
+}
+
+/// The report of a READ DEFECT DATA whose DEFECT LIST FORMAT is in the byte.
+fn check_defects(
+    format: ThreeBits,
+    byte: u16,
+    report: Report,
+    allocation_length: u32,
+) -> Result<Operation<'static>, Refusal>
+    ensures { result
+        ≡ requested (reports (bad_defect_format format byte) report allocation_length) [] }
+{
+    if format.number() > LAST_DEFECT_FORMAT {
+        return invalid_field(byte);
     }
     Ok(Operation::ReturnReport {
-        report: Report::DefectLists12(defect_lists(fields.plist, fields.glist, fields.format)),
-        allocation_length: fields.allocation_length,
+        report,
+        allocation_length,
     })
 }
 
