@@ -331,7 +331,7 @@ again_by_code Changeable = refl
 again_by_code Default = refl
 again_by_code Saved = refl
 
--- the BYTCHK field of a WRITE AND VERIFY
+-- the BYTCHK field of a VERIFY or a WRITE AND VERIFY
 checked_again : (check : ByteCheck) → byte_check_of (byte_check_code check) ≡ check
 checked_again Nothing = refl
 checked_again DataOut = refl
@@ -359,10 +359,16 @@ reads_back (command.ModeSense6 c) h = decoded (layout (command.ModeSense6 c)) h 
 reads_back (command.ModeSense10 c) h = decoded (layout (command.ModeSense10 c)) h _ refl
     (ap (λ pc. command.ModeSense10 (record c { page = record c.page { page_control = pc } }))
     (again_by_code c.page.page_control))
+reads_back (command.Verify10 c) h = decoded (layout (command.Verify10 c)) h _ refl
+    (ap (λ check. command.Verify10 (record c { byte_check = check })) (checked_again c.byte_check))
 reads_back (command.WriteAndVerify10 c) h = decoded (layout (command.WriteAndVerify10 c)) h _ refl
     (ap (λ check. command.WriteAndVerify10 (record c { byte_check = check })) (checked_again c.byte_check))
+reads_back (command.Verify12 c) h = decoded (layout (command.Verify12 c)) h _ refl
+    (ap (λ check. command.Verify12 (record c { byte_check = check })) (checked_again c.byte_check))
 reads_back (command.WriteAndVerify12 c) h = decoded (layout (command.WriteAndVerify12 c)) h _ refl
     (ap (λ check. command.WriteAndVerify12 (record c { byte_check = check })) (checked_again c.byte_check))
+reads_back (command.Verify16 c) h = decoded (layout (command.Verify16 c)) h _ refl
+    (ap (λ check. command.Verify16 (record c { byte_check = check })) (checked_again c.byte_check))
 reads_back (command.WriteAndVerify16 c) h = decoded (layout (command.WriteAndVerify16 c)) h _ refl
     (ap (λ check. command.WriteAndVerify16 (record c { byte_check = check })) (checked_again c.byte_check))
 reads_back command h = decoded (layout command) h command refl refl

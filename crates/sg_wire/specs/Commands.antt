@@ -111,6 +111,9 @@ no_blocks_12 = record { lba = 0; count = 0 }
 abbrev pub no_blocks_16 : Extent16
 no_blocks_16 = record { lba = 0; count = 0 }
 
+abbrev pub compare_and_write : (lba count : ℕ) → Command
+compare_and_write lba n = command.CompareAndWrite (record { lba = lba; count = n })
+
 abbrev pub read_capacity_16 : (allocation_length : ℕ) → Command
 read_capacity_16 n = command.ReadCapacity16 (record { allocation_length = n })
 
@@ -129,6 +132,24 @@ read_defect_data_12 plist glist format index n = command.ReadDefectData12 (recor
   format = format;
   index = index;
   allocation_length = n;
+})
+
+abbrev pub verify_10 : (byte_check lba count : ℕ) → Command
+verify_10 check lba n = command.Verify10 (record {
+  byte_check = byte_check_of check;
+  extent = record { lba = lba; count = n };
+})
+
+abbrev pub verify_12 : (byte_check lba count : ℕ) → Command
+verify_12 check lba n = command.Verify12 (record {
+  byte_check = byte_check_of check;
+  extent = record { lba = lba; count = n };
+})
+
+abbrev pub verify_16 : (byte_check lba count : ℕ) → Command
+verify_16 check lba n = command.Verify16 (record {
+  byte_check = byte_check_of check;
+  extent = record { lba = lba; count = n };
 })
 
 abbrev pub write_and_verify_10 : (byte_check lba count : ℕ) → Command

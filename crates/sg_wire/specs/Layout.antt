@@ -32,6 +32,7 @@ use Rattle.sg_wire.specs.declared.command.report.ReportSupportedOperationCodes.{
 use Rattle.sg_wire.specs.declared.command.report.ReportSupportedTaskManagementFunctions as functions
 use Rattle.sg_wire.specs.declared.command.reservation.PersistentReserveIn.{PersistentReserveIn}
 use Rattle.sg_wire.specs.declared.command.reservation.PersistentReserveOut.{PersistentReserveOut}
+use Rattle.sg_wire.specs.declared.command.verify.CompareAndWrite.{CompareAndWrite}
 use Rattle.sg_wire.specs.declared.command.verify.Verify10.{Verify10}
 use Rattle.sg_wire.specs.declared.command.verify.Verify12.{Verify12}
 use Rattle.sg_wire.specs.declared.command.verify.Verify16.{Verify16}
@@ -185,7 +186,11 @@ write_long_10 c =
     field (bit 1 7) c.cor_dis ∷ field (bit 1 6) c.wr_uncor ∷ field (bytes 2 5) c.lba
     ∷ field (bytes 7 8) c.length ∷ []
 
--- BYTCHK, LOGICAL BLOCK ADDRESS and TRANSFER LENGTH of WRITE AND VERIFY.
+-- LOGICAL BLOCK ADDRESS and NUMBER OF LOGICAL BLOCKS, which has one byte.
+abbrev compare_and_write : CompareAndWrite → List Field
+compare_and_write c = field (bytes 2 9) c.lba ∷ field (bytes 13 13) c.count ∷ []
+
+-- BYTCHK, LOGICAL BLOCK ADDRESS, and VERIFICATION LENGTH or TRANSFER LENGTH.
 abbrev pub verify_10 : Verify10 → List Field
 verify_10 c = field (bits 1 2 1) (byte_check_code c.byte_check) ∷ extent_10 c.extent
 
@@ -327,6 +332,8 @@ layout (command.ReportSupportedTaskManagementFunctions c) =
     make.report_task_management
 layout (command.SendDiagnostic c) =
     extended 0x1D none Writes blocked (send_diagnostic c) diagnostic_bits make.send_diagnostic
+layout (command.CompareAndWrite c) =
+    extended 0x89 none Writes blocked (compare_and_write c) (cache_bits 14) make.compare_and_write
 layout (command.PreFetch10 c) =
     in_extended (range_10 0x34 Reads (immed_bit 6) command.PreFetch10 c)
 layout (command.PreFetch16 c) =
@@ -349,6 +356,12 @@ layout (command.ReadDefectData12 c) =
 layout (command.SynchronizeCache10 c) = range_10 0x35 Writes (immed_bits 6) command.SynchronizeCache10 c
 layout (command.SynchronizeCache16 c) =
     in_extended (range_16 0x91 Writes (immed_bits 14) command.SynchronizeCache16 c)
+layout (command.Verify10 c) =
+    extended 0x2F none Reads blocked (verify_10 c) (dpo_bit 6) make.verify_10
+layout (command.Verify12 c) =
+    extended 0xAF none Reads blocked (verify_12 c) (dpo_bit 10) make.verify_12
+layout (command.Verify16 c) =
+    extended 0x8F none Reads blocked (verify_16 c) (dpo_bit 14) make.verify_16
 layout (command.WriteAndVerify10 c) =
     extended 0x2E none Writes blocked (verify_10 c) (dpo_bit 6) make.write_and_verify_10
 layout (command.WriteAndVerify12 c) =
@@ -389,6 +402,7 @@ each_command =
     ∷ make.report_operation_codes false 0 0 0 0
     ∷ make.report_task_management false 0
     ∷ make.send_diagnostic 0 false 0
+    ∷ make.compare_and_write 0 0
     ∷ command.PreFetch10 make.no_blocks_10
     ∷ command.PreFetch16 make.no_blocks_16
     ∷ command.Read6 (0, 1)
@@ -405,6 +419,9 @@ each_command =
     ∷ make.read_defect_data_12 false false 0 0 0
     ∷ command.SynchronizeCache10 make.no_blocks_10
     ∷ command.SynchronizeCache16 make.no_blocks_16
+    ∷ make.verify_10 0 0 0
+    ∷ make.verify_12 0 0 0
+    ∷ make.verify_16 0 0 0
     ∷ make.write_and_verify_10 0 0 0
     ∷ make.write_and_verify_12 0 0 0
     ∷ make.write_and_verify_16 0 0 0
@@ -425,3 +442,21 @@ abbrev pub length_of : ℕ → ℕ
 length_of opcode =
     let group = opcode / 32 in
     if group == 0 then 6 else (if group == 4 then 16 else (if group == 5 then 12 else 10))
+
+-- The commands of SBC-3 (and READ(6) and WRITE(6) of SBC-2). Those of SPC-4 are primary commands.
+abbrev pub is_block_command : Command → Bool
+is_block_command command.TestUnitReady = false
+is_block_command (command.RequestSense c) = false
+is_block_command (command.Inquiry c) = false
+is_block_command (command.ModeSelect6 c) = false
+is_block_command (command.ModeSelect10 c) = false
+is_block_command (command.ModeSense6 c) = false
+is_block_command (command.ModeSense10 c) = false
+is_block_command (command.LogSense c) = false
+is_block_command (command.ReportLuns c) = false
+is_block_command (command.ReportSupportedOperationCodes c) = false
+is_block_command (command.ReportSupportedTaskManagementFunctions c) = false
+is_block_command (command.SendDiagnostic c) = false
+is_block_command (command.PersistentReserveIn c) = false
+is_block_command (command.PersistentReserveOut c) = false
+is_block_command command = true

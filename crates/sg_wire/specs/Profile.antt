@@ -13,27 +13,67 @@ is_in Extended Extended = true
 
 -- ---- Limits, in blocks
 
--- The most that a READ or a WRITE moves, and the most that a WRITE SAME writes. The page Block
--- Limits reports both (SBC-3, vital product data parameters). Then the most that can be mapped or
--- anchored at once (SBC-3, 4.7).
+-- The most that a READ or a WRITE moves, the most that a WRITE SAME writes, and the most that a
+-- COMPARE AND WRITE compares: a base disk has none. The page Block Limits reports them (SBC-3, vital
+-- product data parameters). Then the most that can be mapped or anchored at once (SBC-3, 4.7).
 abbrev pub base_limits : Limits
-base_limits = record { transfer_length = 256; write_same_length = 65536; pool = 65536 }
+base_limits = record {
+  transfer_length = 256;
+  write_same_length = 65536;
+  compare_and_write_length = 0;
+  pool = 65536;
+}
 
--- A disk of the extended profile can have a larger pool. Its WRITE SAME writes no more than
--- WRITE SAME(10) can name.
+-- A disk of the extended profile moves more at once, and can have a larger pool. Its WRITE SAME writes
+-- no more than WRITE SAME(10) can name, and its COMPARE AND WRITE compares what its CDB can name.
+abbrev pub extended_limits : Limits
+extended_limits = record {
+  transfer_length = 2048;
+  write_same_length = 65535;
+  compare_and_write_length = 255;
+  pool = 4294967295;
+}
+
 abbrev pub limits_of : Profile → Limits
 limits_of Base = base_limits
-limits_of Extended = record base_limits { write_same_length = 65535; pool = 4294967295 }
+limits_of Extended = extended_limits
 
 -- The most that a READ or a WRITE moves on a disk of any profile.
 abbrev pub maximum_transfer_length : ℕ
-maximum_transfer_length = base_limits.transfer_length
+maximum_transfer_length = extended_limits.transfer_length
 
 -- ---- Rules
 
 -- What a disk does otherwise in one profile than in another. The extended profile follows the
 -- standards.
 -- Departure (SBC-3, 5.26): a count of 0 in SYNCHRONIZE CACHE(10) names no block on a base disk.
+-- Departure (SPC-4, sense keys): on a base disk, data-out that is too short is a DATA PHASE ERROR.
+-- Departure (SBC-3, 4.12): SWP of a base disk also refuses a command that writes no block, and the
+-- sense data names the software.
+-- Departure (SBC-3, 5.28): a base disk looks for the address of an UNMAP descriptor of no block.
+-- Departure (SPC-4, 5.13.11.4): on a base disk, PREEMPT of key 0 may be a conflict.
+-- Departure (SPC-4, 5.13.7): a REGISTER of a base disk that changes no key leaves PRGENERATION and
+-- APTPL.
+-- Departure (SPC-4, 5.13.11.2): on a base disk, RELEASE of nothing may be refused for its TYPE.
+-- Departure (SPC-4, 6.15.4): a base disk does not say which commands a reservation allows.
 abbrev pub rules_of : Profile → Rules
-rules_of Base = record { zero_reaches_last = false }
-rules_of Extended = record { zero_reaches_last = true }
+rules_of Base = record {
+  zero_reaches_last = false;
+  short_data_out_is_illegal = false;
+  protects_only_writes = false;
+  unmaps_no_block_anywhere = false;
+  preempts_some_key = false;
+  counts_each_register = false;
+  releases_nothing_by_any_type = false;
+  allow_commands = 0;
+}
+rules_of Extended = record {
+  zero_reaches_last = true;
+  short_data_out_is_illegal = true;
+  protects_only_writes = true;
+  unmaps_no_block_anywhere = true;
+  preempts_some_key = true;
+  counts_each_register = true;
+  releases_nothing_by_any_type = true;
+  allow_commands = 3;
+}

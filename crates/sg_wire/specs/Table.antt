@@ -7,7 +7,7 @@ use Rattle.sg_wire.specs.CdbDecoding.{command_by_row, command_by_rows}
 use Rattle.sg_wire.specs.CdbDecoding.{first_bad, has_action_of, make_from, masks, rows_in}
 use Rattle.sg_wire.specs.CdbDecoding.{service_action, unless_bad}
 use Rattle.sg_wire.specs.Commands as make
-use Rattle.sg_wire.specs.Layout.{Layout, ServiceAction, layout, length_of, table}
+use Rattle.sg_wire.specs.Layout.{Layout, ServiceAction, is_block_command, layout, length_of, table}
 use Rattle.sg_wire.specs.Layout.ServiceAction.{none, named as one_action}
 use Rattle.sg_wire.specs.Profile.{is_in}
 use Rattle.sg_wire.specs.SupportedOperations.{usage}
@@ -47,6 +47,7 @@ command_named name.ReportLuns = make.report_luns 0 0
 command_named name.ReportSupportedOperationCodes = make.report_operation_codes false 0 0 0 0
 command_named name.ReportSupportedTaskManagementFunctions = make.report_task_management false 0
 command_named name.SendDiagnostic = make.send_diagnostic 0 false 0
+command_named name.CompareAndWrite = make.compare_and_write 0 0
 command_named name.PreFetch10 = command.PreFetch10 make.no_blocks_10
 command_named name.PreFetch16 = command.PreFetch16 make.no_blocks_16
 command_named name.Read6 = command.Read6 (0, 1)
@@ -63,6 +64,9 @@ command_named name.ReadDefectData10 = make.read_defect_data_10 false false 0 0
 command_named name.ReadDefectData12 = make.read_defect_data_12 false false 0 0 0
 command_named name.SynchronizeCache10 = command.SynchronizeCache10 make.no_blocks_10
 command_named name.SynchronizeCache16 = command.SynchronizeCache16 make.no_blocks_16
+command_named name.Verify10 = make.verify_10 0 0 0
+command_named name.Verify12 = make.verify_12 0 0 0
+command_named name.Verify16 = make.verify_16 0 0 0
 command_named name.WriteAndVerify10 = make.write_and_verify_10 0 0 0
 command_named name.WriteAndVerify12 = make.write_and_verify_12 0 0 0
 command_named name.WriteAndVerify16 = make.write_and_verify_16 0 0 0
@@ -71,6 +75,10 @@ command_named name.WriteSame10 = make.write_same_10 false false 0 0
 command_named name.WriteSame16 = make.write_same_16 false false 0 0
 command_named name.Unmap = make.unmap false 0 0
 command_named name.GetLbaStatus = make.get_lba_status 0 0
+
+-- A name of a block command.
+abbrev pub names_block_command : Name → Bool
+names_block_command named = is_block_command (command_named named)
 
 -- The layout of each name.
 abbrev pub layout_of : Name → Layout

@@ -12,7 +12,7 @@ pub enum Profile {
 }
 
 /// The most blocks that a READ or a WRITE moves, on a disk of any profile.
-pub const MAXIMUM_TRANSFER_LENGTH: u32 = 256;
+pub const MAXIMUM_TRANSFER_LENGTH: u32 = 2048;
 
 /// The most blocks that a WRITE SAME writes, on a disk of the base profile.
 pub const MAXIMUM_WRITE_SAME_LENGTH: u32 = 65_536;
@@ -25,21 +25,25 @@ pub struct Limits {
     pub transfer_length: u32,
     /// The most blocks that a WRITE SAME writes. The page Block Limits reports it, too.
     pub write_same_length: u32,
+    /// The most blocks that a COMPARE AND WRITE compares. The page Block Limits reports it, too.
+    pub compare_and_write_length: u8,
     /// The most blocks that the pool can have. So at most so many addresses can be mapped or
     /// anchored at once (SBC-3, 4.7).
     pub pool: u32,
 }
 
 const BASE_LIMITS: Limits = Limits {
-    transfer_length: MAXIMUM_TRANSFER_LENGTH,
+    transfer_length: 256,
     write_same_length: MAXIMUM_WRITE_SAME_LENGTH,
+    compare_and_write_length: 0,
     pool: 65_536,
 };
 
 const EXTENDED_LIMITS: Limits = Limits {
+    transfer_length: MAXIMUM_TRANSFER_LENGTH,
     write_same_length: u16::MAX as u32,
+    compare_and_write_length: u8::MAX,
     pool: u32::MAX,
-    ..BASE_LIMITS
 };
 
 /// What a disk does otherwise in one profile than in another. The extended profile follows the
@@ -48,7 +52,45 @@ const EXTENDED_LIMITS: Limits = Limits {
 pub struct Rules {
     /// A count of 0 in SYNCHRONIZE CACHE reaches to the last block (SBC-3, 5.26).
     pub zero_reaches_last: bool,
+    /// Data-out that is too short is an ILLEGAL REQUEST, and no DATA PHASE ERROR (SPC-4, sense keys).
+    pub short_data_out_is_illegal: bool,
+    /// SWP refuses a command only if it writes a block, with WRITE PROTECTED (SBC-3, 4.12).
+    pub protects_only_writes: bool,
+    /// A descriptor of UNMAP that names no block may have any address (SBC-3, 5.28).
+    pub unmaps_no_block_anywhere: bool,
+    /// PREEMPT of key 0 is an error of the parameter list, unless an all registrants reservation is
+    /// held (SPC-4, 5.13.11.4).
+    pub preempts_some_key: bool,
+    /// Each REGISTER raises PRGENERATION and takes APTPL, even one that changes no key (SPC-4,
+    /// 5.13.7).
+    pub counts_each_register: bool,
+    /// A RELEASE of a registrant that holds nothing is GOOD with any TYPE (SPC-4, 5.13.11.2).
+    pub releases_nothing_by_any_type: bool,
+    /// ALLOW COMMANDS of REPORT CAPABILITIES (SPC-4, 6.15.4).
+    pub allow_commands: u8,
 }
+
+const BASE_RULES: Rules = Rules {
+    zero_reaches_last: false,
+    short_data_out_is_illegal: false,
+    protects_only_writes: false,
+    unmaps_no_block_anywhere: false,
+    preempts_some_key: false,
+    counts_each_register: false,
+    releases_nothing_by_any_type: false,
+    allow_commands: 0,
+};
+
+const EXTENDED_RULES: Rules = Rules {
+    zero_reaches_last: true,
+    short_data_out_is_illegal: true,
+    protects_only_writes: true,
+    unmaps_no_block_anywhere: true,
+    preempts_some_key: true,
+    counts_each_register: true,
+    releases_nothing_by_any_type: true,
+    allow_commands: 3,
+};
 
 impl Profile {
     /// The limits of a disk of this profile.
@@ -67,12 +109,8 @@ impl Profile {
         ensures { result ≡ rules_of self }
     {
         match self {
-            Profile::Base => Rules {
-                zero_reaches_last: false,
-            },
-            Profile::Extended => Rules {
-                zero_reaches_last: true,
-            },
+            Profile::Base => BASE_RULES,
+            Profile::Extended => EXTENDED_RULES,
         }
     }
 

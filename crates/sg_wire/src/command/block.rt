@@ -6,16 +6,21 @@ ghost use Rattle.sg_wire.specs.CdbEncoding.{cdb_of};
 ghost use Rattle.sg_wire.specs.CdbFields.{number_at, value_at};
 ghost use Rattle.sg_wire.specs.CdbFields.Place.{short_extent};
 ghost use Rattle.sg_wire.specs.FieldRoom.{fits_cdb, have_room};
+ghost use Rattle.sg_wire.specs.Layout.{is_block_command};
 ghost use Rattle.sg_wire.specs.Layout.{extent_10, extent_12, extent_16, extent_6};
-ghost use Rattle.sg_wire.specs.Table.{IsDecoded, IsRefused, IsRow, command_by, layout_of};
+ghost use Rattle.sg_wire.specs.Table.{IsDecoded, IsRefused, IsRow, command_by, command_of_name};
+ghost use Rattle.sg_wire.specs.Table.{layout_of, names_block_command};
 ghost use Rattle.sg_wire.specs.declared.command.table.Name.{Name};
 
 use super::masks::two_bits;
-use super::table::{
-    READ_CAPACITY_10, READ_CAPACITY_16, Row, SYNCHRONIZE_CACHE_10, SYNCHRONIZE_CACHE_16,
-    WRITE_LONG_10, check_row,
+use super::rows::{
+    PRE_FETCH_10, PRE_FETCH_16, READ_6, READ_10, READ_12, READ_16, READ_CAPACITY_10,
+    READ_CAPACITY_16, SYNCHRONIZE_CACHE_10, SYNCHRONIZE_CACHE_16, VERIFY_10, VERIFY_12, VERIFY_16,
+    WRITE_6, WRITE_10, WRITE_12, WRITE_16, WRITE_AND_VERIFY_10, WRITE_AND_VERIFY_12,
+    WRITE_AND_VERIFY_16, WRITE_LONG_10,
 };
-use super::{CdbFault, Command, ShortExtent};
+use super::table::{Name, Row, check_row};
+use super::{CdbFault, Command, ShortExtent, diagnostic, provisioning, verify};
 use crate::bytes::{CdbBytes, MAX_CDB_LENGTH};
 use byteorder::{BigEndian, ByteOrder};
 
@@ -74,6 +79,44 @@ pub struct ReadCapacity16 {
 }
 
 // ---- Decoding
+
+/// The block command of a CDB whose row has a name.
+pub(super) fn decode_block(name: Name, cdb: &[u8]) -> Result<Command, CdbFault>
+    requires { names_block_command name ≡ true }
+    ensures { result ≡ command_of_name name cdb.now }
+{
+    match name {
+        Name::CompareAndWrite => verify::decode_compare_and_write(cdb),
+        Name::PreFetch10 => Ok(Command::PreFetch10(decode_extent_10(&PRE_FETCH_10, cdb)?)),
+        Name::PreFetch16 => Ok(Command::PreFetch16(decode_extent_16(&PRE_FETCH_16, cdb)?)),
+        Name::Read6 => Ok(Command::Read6(decode_extent_6(&READ_6, cdb)?)),
+        Name::Read10 => Ok(Command::Read10(decode_extent_10(&READ_10, cdb)?)),
+        Name::Read12 => Ok(Command::Read12(decode_extent_12(&READ_12, cdb)?)),
+        Name::Read16 => Ok(Command::Read16(decode_extent_16(&READ_16, cdb)?)),
+        Name::Write6 => Ok(Command::Write6(decode_extent_6(&WRITE_6, cdb)?)),
+        Name::Write10 => Ok(Command::Write10(decode_extent_10(&WRITE_10, cdb)?)),
+        Name::Write12 => Ok(Command::Write12(decode_extent_12(&WRITE_12, cdb)?)),
+        Name::Write16 => Ok(Command::Write16(decode_extent_16(&WRITE_16, cdb)?)),
+        Name::ReadCapacity10 => decode_read_capacity_10(cdb),
+        Name::ReadCapacity16 => decode_read_capacity_16(cdb),
+        Name::ReadDefectData10 => diagnostic::decode_read_defect_data_10(cdb),
+        Name::ReadDefectData12 => diagnostic::decode_read_defect_data_12(cdb),
+        Name::SynchronizeCache10 => decode_synchronize_cache_10(cdb),
+        Name::SynchronizeCache16 => decode_synchronize_cache_16(cdb),
+        Name::Verify10 => verify::decode_verify_10(cdb),
+        Name::Verify12 => verify::decode_verify_12(cdb),
+        Name::Verify16 => verify::decode_verify_16(cdb),
+        Name::WriteAndVerify10 => verify::decode_write_and_verify_10(cdb),
+        Name::WriteAndVerify12 => verify::decode_write_and_verify_12(cdb),
+        Name::WriteAndVerify16 => verify::decode_write_and_verify_16(cdb),
+        Name::WriteLong10 => decode_write_long_10(cdb),
+        Name::WriteSame10 => provisioning::decode_write_same_10(cdb),
+        Name::WriteSame16 => provisioning::decode_write_same_16(cdb),
+        Name::Unmap => provisioning::decode_unmap(cdb),
+        Name::GetLbaStatus => provisioning::decode_get_lba_status(cdb),
+        _ => unreachable!(),
+    }
+}
 
 pub(super) fn decode_read_capacity_10(cdb: &[u8]) -> Result<Command, CdbFault>
     ensures { result ≡ command_by (layout_of Name.ReadCapacity10) cdb.now }
@@ -182,6 +225,48 @@ pub(super) fn decode_extent_16(row: &Row, cdb: &[u8]) -> Result<Extent16, CdbFau
 }
 
 // ---- Encoding
+
+impl Command {
+    /// The CDB of a block command, which has room for the values of its fields.
+    #[tactic(auto, unfolding(crate::specs::CdbEncoding::cdb_of))]
+    pub(super) fn encode_block(&self) -> CdbBytes
+        requires { is_block_command self.now ≡ true }
+        ensures cdb { result ≡ cdb_of self.now }
+        ensures fits { fits_cdb self.now ≡ true }
+    {
+        match *self {
+            Command::CompareAndWrite(fields) => fields.encode(),
+            Command::PreFetch10(extent) => extent.encode(&PRE_FETCH_10),
+            Command::PreFetch16(extent) => extent.encode(&PRE_FETCH_16),
+            Command::Read6(extent) => encode_extent_6(&READ_6, extent),
+            Command::Read10(extent) => extent.encode(&READ_10),
+            Command::Read12(extent) => extent.encode(&READ_12),
+            Command::Read16(extent) => extent.encode(&READ_16),
+            Command::Write6(extent) => encode_extent_6(&WRITE_6, extent),
+            Command::Write10(extent) => extent.encode(&WRITE_10),
+            Command::Write12(extent) => extent.encode(&WRITE_12),
+            Command::Write16(extent) => extent.encode(&WRITE_16),
+            Command::ReadCapacity10 => encode_read_capacity_10(),
+            Command::ReadCapacity16(fields) => fields.encode(),
+            Command::ReadDefectData10(fields) => fields.encode(),
+            Command::ReadDefectData12(fields) => fields.encode(),
+            Command::SynchronizeCache10(extent) => extent.encode(&SYNCHRONIZE_CACHE_10),
+            Command::SynchronizeCache16(extent) => extent.encode(&SYNCHRONIZE_CACHE_16),
+            Command::Verify10(fields) => fields.encode(&VERIFY_10),
+            Command::Verify12(fields) => fields.encode(&VERIFY_12),
+            Command::Verify16(fields) => fields.encode(&VERIFY_16),
+            Command::WriteAndVerify10(fields) => fields.encode(&WRITE_AND_VERIFY_10),
+            Command::WriteAndVerify12(fields) => fields.encode(&WRITE_AND_VERIFY_12),
+            Command::WriteAndVerify16(fields) => fields.encode(&WRITE_AND_VERIFY_16),
+            Command::WriteLong10(fields) => fields.encode(),
+            Command::WriteSame10(fields) => fields.encode(),
+            Command::WriteSame16(fields) => fields.encode(),
+            Command::Unmap(fields) => fields.encode(),
+            Command::GetLbaStatus(fields) => fields.encode(),
+            _ => unreachable!(),
+        }
+    }
+}
 
 /// READ(6) and WRITE(6). A TRANSFER LENGTH of 0 means 256 blocks.
 pub(super) fn encode_extent_6(row: &Row, extent: ShortExtent) -> CdbBytes

@@ -7,9 +7,8 @@ ghost use Rattle.sg_wire.specs.Table.{command_by, layout_of};
 ghost use Rattle.sg_wire.specs.declared.command.table.Name.{Name};
 
 use super::masks::two_bits;
-use super::table::{
-    LOG_SENSE, READ_DEFECT_DATA_10, READ_DEFECT_DATA_12, SEND_DIAGNOSTIC, check_row,
-};
+use super::rows::{LOG_SENSE, READ_DEFECT_DATA_10, READ_DEFECT_DATA_12, SEND_DIAGNOSTIC};
+use super::table::check_row;
 use super::{CdbFault, Command, PageCode, ThreeBits};
 use crate::bytes::CdbBytes;
 use byteorder::{BigEndian, ByteOrder};

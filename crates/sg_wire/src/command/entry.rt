@@ -1,20 +1,21 @@
 // The table's commands in its order, one entry for each operation code and service action.
-ghost use Rattle.std.specs.Prelude.{◌≡◌, length};
+ghost use Rattle.std.specs.Prelude.{◌≡◌, length, true};
 ghost use Rattle.sg_wire.specs.Profile.{is_in};
 ghost use Rattle.sg_wire.specs.SupportedOperations.{has_action_if, is_requested};
 ghost use Rattle.sg_wire.specs.Table.{AreEntries, Describes, IsRow, action_option, entry_layout};
-ghost use Rattle.sg_wire.specs.Table.{is_row};
+ghost use Rattle.sg_wire.specs.Table.{is_row, names_block_command};
 
-use super::table::{
-    GET_LBA_STATUS, INQUIRY, LOG_SENSE, MODE_SELECT_6, MODE_SELECT_10, MODE_SENSE_6, MODE_SENSE_10,
-    Name, PERSISTENT_RESERVE_IN, PERSISTENT_RESERVE_OUT, PRE_FETCH_10, PRE_FETCH_16, READ_6,
-    READ_10, READ_12, READ_16, READ_CAPACITY_10, READ_CAPACITY_16, READ_DEFECT_DATA_10,
-    READ_DEFECT_DATA_12, REPORT_LUNS, REPORT_SUPPORTED_OPERATION_CODES,
-    REPORT_SUPPORTED_TASK_MANAGEMENT_FUNCTIONS, REQUEST_SENSE, Row, SEND_DIAGNOSTIC,
-    SYNCHRONIZE_CACHE_10, SYNCHRONIZE_CACHE_16, TEST_UNIT_READY, UNMAP, WRITE_6, WRITE_10,
-    WRITE_12, WRITE_16, WRITE_AND_VERIFY_10, WRITE_AND_VERIFY_12, WRITE_AND_VERIFY_16,
-    WRITE_LONG_10, WRITE_SAME_10, WRITE_SAME_16,
+use super::rows::{
+    COMPARE_AND_WRITE, GET_LBA_STATUS, INQUIRY, LOG_SENSE, MODE_SELECT_6, MODE_SELECT_10,
+    MODE_SENSE_6, MODE_SENSE_10, PERSISTENT_RESERVE_IN, PERSISTENT_RESERVE_OUT, PRE_FETCH_10,
+    PRE_FETCH_16, READ_6, READ_10, READ_12, READ_16, READ_CAPACITY_10, READ_CAPACITY_16,
+    READ_DEFECT_DATA_10, READ_DEFECT_DATA_12, REPORT_LUNS, REPORT_SUPPORTED_OPERATION_CODES,
+    REPORT_SUPPORTED_TASK_MANAGEMENT_FUNCTIONS, REQUEST_SENSE, SEND_DIAGNOSTIC,
+    SYNCHRONIZE_CACHE_10, SYNCHRONIZE_CACHE_16, TEST_UNIT_READY, UNMAP, VERIFY_10, VERIFY_12,
+    VERIFY_16, WRITE_6, WRITE_10, WRITE_12, WRITE_16, WRITE_AND_VERIFY_10, WRITE_AND_VERIFY_12,
+    WRITE_AND_VERIFY_16, WRITE_LONG_10, WRITE_SAME_10, WRITE_SAME_16,
 };
+use super::table::{Name, Row};
 use super::{InAction, OutAction};
 use crate::profile::Profile;
 
@@ -28,7 +29,7 @@ pub(super) enum Entry {
 }
 
 /// All commands, in the table's order.
-static ENTRIES: [Entry; 47] = [
+static ENTRIES: [Entry; 51] = [
     Entry::Named(Name::TestUnitReady),
     Entry::Named(Name::RequestSense),
     Entry::Named(Name::Inquiry),
@@ -41,6 +42,7 @@ static ENTRIES: [Entry; 47] = [
     Entry::Named(Name::ReportSupportedOperationCodes),
     Entry::Named(Name::ReportSupportedTaskManagementFunctions),
     Entry::Named(Name::SendDiagnostic),
+    Entry::Named(Name::CompareAndWrite),
     Entry::Named(Name::PreFetch10),
     Entry::Named(Name::PreFetch16),
     Entry::Named(Name::Read6),
@@ -57,6 +59,9 @@ static ENTRIES: [Entry; 47] = [
     Entry::Named(Name::ReadDefectData12),
     Entry::Named(Name::SynchronizeCache10),
     Entry::Named(Name::SynchronizeCache16),
+    Entry::Named(Name::Verify10),
+    Entry::Named(Name::Verify12),
+    Entry::Named(Name::Verify16),
     Entry::Named(Name::WriteAndVerify10),
     Entry::Named(Name::WriteAndVerify12),
     Entry::Named(Name::WriteAndVerify16),
@@ -83,7 +88,7 @@ impl Entry {
     #[tactic(auto, unfolding(crate::specs::Table::AreEntries, crate::specs::Table::layouts_of))]
     pub(super) fn each() -> &'static [Entry]
         ensures entries { AreEntries result.now }
-        ensures count { length result.now ≡ 47 }
+        ensures count { length result.now ≡ 51 }
     {
         &ENTRIES
     }
@@ -160,6 +165,18 @@ fn row_named(name: Name) -> &'static Row
         Name::ReportSupportedOperationCodes => &REPORT_SUPPORTED_OPERATION_CODES,
         Name::ReportSupportedTaskManagementFunctions => &REPORT_SUPPORTED_TASK_MANAGEMENT_FUNCTIONS,
         Name::SendDiagnostic => &SEND_DIAGNOSTIC,
+        _ => block_row_named(name),
+    }
+}
+
+/// The row of the name of a block command.
+fn block_row_named(name: Name) -> &'static Row
+    requires { names_block_command name ≡ true }
+    ensures row { IsRow result.now }
+    ensures name { result.now.name ≡ name }
+{
+    match name {
+        Name::CompareAndWrite => &COMPARE_AND_WRITE,
         Name::PreFetch10 => &PRE_FETCH_10,
         Name::PreFetch16 => &PRE_FETCH_16,
         Name::Read6 => &READ_6,
@@ -176,6 +193,9 @@ fn row_named(name: Name) -> &'static Row
         Name::ReadDefectData12 => &READ_DEFECT_DATA_12,
         Name::SynchronizeCache10 => &SYNCHRONIZE_CACHE_10,
         Name::SynchronizeCache16 => &SYNCHRONIZE_CACHE_16,
+        Name::Verify10 => &VERIFY_10,
+        Name::Verify12 => &VERIFY_12,
+        Name::Verify16 => &VERIFY_16,
         Name::WriteAndVerify10 => &WRITE_AND_VERIFY_10,
         Name::WriteAndVerify12 => &WRITE_AND_VERIFY_12,
         Name::WriteAndVerify16 => &WRITE_AND_VERIFY_16,
@@ -184,5 +204,6 @@ fn row_named(name: Name) -> &'static Row
         Name::WriteSame16 => &WRITE_SAME_16,
         Name::Unmap => &UNMAP,
         Name::GetLbaStatus => &GET_LBA_STATUS,
+        _ => unreachable!(),
     }
 }

@@ -10,7 +10,8 @@ ghost use Rattle.sg_wire.specs.Table.{command_by, layout_of};
 ghost use Rattle.sg_wire.specs.declared.command.table.Name.{Name};
 
 use super::masks::two_bits;
-use super::table::{MODE_SELECT_6, MODE_SELECT_10, MODE_SENSE_6, MODE_SENSE_10, check_row};
+use super::rows::{MODE_SELECT_6, MODE_SELECT_10, MODE_SENSE_6, MODE_SENSE_10};
+use super::table::check_row;
 use super::{CdbFault, Command, PageCode, PageControl};
 use crate::bytes::CdbBytes;
 use byteorder::{BigEndian, ByteOrder};

@@ -23,6 +23,8 @@ pub(super) const WRITE_10: u8 = 0x2A;
 
 pub(super) const WRITE_AND_VERIFY_10: u8 = 0x2E;
 
+pub(super) const VERIFY_10: u8 = 0x2F;
+
 pub(super) const PRE_FETCH_10: u8 = 0x34;
 
 pub(super) const SYNCHRONIZE_CACHE_10: u8 = 0x35;
@@ -47,9 +49,13 @@ pub(super) const PERSISTENT_RESERVE_OUT: u8 = 0x5F;
 
 pub(super) const READ_16: u8 = 0x88;
 
+pub(super) const COMPARE_AND_WRITE: u8 = 0x89;
+
 pub(super) const WRITE_16: u8 = 0x8A;
 
 pub(super) const WRITE_AND_VERIFY_16: u8 = 0x8E;
+
+pub(super) const VERIFY_16: u8 = 0x8F;
 
 pub(super) const PRE_FETCH_16: u8 = 0x90;
 
@@ -68,5 +74,7 @@ pub(super) const READ_12: u8 = 0xA8;
 pub(super) const WRITE_12: u8 = 0xAA;
 
 pub(super) const WRITE_AND_VERIFY_12: u8 = 0xAE;
+
+pub(super) const VERIFY_12: u8 = 0xAF;
 
 pub(super) const READ_DEFECT_DATA_12: u8 = 0xB7;

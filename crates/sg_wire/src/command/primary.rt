@@ -5,7 +5,7 @@ ghost use Rattle.sg_wire.specs.FieldRoom.{fits_cdb};
 ghost use Rattle.sg_wire.specs.Table.{command_by, layout_of};
 ghost use Rattle.sg_wire.specs.declared.command.table.Name.{Name};
 
-use super::{CdbFault, Command, table};
+use super::{CdbFault, Command, rows, table};
 use crate::bytes::CdbBytes;
 use byteorder::{BigEndian, ByteOrder};
 
@@ -34,14 +34,14 @@ pub struct Inquiry {
 pub(super) fn decode_test_unit_ready(cdb: &[u8]) -> Result<Command, CdbFault>
     ensures { result ≡ command_by (layout_of Name.TestUnitReady) cdb.now }
 {
-    table::check_row(&table::TEST_UNIT_READY, cdb)?;
+    table::check_row(&rows::TEST_UNIT_READY, cdb)?;
     Ok(Command::TestUnitReady)
 }
 
 pub(super) fn decode_request_sense(cdb: &[u8]) -> Result<Command, CdbFault>
     ensures { result ≡ command_by (layout_of Name.RequestSense) cdb.now }
 {
-    table::check_row(&table::REQUEST_SENSE, cdb)?;
+    table::check_row(&rows::REQUEST_SENSE, cdb)?;
     Ok(Command::RequestSense(RequestSense {
         desc: cdb[1] & 0x01 != 0,
         allocation_length: cdb[4],
@@ -51,7 +51,7 @@ pub(super) fn decode_request_sense(cdb: &[u8]) -> Result<Command, CdbFault>
 pub(super) fn decode_inquiry(cdb: &[u8]) -> Result<Command, CdbFault>
     ensures { result ≡ command_by (layout_of Name.Inquiry) cdb.now }
 {
-    table::check_row(&table::INQUIRY, cdb)?;
+    table::check_row(&rows::INQUIRY, cdb)?;
     Ok(Command::Inquiry(Inquiry {
         evpd: cdb[1] & 0x01 != 0,
         page_code: cdb[2],
@@ -65,7 +65,7 @@ pub(super) fn decode_inquiry(cdb: &[u8]) -> Result<Command, CdbFault>
 pub(super) fn encode_test_unit_ready() -> CdbBytes
     ensures { result ≡ cdb_of Command.TestUnitReady }
 {
-    let mut cdb = table::TEST_UNIT_READY.begin();
+    let mut cdb = rows::TEST_UNIT_READY.begin();
     CdbBytes::new(cdb, 6)
 }
 
@@ -75,7 +75,7 @@ impl RequestSense {
         ensures cdb { result ≡ cdb_of (Command.RequestSense self) }
         ensures fits { fits_cdb (Command.RequestSense self) ≡ true }
     {
-        let mut cdb = table::REQUEST_SENSE.begin();
+        let mut cdb = rows::REQUEST_SENSE.begin();
         cdb[1] = u8::from(self.desc);
         cdb[4] = self.allocation_length;
         CdbBytes::new(cdb, 6)
@@ -88,7 +88,7 @@ impl Inquiry {
         ensures cdb { result ≡ cdb_of (Command.Inquiry self) }
         ensures fits { fits_cdb (Command.Inquiry self) ≡ true }
     {
-        let mut cdb = table::INQUIRY.begin();
+        let mut cdb = rows::INQUIRY.begin();
         cdb[1] = u8::from(self.evpd);
         cdb[2] = self.page_code;
         BigEndian::write_u16(&mut cdb[3..], self.allocation_length);

@@ -7,7 +7,7 @@ ghost use Rattle.sg_wire.specs.declared.command.table.Name.{Name};
 
 use super::block::{decode_extent_10, decode_extent_16};
 use super::masks::two_bits;
-use super::{CdbFault, Command, GroupNumber, table};
+use super::{CdbFault, Command, GroupNumber, rows, table};
 use crate::bytes::{CdbBytes, MAX_CDB_LENGTH};
 use byteorder::{BigEndian, ByteOrder};
 
@@ -69,7 +69,7 @@ pub struct GetLbaStatus {
 pub(super) fn decode_write_same_10(cdb: &[u8]) -> Result<Command, CdbFault>
     ensures { result ≡ command_by (layout_of Name.WriteSame10) cdb.now }
 {
-    let extent = decode_extent_10(&table::WRITE_SAME_10, cdb)?;
+    let extent = decode_extent_10(&rows::WRITE_SAME_10, cdb)?;
     Ok(Command::WriteSame10(WriteSame10 {
         lba: extent.lba,
         count: extent.count,
@@ -81,7 +81,7 @@ pub(super) fn decode_write_same_10(cdb: &[u8]) -> Result<Command, CdbFault>
 pub(super) fn decode_write_same_16(cdb: &[u8]) -> Result<Command, CdbFault>
     ensures { result ≡ command_by (layout_of Name.WriteSame16) cdb.now }
 {
-    let extent = decode_extent_16(&table::WRITE_SAME_16, cdb)?;
+    let extent = decode_extent_16(&rows::WRITE_SAME_16, cdb)?;
     Ok(Command::WriteSame16(WriteSame16 {
         lba: extent.lba,
         count: extent.count,
@@ -93,7 +93,7 @@ pub(super) fn decode_write_same_16(cdb: &[u8]) -> Result<Command, CdbFault>
 pub(super) fn decode_unmap(cdb: &[u8]) -> Result<Command, CdbFault>
     ensures { result ≡ command_by (layout_of Name.Unmap) cdb.now }
 {
-    table::check_row(&table::UNMAP, cdb)?;
+    table::check_row(&rows::UNMAP, cdb)?;
     Ok(Command::Unmap(Unmap {
         anchor: cdb[1] & UNMAP_ANCHOR != 0,
         group: GroupNumber::of_byte(cdb[6]),
@@ -105,7 +105,7 @@ pub(super) fn decode_get_lba_status(cdb: &[u8]) -> Result<Command, CdbFault>
     ensures { result ≡ command_by (layout_of Name.GetLbaStatus) cdb.now }
 {
     // The numbers lie in the places of an extent's numbers.
-    let numbers = decode_extent_16(&table::GET_LBA_STATUS, cdb)?;
+    let numbers = decode_extent_16(&rows::GET_LBA_STATUS, cdb)?;
     Ok(Command::GetLbaStatus(GetLbaStatus {
         start: numbers.lba,
         allocation_length: numbers.count,
@@ -120,7 +120,7 @@ impl WriteSame10 {
         ensures cdb { result ≡ cdb_of (Command.WriteSame10 self) }
         ensures fits { fits_cdb (Command.WriteSame10 self) ≡ true }
     {
-        let mut cdb = table::WRITE_SAME_10.begin();
+        let mut cdb = rows::WRITE_SAME_10.begin();
         cdb[1] = two_bits(self.anchor, WRITE_SAME_ANCHOR, self.unmap, WRITE_SAME_UNMAP);
         BigEndian::write_u32(&mut cdb[2..], self.lba);
         BigEndian::write_u16(&mut cdb[7..], self.count);
@@ -134,7 +134,7 @@ impl WriteSame16 {
         ensures cdb { result ≡ cdb_of (Command.WriteSame16 self) }
         ensures fits { fits_cdb (Command.WriteSame16 self) ≡ true }
     {
-        let mut cdb = table::WRITE_SAME_16.begin();
+        let mut cdb = rows::WRITE_SAME_16.begin();
         cdb[1] = two_bits(self.anchor, WRITE_SAME_ANCHOR, self.unmap, WRITE_SAME_UNMAP);
         BigEndian::write_u64(&mut cdb[2..], self.lba);
         BigEndian::write_u32(&mut cdb[10..], self.count);
@@ -148,7 +148,7 @@ impl Unmap {
         ensures cdb { result ≡ cdb_of (Command.Unmap self) }
         ensures fits { fits_cdb (Command.Unmap self) ≡ true }
     {
-        let mut cdb = table::UNMAP.begin();
+        let mut cdb = rows::UNMAP.begin();
         cdb[1] = if self.anchor { UNMAP_ANCHOR } else { 0 };
         cdb[6] = self.group.number();
         BigEndian::write_u16(&mut cdb[7..], self.list_length);
@@ -162,7 +162,7 @@ impl GetLbaStatus {
         ensures cdb { result ≡ cdb_of (Command.GetLbaStatus self) }
         ensures fits { fits_cdb (Command.GetLbaStatus self) ≡ true }
     {
-        let mut cdb = table::GET_LBA_STATUS.begin();
+        let mut cdb = rows::GET_LBA_STATUS.begin();
         BigEndian::write_u64(&mut cdb[2..], self.start);
         BigEndian::write_u32(&mut cdb[10..], self.allocation_length);
         CdbBytes::new(cdb, MAX_CDB_LENGTH)

@@ -6,10 +6,10 @@ ghost use Rattle.sg_wire.specs.FieldRoom.{fits_cdb};
 ghost use Rattle.sg_wire.specs.Table.{command_by, layout_of};
 ghost use Rattle.sg_wire.specs.declared.command.table.Name.{Name};
 
-use super::table::{
+use super::rows::{
     REPORT_LUNS, REPORT_SUPPORTED_OPERATION_CODES, REPORT_SUPPORTED_TASK_MANAGEMENT_FUNCTIONS,
-    check_row,
 };
+use super::table::check_row;
 use super::{CdbFault, Command, ThreeBits};
 use crate::bytes::CdbBytes;
 use byteorder::{BigEndian, ByteOrder};

@@ -5,7 +5,8 @@ ghost use Rattle.sg_wire.specs.FieldRoom.{fits_cdb};
 ghost use Rattle.sg_wire.specs.Table.{command_with};
 
 use super::masks::{check_length, check_masks};
-use super::table::{PERSISTENT_RESERVE_IN, PERSISTENT_RESERVE_OUT, service_action};
+use super::rows::{PERSISTENT_RESERVE_IN, PERSISTENT_RESERVE_OUT};
+use super::table::service_action;
 use super::{CdbFault, Command, InAction, OutAction};
 use crate::bytes::CdbBytes;
 use byteorder::{BigEndian, ByteOrder};

@@ -1,12 +1,20 @@
-// One row a command: profile, operation code, service action, class, unit attention and masks are
-// here and at no other place in code. The families say what the fields mean. `specs/Layout.antt` has
-// the definition's rows.
+// The table of commands, and how a CDB's row is found in it. The rows are in `rows`.
 ghost use Rattle.std.specs.Prelude.{ℕ, ◌≡◌, ◌≤◌, ◌∷◌, length, replicate, slice_index, IfErr, OnOk};
 ghost use Rattle.std.specs.Option.{option_map_or};
 ghost use Rattle.sg_wire.specs.CdbDecoding.{service_action};
 ghost use Rattle.sg_wire.specs.Table.{IsDecoded, IsFound, IsRefused, IsRow};
 
 use super::masks::check_masks;
+use super::rows::{
+    COMPARE_AND_WRITE, GET_LBA_STATUS, INQUIRY, LOG_SENSE, MODE_SELECT_6, MODE_SELECT_10,
+    MODE_SENSE_6, MODE_SENSE_10, PERSISTENT_RESERVE_IN, PERSISTENT_RESERVE_OUT, PRE_FETCH_10,
+    PRE_FETCH_16, READ_6, READ_10, READ_12, READ_16, READ_CAPACITY_10, READ_CAPACITY_16,
+    READ_DEFECT_DATA_10, READ_DEFECT_DATA_12, REPORT_LUNS, REPORT_SUPPORTED_OPERATION_CODES,
+    REPORT_SUPPORTED_TASK_MANAGEMENT_FUNCTIONS, REQUEST_SENSE, SEND_DIAGNOSTIC,
+    SYNCHRONIZE_CACHE_10, SYNCHRONIZE_CACHE_16, TEST_UNIT_READY, UNMAP, VERIFY_10, VERIFY_12,
+    VERIFY_16, WRITE_6, WRITE_10, WRITE_12, WRITE_16, WRITE_AND_VERIFY_10, WRITE_AND_VERIFY_12,
+    WRITE_AND_VERIFY_16, WRITE_LONG_10, WRITE_SAME_10, WRITE_SAME_16,
+};
 use super::{CdbFault, Class, opcode};
 use crate::bytes::MAX_CDB_LENGTH;
 use crate::profile::Profile;
@@ -28,6 +36,7 @@ pub(super) enum Name {
     ReportSupportedOperationCodes,
     ReportSupportedTaskManagementFunctions,
     SendDiagnostic,
+    CompareAndWrite,
     PreFetch10,
     PreFetch16,
     Read6,
@@ -44,6 +53,9 @@ pub(super) enum Name {
     ReadDefectData12,
     SynchronizeCache10,
     SynchronizeCache16,
+    Verify10,
+    Verify12,
+    Verify16,
     WriteAndVerify10,
     WriteAndVerify12,
     WriteAndVerify16,
@@ -87,255 +99,6 @@ impl Row {
         cdb
     }
 }
-
-// INQUIRY, REPORT LUNS and REQUEST SENSE are executed in spite of a pending unit attention (SPC-4,
-// 6.6.1, 6.33 and 6.39).
-const BLOCKED: bool = true;
-
-const UNBLOCKED: bool = false;
-
-// A row in the table's order: name, profile, operation code, service action, class, unit attention,
-// masks, and the bits that mean something, unless these are all bits of the masks.
-macro_rules! row {
-    (
-        $name:ident, $profile:ident, $opcode:expr, $action:expr, $class:ident, $is_blocked:ident,
-        $masks:expr
-    ) => {
-        row! { $name, $profile, $opcode, $action, $class, $is_blocked, $masks, $masks }
-    };
-    (
-        $name:ident, $profile:ident, $opcode:expr, $action:expr, $class:ident, $is_blocked:ident,
-        $masks:expr, $usage:expr
-    ) => {
-        Row {
-            name: Name::$name,
-            profile: Profile::$profile,
-            opcode: $opcode,
-            service_action: $action,
-            class: Class::$class,
-            is_blocked: $is_blocked,
-            masks: &$masks,
-            usage: &$usage,
-        }
-    };
-}
-
-// The bits of a CDB that names a range of blocks: those of byte 1, all bits of the address and of the
-// number after it, and the bits of GROUP NUMBER.
-macro_rules! range_10 {
-    ($byte_1:expr, $group:expr) => {
-        [0xFF, $byte_1, 0xFF, 0xFF, 0xFF, 0xFF, $group, 0xFF, 0xFF, 0x00]
-    };
-}
-
-macro_rules! range_12 {
-    ($byte_1:expr, $group:expr) => {
-        [0xFF, $byte_1, 0xFF, 0xFF, 0xFF, 0xFF, 0xFF, 0xFF, 0xFF, 0xFF, $group, 0x00]
-    };
-}
-
-macro_rules! range_16 {
-    ($byte_1:expr, $group:expr) => {
-        [
-            0xFF, $byte_1, 0xFF, 0xFF, 0xFF, 0xFF, 0xFF, 0xFF, 0xFF, 0xFF, 0xFF, 0xFF, 0xFF, 0xFF,
-            $group, 0x00,
-        ]
-    };
-}
-
-// The commands of SPC-4, 6, and then the commands of SBC-3, 5 (READ(6) and WRITE(6) of SBC-2).
-pub(super) static TEST_UNIT_READY: Row = row! {
-    TestUnitReady, Base, opcode::TEST_UNIT_READY, None, Always, BLOCKED,
-    [0xFF, 0x00, 0x00, 0x00, 0x00, 0x00]
-};
-
-pub(super) static REQUEST_SENSE: Row = row! {
-    RequestSense, Base, opcode::REQUEST_SENSE, None, Always, UNBLOCKED,
-    [0xFF, 0x01, 0x00, 0x00, 0xFF, 0x00]
-};
-
-pub(super) static INQUIRY: Row = row! {
-    Inquiry, Base, opcode::INQUIRY, None, Always, UNBLOCKED,
-    [0xFF, 0x01, 0xFF, 0xFF, 0xFF, 0x00]
-};
-
-pub(super) static MODE_SELECT_6: Row = row! {
-    ModeSelect6, Base, opcode::MODE_SELECT_6, None, Writes, BLOCKED,
-    [0xFF, 0x11, 0x00, 0x00, 0xFF, 0x00]
-};
-
-pub(super) static MODE_SELECT_10: Row = row! {
-    ModeSelect10, Base, opcode::MODE_SELECT_10, None, Writes, BLOCKED,
-    [0xFF, 0x11, 0x00, 0x00, 0x00, 0x00, 0x00, 0xFF, 0xFF, 0x00]
-};
-
-pub(super) static MODE_SENSE_6: Row = row! {
-    ModeSense6, Base, opcode::MODE_SENSE_6, None, Reads, BLOCKED,
-    [0xFF, 0x08, 0xFF, 0xFF, 0xFF, 0x00]
-};
-
-pub(super) static MODE_SENSE_10: Row = row! {
-    ModeSense10, Base, opcode::MODE_SENSE_10, None, Reads, BLOCKED,
-    [0xFF, 0x18, 0xFF, 0xFF, 0x00, 0x00, 0x00, 0xFF, 0xFF, 0x00]
-};
-
-pub(super) static PERSISTENT_RESERVE_IN: Row = row! {
-    PersistentReserveIn, Base, opcode::PERSISTENT_RESERVE_IN, Some(0x00), Always, BLOCKED,
-    [0xFF, 0x1F, 0x00, 0x00, 0x00, 0x00, 0x00, 0xFF, 0xFF, 0x00]
-};
-
-pub(super) static PERSISTENT_RESERVE_OUT: Row = row! {
-    PersistentReserveOut, Base, opcode::PERSISTENT_RESERVE_OUT, Some(0x00), Always, BLOCKED,
-    [0xFF, 0x1F, 0xFF, 0x00, 0x00, 0xFF, 0xFF, 0xFF, 0xFF, 0x00]
-};
-
-pub(super) static LOG_SENSE: Row = row! {
-    LogSense, Extended, opcode::LOG_SENSE, None, Always, BLOCKED,
-    [0xFF, 0x00, 0xFF, 0xFF, 0x00, 0xFF, 0xFF, 0xFF, 0xFF, 0x00],
-    [0xFF, 0x00, 0xFF, 0xFF, 0x00, 0x00, 0x00, 0xFF, 0xFF, 0x00]
-};
-
-pub(super) static REPORT_LUNS: Row = row! {
-    ReportLuns, Extended, opcode::REPORT_LUNS, None, Always, UNBLOCKED,
-    [0xFF, 0x00, 0xFF, 0x00, 0x00, 0x00, 0xFF, 0xFF, 0xFF, 0xFF, 0x00, 0x00]
-};
-
-pub(super) static REPORT_SUPPORTED_OPERATION_CODES: Row = row! {
-    ReportSupportedOperationCodes, Extended, opcode::MAINTENANCE_IN, Some(0x0C), Reads, BLOCKED,
-    [0xFF, 0x1F, 0x87, 0xFF, 0xFF, 0xFF, 0xFF, 0xFF, 0xFF, 0xFF, 0x00, 0x00]
-};
-
-pub(super) static REPORT_SUPPORTED_TASK_MANAGEMENT_FUNCTIONS: Row = row! {
-    ReportSupportedTaskManagementFunctions, Extended, opcode::MAINTENANCE_IN, Some(0x0D), Reads,
-    BLOCKED,
-    [0xFF, 0x1F, 0x80, 0x00, 0x00, 0x00, 0xFF, 0xFF, 0xFF, 0xFF, 0x00, 0x00]
-};
-
-pub(super) static SEND_DIAGNOSTIC: Row = row! {
-    SendDiagnostic, Extended, opcode::SEND_DIAGNOSTIC, None, Writes, BLOCKED,
-    [0xFF, 0xF7, 0x00, 0xFF, 0xFF, 0x00],
-    [0xFF, 0xE4, 0x00, 0xFF, 0xFF, 0x00]
-};
-
-pub(super) static PRE_FETCH_10: Row = row! {
-    PreFetch10, Extended, opcode::PRE_FETCH_10, None, Reads, BLOCKED,
-    range_10!(0x02, 0x1F), range_10!(0x02, 0x00)
-};
-
-pub(super) static PRE_FETCH_16: Row = row! {
-    PreFetch16, Extended, opcode::PRE_FETCH_16, None, Reads, BLOCKED,
-    range_16!(0x02, 0x1F), range_16!(0x02, 0x00)
-};
-
-// READ and WRITE look at DPO and FUA, though the disk has no cache. The obsolete bit 1 of byte 1 means
-// nothing, and neither does GROUP NUMBER.
-pub(super) static READ_6: Row = row! {
-    Read6, Base, opcode::READ_6, None, Reads, BLOCKED, [0xFF, 0x1F, 0xFF, 0xFF, 0xFF, 0x00]
-};
-
-pub(super) static READ_10: Row = row! {
-    Read10, Base, opcode::READ_10, None, Reads, BLOCKED,
-    range_10!(0x1A, 0x1F), range_10!(0x18, 0x00)
-};
-
-pub(super) static READ_12: Row = row! {
-    Read12, Extended, opcode::READ_12, None, Reads, BLOCKED,
-    range_12!(0x1A, 0x1F), range_12!(0x18, 0x00)
-};
-
-pub(super) static READ_16: Row = row! {
-    Read16, Base, opcode::READ_16, None, Reads, BLOCKED,
-    range_16!(0x1A, 0x1F), range_16!(0x18, 0x00)
-};
-
-pub(super) static WRITE_6: Row = row! {
-    Write6, Base, opcode::WRITE_6, None, Writes, BLOCKED, [0xFF, 0x1F, 0xFF, 0xFF, 0xFF, 0x00]
-};
-
-pub(super) static WRITE_10: Row = row! {
-    Write10, Base, opcode::WRITE_10, None, Writes, BLOCKED,
-    range_10!(0x1A, 0x1F), range_10!(0x18, 0x00)
-};
-
-pub(super) static WRITE_12: Row = row! {
-    Write12, Extended, opcode::WRITE_12, None, Writes, BLOCKED,
-    range_12!(0x1A, 0x1F), range_12!(0x18, 0x00)
-};
-
-pub(super) static WRITE_16: Row = row! {
-    Write16, Base, opcode::WRITE_16, None, Writes, BLOCKED,
-    range_16!(0x1A, 0x1F), range_16!(0x18, 0x00)
-};
-
-pub(super) static READ_CAPACITY_10: Row = row! {
-    ReadCapacity10, Base, opcode::READ_CAPACITY_10, None, Always, BLOCKED,
-    [0xFF, 0x00, 0x00, 0x00, 0x00, 0x00, 0x00, 0x00, 0x00, 0x00]
-};
-
-pub(super) static READ_CAPACITY_16: Row = row! {
-    ReadCapacity16, Base, opcode::SERVICE_ACTION_IN_16, Some(0x10), Always, BLOCKED,
-    [0xFF, 0x1F, 0x00, 0x00, 0x00, 0x00, 0x00, 0x00, 0x00, 0x00, 0xFF, 0xFF, 0xFF, 0xFF, 0x00, 0x00]
-};
-
-pub(super) static READ_DEFECT_DATA_10: Row = row! {
-    ReadDefectData10, Extended, opcode::READ_DEFECT_DATA_10, None, Reads, BLOCKED,
-    [0xFF, 0x00, 0x1F, 0x00, 0x00, 0x00, 0x00, 0xFF, 0xFF, 0x00]
-};
-
-pub(super) static READ_DEFECT_DATA_12: Row = row! {
-    ReadDefectData12, Extended, opcode::READ_DEFECT_DATA_12, None, Reads, BLOCKED,
-    range_12!(0x1F, 0x00)
-};
-
-pub(super) static SYNCHRONIZE_CACHE_10: Row = row! {
-    SynchronizeCache10, Base, opcode::SYNCHRONIZE_CACHE_10, None, Writes, BLOCKED,
-    range_10!(0x06, 0x1F), range_10!(0x02, 0x00)
-};
-
-pub(super) static SYNCHRONIZE_CACHE_16: Row = row! {
-    SynchronizeCache16, Extended, opcode::SYNCHRONIZE_CACHE_16, None, Writes, BLOCKED,
-    range_16!(0x06, 0x1F), range_16!(0x02, 0x00)
-};
-
-pub(super) static WRITE_AND_VERIFY_10: Row = row! {
-    WriteAndVerify10, Extended, opcode::WRITE_AND_VERIFY_10, None, Writes, BLOCKED,
-    range_10!(0x16, 0x1F), range_10!(0x16, 0x00)
-};
-
-pub(super) static WRITE_AND_VERIFY_12: Row = row! {
-    WriteAndVerify12, Extended, opcode::WRITE_AND_VERIFY_12, None, Writes, BLOCKED,
-    range_12!(0x16, 0x1F), range_12!(0x16, 0x00)
-};
-
-pub(super) static WRITE_AND_VERIFY_16: Row = row! {
-    WriteAndVerify16, Extended, opcode::WRITE_AND_VERIFY_16, None, Writes, BLOCKED,
-    range_16!(0x16, 0x1F), range_16!(0x16, 0x00)
-};
-
-pub(super) static WRITE_LONG_10: Row = row! {
-    WriteLong10, Extended, opcode::WRITE_LONG_10, None, Writes, BLOCKED, range_10!(0xC0, 0x00)
-};
-
-pub(super) static WRITE_SAME_10: Row = row! {
-    WriteSame10, Base, opcode::WRITE_SAME_10, None, Writes, BLOCKED,
-    range_10!(0x18, 0x1F), range_10!(0x18, 0x00)
-};
-
-pub(super) static WRITE_SAME_16: Row = row! {
-    WriteSame16, Base, opcode::WRITE_SAME_16, None, Writes, BLOCKED,
-    range_16!(0x18, 0x1F), range_16!(0x18, 0x00)
-};
-
-pub(super) static UNMAP: Row = row! {
-    Unmap, Base, opcode::UNMAP, None, Writes, BLOCKED,
-    [0xFF, 0x01, 0x00, 0x00, 0x00, 0x00, 0x1F, 0xFF, 0xFF, 0x00],
-    [0xFF, 0x01, 0x00, 0x00, 0x00, 0x00, 0x00, 0xFF, 0xFF, 0x00]
-};
-
-pub(super) static GET_LBA_STATUS: Row = row! {
-    GetLbaStatus, Base, opcode::SERVICE_ACTION_IN_16, Some(0x12), Reads, BLOCKED,
-    range_16!(0x1F, 0x00)
-};
 
 /// The table's result for a CDB.
 pub(super) enum Found {
@@ -384,7 +147,8 @@ fn row_of(cdb: &[u8]) -> Found
     }
 }
 
-/// The row of a CDB by its operation code, in any profile.
+/// The row of a CDB by its operation code, in any profile. The first three bits of the code are its
+/// group, which tells the length of the CDB (SPC-4, 4.2.5.1).
 #[inline(always)]
 fn row_with_code(code: u8, cdb: &[u8]) -> Found
     requires byte { 1 ≤ length cdb.now }
@@ -392,41 +156,101 @@ fn row_with_code(code: u8, cdb: &[u8]) -> Found
     ensures { IsFound Profile.Extended cdb.now result }
 {
     match code {
+        0x00..=0x1F => row_of_6(code, cdb),
+        0x20..=0x5F => row_of_10(code, cdb),
+        0x80..=0x9F => row_of_16(code, cdb),
+        0xA0..=0xBF => row_of_12(code, cdb),
+        _ => Found::NoOpcode,
+    }
+}
+
+/// The row of a CDB of 6 bytes by its operation code, in any profile.
+#[inline(always)]
+fn row_of_6(code: u8, _cdb: &[u8]) -> Found
+    requires group { (0x00 ≤ code) × (code ≤ 0x1F) }
+    requires byte { 1 ≤ length _cdb.now }
+    requires code { slice_index _cdb.now 0 ≡ code }
+    ensures { IsFound Profile.Extended _cdb.now result }
+{
+    match code {
         opcode::TEST_UNIT_READY => Found::Row(&TEST_UNIT_READY),
         opcode::REQUEST_SENSE => Found::Row(&REQUEST_SENSE),
+        opcode::READ_6 => Found::Row(&READ_6),
+        opcode::WRITE_6 => Found::Row(&WRITE_6),
         opcode::INQUIRY => Found::Row(&INQUIRY),
         opcode::MODE_SELECT_6 => Found::Row(&MODE_SELECT_6),
-        opcode::MODE_SELECT_10 => Found::Row(&MODE_SELECT_10),
         opcode::MODE_SENSE_6 => Found::Row(&MODE_SENSE_6),
-        opcode::MODE_SENSE_10 => Found::Row(&MODE_SENSE_10),
-        opcode::LOG_SENSE => Found::Row(&LOG_SENSE),
-        opcode::PERSISTENT_RESERVE_IN => Found::Row(&PERSISTENT_RESERVE_IN),
-        opcode::PERSISTENT_RESERVE_OUT => Found::Row(&PERSISTENT_RESERVE_OUT),
-        opcode::REPORT_LUNS => Found::Row(&REPORT_LUNS),
-        opcode::MAINTENANCE_IN => with_maintenance_in(cdb),
         opcode::SEND_DIAGNOSTIC => Found::Row(&SEND_DIAGNOSTIC),
-        opcode::PRE_FETCH_10 => Found::Row(&PRE_FETCH_10),
-        opcode::PRE_FETCH_16 => Found::Row(&PRE_FETCH_16),
-        opcode::READ_6 => Found::Row(&READ_6),
-        opcode::READ_10 => Found::Row(&READ_10),
-        opcode::READ_12 => Found::Row(&READ_12),
-        opcode::READ_16 => Found::Row(&READ_16),
-        opcode::WRITE_6 => Found::Row(&WRITE_6),
-        opcode::WRITE_10 => Found::Row(&WRITE_10),
-        opcode::WRITE_12 => Found::Row(&WRITE_12),
-        opcode::WRITE_16 => Found::Row(&WRITE_16),
+        _ => Found::NoOpcode,
+    }
+}
+
+/// The row of a CDB of 10 bytes by its operation code, in any profile.
+#[inline(always)]
+fn row_of_10(code: u8, _cdb: &[u8]) -> Found
+    requires group { (0x20 ≤ code) × (code ≤ 0x5F) }
+    requires byte { 1 ≤ length _cdb.now }
+    requires code { slice_index _cdb.now 0 ≡ code }
+    ensures { IsFound Profile.Extended _cdb.now result }
+{
+    match code {
         opcode::READ_CAPACITY_10 => Found::Row(&READ_CAPACITY_10),
-        opcode::READ_DEFECT_DATA_10 => Found::Row(&READ_DEFECT_DATA_10),
-        opcode::READ_DEFECT_DATA_12 => Found::Row(&READ_DEFECT_DATA_12),
-        opcode::SYNCHRONIZE_CACHE_10 => Found::Row(&SYNCHRONIZE_CACHE_10),
-        opcode::SYNCHRONIZE_CACHE_16 => Found::Row(&SYNCHRONIZE_CACHE_16),
+        opcode::READ_10 => Found::Row(&READ_10),
+        opcode::WRITE_10 => Found::Row(&WRITE_10),
         opcode::WRITE_AND_VERIFY_10 => Found::Row(&WRITE_AND_VERIFY_10),
-        opcode::WRITE_AND_VERIFY_12 => Found::Row(&WRITE_AND_VERIFY_12),
-        opcode::WRITE_AND_VERIFY_16 => Found::Row(&WRITE_AND_VERIFY_16),
+        opcode::VERIFY_10 => Found::Row(&VERIFY_10),
+        opcode::PRE_FETCH_10 => Found::Row(&PRE_FETCH_10),
+        opcode::SYNCHRONIZE_CACHE_10 => Found::Row(&SYNCHRONIZE_CACHE_10),
+        opcode::READ_DEFECT_DATA_10 => Found::Row(&READ_DEFECT_DATA_10),
         opcode::WRITE_LONG_10 => Found::Row(&WRITE_LONG_10),
         opcode::WRITE_SAME_10 => Found::Row(&WRITE_SAME_10),
-        opcode::WRITE_SAME_16 => Found::Row(&WRITE_SAME_16),
         opcode::UNMAP => Found::Row(&UNMAP),
+        opcode::LOG_SENSE => Found::Row(&LOG_SENSE),
+        opcode::MODE_SELECT_10 => Found::Row(&MODE_SELECT_10),
+        opcode::MODE_SENSE_10 => Found::Row(&MODE_SENSE_10),
+        opcode::PERSISTENT_RESERVE_IN => Found::Row(&PERSISTENT_RESERVE_IN),
+        opcode::PERSISTENT_RESERVE_OUT => Found::Row(&PERSISTENT_RESERVE_OUT),
+        _ => Found::NoOpcode,
+    }
+}
+
+/// The row of a CDB of 12 bytes by its operation code, in any profile.
+#[inline(always)]
+fn row_of_12(code: u8, cdb: &[u8]) -> Found
+    requires group { (0xA0 ≤ code) × (code ≤ 0xBF) }
+    requires byte { 1 ≤ length cdb.now }
+    requires code { slice_index cdb.now 0 ≡ code }
+    ensures { IsFound Profile.Extended cdb.now result }
+{
+    match code {
+        opcode::REPORT_LUNS => Found::Row(&REPORT_LUNS),
+        opcode::MAINTENANCE_IN => with_maintenance_in(cdb),
+        opcode::READ_12 => Found::Row(&READ_12),
+        opcode::WRITE_12 => Found::Row(&WRITE_12),
+        opcode::WRITE_AND_VERIFY_12 => Found::Row(&WRITE_AND_VERIFY_12),
+        opcode::VERIFY_12 => Found::Row(&VERIFY_12),
+        opcode::READ_DEFECT_DATA_12 => Found::Row(&READ_DEFECT_DATA_12),
+        _ => Found::NoOpcode,
+    }
+}
+
+/// The row of a CDB of 16 bytes by its operation code, in any profile.
+#[inline(always)]
+fn row_of_16(code: u8, cdb: &[u8]) -> Found
+    requires group { (0x80 ≤ code) × (code ≤ 0x9F) }
+    requires byte { 1 ≤ length cdb.now }
+    requires code { slice_index cdb.now 0 ≡ code }
+    ensures { IsFound Profile.Extended cdb.now result }
+{
+    match code {
+        opcode::READ_16 => Found::Row(&READ_16),
+        opcode::COMPARE_AND_WRITE => Found::Row(&COMPARE_AND_WRITE),
+        opcode::WRITE_16 => Found::Row(&WRITE_16),
+        opcode::WRITE_AND_VERIFY_16 => Found::Row(&WRITE_AND_VERIFY_16),
+        opcode::VERIFY_16 => Found::Row(&VERIFY_16),
+        opcode::PRE_FETCH_16 => Found::Row(&PRE_FETCH_16),
+        opcode::SYNCHRONIZE_CACHE_16 => Found::Row(&SYNCHRONIZE_CACHE_16),
+        opcode::WRITE_SAME_16 => Found::Row(&WRITE_SAME_16),
         opcode::SERVICE_ACTION_IN_16 => with_service_action_in(cdb),
         _ => Found::NoOpcode,
     }

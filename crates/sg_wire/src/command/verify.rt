@@ -1,15 +1,20 @@
-// WRITE AND VERIFY (SBC-3, 5.37 to 5.39).
+// VERIFY, WRITE AND VERIFY, and COMPARE AND WRITE (SBC-3, 5.29 to 5.31, 5.37 to 5.39, and 5.2).
 ghost use Rattle.std.specs.Prelude.{◌≡◌, ◌<◌, ◌*◌, ◌++◌, ◌∷◌, [], true};
 ghost use Rattle.byteorder.specs.Endian.{big_bytes};
 ghost use Rattle.sg_wire.specs.Bits.{bits_of};
 ghost use Rattle.sg_wire.specs.ByteCheck.{byte_check_code, byte_check_of};
-ghost use Rattle.sg_wire.specs.FieldRoom.{have_room};
+ghost use Rattle.sg_wire.specs.CdbEncoding.{cdb_of};
+ghost use Rattle.sg_wire.specs.FieldRoom.{fits_cdb, have_room};
 ghost use Rattle.sg_wire.specs.Layout.{verify_10, verify_12, verify_16};
 ghost use Rattle.sg_wire.specs.Table.{command_by, layout_of};
 ghost use Rattle.sg_wire.specs.declared.command.table.Name.{Name};
 
 use super::block::{decode_extent_10, decode_extent_12, decode_extent_16};
-use super::table::{Row, WRITE_AND_VERIFY_10, WRITE_AND_VERIFY_12, WRITE_AND_VERIFY_16};
+use super::rows::{
+    COMPARE_AND_WRITE, VERIFY_10, VERIFY_12, VERIFY_16, WRITE_AND_VERIFY_10, WRITE_AND_VERIFY_12,
+    WRITE_AND_VERIFY_16,
+};
+use super::table::{Row, check_row};
 use super::{CdbFault, Command, Extent10, Extent12, Extent16};
 use crate::bytes::{CdbBytes, MAX_CDB_LENGTH};
 use byteorder::{BigEndian, ByteOrder};
@@ -27,7 +32,7 @@ pub enum ByteCheck {
     OneBlock = 3,
 }
 
-/// The fields of WRITE AND VERIFY(10) (SBC-3, 5.37).
+/// The fields of VERIFY(10) and WRITE AND VERIFY(10) (SBC-3, 5.29 and 5.37).
 #[derive(Clone, Copy, Debug, PartialEq, Eq)]
 pub struct Verify10 {
     /// What the blocks are compared with.
@@ -36,7 +41,7 @@ pub struct Verify10 {
     pub extent: Extent10,
 }
 
-/// The fields of WRITE AND VERIFY(12) (SBC-3, 5.38).
+/// The fields of VERIFY(12) and WRITE AND VERIFY(12) (SBC-3, 5.30 and 5.38).
 #[derive(Clone, Copy, Debug, PartialEq, Eq)]
 pub struct Verify12 {
     /// What the blocks are compared with.
@@ -45,13 +50,22 @@ pub struct Verify12 {
     pub extent: Extent12,
 }
 
-/// The fields of WRITE AND VERIFY(16) (SBC-3, 5.39).
+/// The fields of VERIFY(16) and WRITE AND VERIFY(16) (SBC-3, 5.31 and 5.39).
 #[derive(Clone, Copy, Debug, PartialEq, Eq)]
 pub struct Verify16 {
     /// What the blocks are compared with.
     pub byte_check: ByteCheck,
     /// The blocks.
     pub extent: Extent16,
+}
+
+/// The fields of COMPARE AND WRITE (SBC-3, 5.2).
+#[derive(Clone, Copy, Debug, PartialEq, Eq)]
+pub struct CompareAndWrite {
+    /// The first block's address.
+    pub lba: u64,
+    /// NUMBER OF LOGICAL BLOCKS, in blocks.
+    pub count: u8,
 }
 
 impl ByteCheck {
@@ -78,11 +92,31 @@ impl ByteCheck {
 
 // ---- Decoding
 
+pub(super) fn decode_verify_10(cdb: &[u8]) -> Result<Command, CdbFault>
+    ensures { result ≡ command_by (layout_of Name.Verify10) cdb.now }
+{
+    let extent = decode_extent_10(&VERIFY_10, cdb)?;
+    Ok(Command::Verify10(Verify10 {
+        byte_check: ByteCheck::of_byte(cdb[1]),
+        extent,
+    }))
+}
+
 pub(super) fn decode_write_and_verify_10(cdb: &[u8]) -> Result<Command, CdbFault>
     ensures { result ≡ command_by (layout_of Name.WriteAndVerify10) cdb.now }
 {
     let extent = decode_extent_10(&WRITE_AND_VERIFY_10, cdb)?;
     Ok(Command::WriteAndVerify10(Verify10 {
+        byte_check: ByteCheck::of_byte(cdb[1]),
+        extent,
+    }))
+}
+
+pub(super) fn decode_verify_12(cdb: &[u8]) -> Result<Command, CdbFault>
+    ensures { result ≡ command_by (layout_of Name.Verify12) cdb.now }
+{
+    let extent = decode_extent_12(&VERIFY_12, cdb)?;
+    Ok(Command::Verify12(Verify12 {
         byte_check: ByteCheck::of_byte(cdb[1]),
         extent,
     }))
@@ -98,6 +132,16 @@ pub(super) fn decode_write_and_verify_12(cdb: &[u8]) -> Result<Command, CdbFault
     }))
 }
 
+pub(super) fn decode_verify_16(cdb: &[u8]) -> Result<Command, CdbFault>
+    ensures { result ≡ command_by (layout_of Name.Verify16) cdb.now }
+{
+    let extent = decode_extent_16(&VERIFY_16, cdb)?;
+    Ok(Command::Verify16(Verify16 {
+        byte_check: ByteCheck::of_byte(cdb[1]),
+        extent,
+    }))
+}
+
 pub(super) fn decode_write_and_verify_16(cdb: &[u8]) -> Result<Command, CdbFault>
     ensures { result ≡ command_by (layout_of Name.WriteAndVerify16) cdb.now }
 {
@@ -105,6 +149,16 @@ pub(super) fn decode_write_and_verify_16(cdb: &[u8]) -> Result<Command, CdbFault
     Ok(Command::WriteAndVerify16(Verify16 {
         byte_check: ByteCheck::of_byte(cdb[1]),
         extent,
+    }))
+}
+
+pub(super) fn decode_compare_and_write(cdb: &[u8]) -> Result<Command, CdbFault>
+    ensures { result ≡ command_by (layout_of Name.CompareAndWrite) cdb.now }
+{
+    check_row(&COMPARE_AND_WRITE, cdb)?;
+    Ok(Command::CompareAndWrite(CompareAndWrite {
+        lba: BigEndian::read_u64(&cdb[2..]),
+        count: cdb[13],
     }))
 }
 
@@ -154,6 +208,19 @@ impl Verify16 {
         cdb[1] = self.byte_check.code() * 2;
         BigEndian::write_u64(&mut cdb[2..], self.extent.lba);
         BigEndian::write_u32(&mut cdb[10..], self.extent.count);
+        CdbBytes::new(cdb, MAX_CDB_LENGTH)
+    }
+}
+
+impl CompareAndWrite {
+    #[tactic(auto, unfolding(crate::specs::CdbEncoding::cdb_of))]
+    pub(super) fn encode(self) -> CdbBytes
+        ensures cdb { result ≡ cdb_of (Command.CompareAndWrite self) }
+        ensures fits { fits_cdb (Command.CompareAndWrite self) ≡ true }
+    {
+        let mut cdb = COMPARE_AND_WRITE.begin();
+        BigEndian::write_u64(&mut cdb[2..], self.lba);
+        cdb[13] = self.count;
         CdbBytes::new(cdb, MAX_CDB_LENGTH)
     }
 }
