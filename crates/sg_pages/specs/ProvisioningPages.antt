@@ -11,9 +11,9 @@ use Rattle.sg_wire.specs.declared.profile.Limits.{Limits}
 abbrev wsnz : Field
 wsnz = field 1 0x01
 
--- MAXIMUM COMPARE AND WRITE LENGTH, byte 5, in blocks: there is no such command.
-abbrev compare_and_write_length : Field
-compare_and_write_length = field 1 0
+-- MAXIMUM COMPARE AND WRITE LENGTH, byte 5, in blocks: 0 on a disk without the command.
+abbrev compare_and_write_length : Limits → Field
+compare_and_write_length limits = field 1 limits.compare_and_write_length
 
 -- OPTIMAL TRANSFER LENGTH GRANULARITY, bytes 6 and 7, in blocks.
 abbrev transfer_granularity : Field
@@ -59,7 +59,7 @@ unfoldable pub block_limits : Limits → List ℕ
 block_limits limits =
     fields_bytes (
     wsnz
-    ∷ compare_and_write_length
+    ∷ compare_and_write_length limits
     ∷ transfer_granularity
     ∷ transfer_length limits
     ∷ optimal_transfer_length

@@ -22,6 +22,7 @@ pub(crate) fn block_limits(limits: Limits) -> [u8; 60]
 {
     let mut bytes = [0; 60];
     bytes[0] = WSNZ;
+    bytes[1] = limits.compare_and_write_length;
     // OPTIMAL TRANSFER LENGTH GRANULARITY
     BigEndian::write_u16(&mut bytes[2..], 1);
     BigEndian::write_u32(&mut bytes[4..], limits.transfer_length);

@@ -50,7 +50,6 @@ maximum_transfer_length = extended_limits.transfer_length
 -- Departure (SPC-4, sense keys): on a base disk, data-out that is too short is a DATA PHASE ERROR.
 -- Departure (SBC-3, 4.12): SWP of a base disk also refuses a command that writes no block, and the
 -- sense data names the software.
--- Departure (SBC-3, 5.28): a base disk looks for the address of an UNMAP descriptor of no block.
 -- Departure (SPC-4, 5.13.11.4): on a base disk, PREEMPT of key 0 may be a conflict.
 -- Departure (SPC-4, 5.13.7): a REGISTER of a base disk that changes no key leaves PRGENERATION and
 -- APTPL.
@@ -61,7 +60,6 @@ rules_of Base = record {
   zero_reaches_last = false;
   short_data_out_is_illegal = false;
   protects_only_writes = false;
-  unmaps_no_block_anywhere = false;
   preempts_some_key = false;
   counts_each_register = false;
   releases_nothing_by_any_type = false;
@@ -71,7 +69,6 @@ rules_of Extended = record {
   zero_reaches_last = true;
   short_data_out_is_illegal = true;
   protects_only_writes = true;
-  unmaps_no_block_anywhere = true;
   preempts_some_key = true;
   counts_each_register = true;
   releases_nothing_by_any_type = true;

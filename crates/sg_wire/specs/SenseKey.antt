@@ -15,3 +15,6 @@ data_protect = 7
 
 abbrev pub aborted_command : ℕ
 aborted_command = 11
+
+abbrev pub miscompare : ℕ
+miscompare = 14

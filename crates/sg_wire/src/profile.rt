@@ -56,8 +56,6 @@ pub struct Rules {
     pub short_data_out_is_illegal: bool,
     /// SWP refuses a command only if it writes a block, with WRITE PROTECTED (SBC-3, 4.12).
     pub protects_only_writes: bool,
-    /// A descriptor of UNMAP that names no block may have any address (SBC-3, 5.28).
-    pub unmaps_no_block_anywhere: bool,
     /// PREEMPT of key 0 is an error of the parameter list, unless an all registrants reservation is
     /// held (SPC-4, 5.13.11.4).
     pub preempts_some_key: bool,
@@ -74,7 +72,6 @@ const BASE_RULES: Rules = Rules {
     zero_reaches_last: false,
     short_data_out_is_illegal: false,
     protects_only_writes: false,
-    unmaps_no_block_anywhere: false,
     preempts_some_key: false,
     counts_each_register: false,
     releases_nothing_by_any_type: false,
@@ -85,7 +82,6 @@ const EXTENDED_RULES: Rules = Rules {
     zero_reaches_last: true,
     short_data_out_is_illegal: true,
     protects_only_writes: true,
-    unmaps_no_block_anywhere: true,
     preempts_some_key: true,
     counts_each_register: true,
     releases_nothing_by_any_type: true,
