@@ -1,6 +1,7 @@
--- Modules that public contracts cite: the disk, the cost of the calls, the answer of GET LBA
--- STATUS, and the laws.
+-- Modules that public contracts cite: the disk, comparing its blocks, the cost of the calls, the
+-- answer of GET LBA STATUS, and the laws.
 pub mod Disk
+pub mod Comparison
 pub mod Meter
 pub mod LbaStatus
 pub mod Laws

@@ -7,4 +7,6 @@ pub mod laws;
 pub mod lba_status;
 mod store;
 
-pub use store::{BLOCK_LENGTH, Counts, MAX_CAPACITY, MAX_COUNT, MAX_POOL, Space, Store};
+pub use store::{
+    BLOCK_LENGTH, Counts, MAX_CAPACITY, MAX_COUNT, MAX_POOL, Miscompare, Space, Store,
+};

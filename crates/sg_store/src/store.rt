@@ -6,6 +6,7 @@ ghost use Rattle.std.specs.FinMap.{len};
 ghost use Rattle.sg_store.specs.Disk.{Contents, Disk, IsWellFormed, IsOverfull, empty_disk};
 ghost use Rattle.sg_store.specs.Disk.{blocks, disk_written, disk_filled, disk_unmapped, disk_anchored};
 ghost use Rattle.sg_store.specs.Disk.{data_count, disk_grown, need, used_among};
+ghost use Rattle.sg_store.specs.Comparison.{compared, repeated};
 ghost use Rattle.sg_wire.specs.Cut.{Puts};
 ghost use Rattle.sg_wire.specs.LbaStatus.{status_data};
 ghost use Rattle.sg_store.specs.LbaStatus.{lba_status, covered};
@@ -44,6 +45,14 @@ pub struct Counts {
 #[derive(Clone, Copy, Debug, Error, PartialEq)]
 #[error("the pool has too few blocks")]
 pub struct Space;
+
+/// Blocks differ from the bytes that they are compared with.
+#[derive(Clone, Copy, Debug, Error, PartialEq)]
+#[error("byte {offset} differs")]
+pub struct Miscompare {
+    /// The number of bytes before the first one that differs.
+    pub offset: u64,
+}
 
 /// A disk of blocks of 512 bytes. Blocks that were written are mapped to the blocks of a pool, and
 /// others may be anchored there (SBC-3, 4.7).
@@ -86,6 +95,48 @@ pub trait Store: Drop {
         // The cost of the call, and the bounds of its visits.
         ensures costs { Charged (disk self.old).pool (price (disk self.old).contents lba count)
             (least (disk self.old).contents lba count) (meter self.old) (meter self.new) };
+
+    /// Compares the blocks from an address on with a slice, which is just as long, byte by byte
+    /// (SBC-3, 5.29).
+    ///
+    /// # Errors
+    /// A byte differs.
+    fn compare(&mut self, lba: u64, count: u32, bytes: &[u8]) -> Result<(), Miscompare>
+        requires range { lba + count ≤ (disk self.old).capacity }
+        requires byte_count { length bytes.now ≡ BLOCK_LENGTH * count }
+        requires headroom { HasHeadroom (meter self.old).counts }
+
+        // The result names the first byte that differs, and the disk stays as it is.
+        ensures value { result ≡ compared (blocks (disk self.old).contents lba count) bytes.now }
+        ensures disk { disk self.new ≡ disk self.old }
+
+        // The cost of the call, and the bounds of its visits.
+        ensures costs { ChargedOnOk result (disk self.old).pool
+            (price (disk self.old).contents lba count) (least (disk self.old).contents lba count)
+            (meter self.old) (meter self.new) };
+
+    /// Compares each block from an address on with one block, byte by byte (SBC-3, 5.29).
+    ///
+    /// # Errors
+    /// A byte differs.
+    fn compare_each(
+        &mut self,
+        lba: u64,
+        count: u32,
+        block: &[u8; BLOCK_LENGTH],
+    ) -> Result<(), Miscompare>
+        requires range { lba + count ≤ (disk self.old).capacity }
+        requires headroom { HasHeadroom (meter self.old).counts }
+
+        // The result names the first byte that differs, and the disk stays as it is.
+        ensures value { result
+            ≡ compared (blocks (disk self.old).contents lba count) (repeated count block.now) }
+        ensures disk { disk self.new ≡ disk self.old }
+
+        // The cost of the call, and the bounds of its visits.
+        ensures costs { ChargedOnOk result (disk self.old).pool
+            (price (disk self.old).contents lba count) (least (disk self.old).contents lba count)
+            (meter self.old) (meter self.new) };
 
     /// Replaces the blocks from an address on by the blocks of a slice, which is just as long.
     ///
