@@ -1,7 +1,7 @@
 -- Each command leaves the mapped addresses within the capacity, and their blocks of 512 bytes.
 use Rattle.std.proofs.Common.{◌≡◌, ◌≤◌, ◌<◌, ℕ, ◌+◌, ◌*◌, List, [], ◌∷◌, length, take, drop, map}
 use Rattle.std.proofs.Common.{Bool, true, false, cond, Option, Some, None, Result, Ok, Err, refl}
-use Rattle.std.proofs.Common.{arith, length-take, length-drop}
+use Rattle.std.proofs.Common.{◌==◌, arith, eqb-true, length-take, length-drop}
 use Rattle.std.specs.Prelude.{max, nat_lt, ok_or}
 use Rattle.sg_wire.specs.FirstBytes.{first_bytes}
 use Rattle.sg_target.specs.PrimaryCommands.{inquiry_page}
@@ -17,7 +17,9 @@ use Rattle.sg_wire.specs.CdbDecoding.{command_in}
 use Rattle.sg_store.specs.Disk.{Contents, IsWellFormed, anchored, block_at, unmapped}
 use Rattle.sg_store.specs.Disk.Mapping.{Data, Anchored}
 use Rattle.sg_store.specs.Laws.{DisksStayWellFormed}
-use Rattle.sg_target.specs.BlockCommands.{blocks_out, bytes_of}
+use Rattle.sg_wire.specs.declared.command.verify.ByteCheck.{ByteCheck}
+use Rattle.sg_wire.specs.declared.command.verify.ByteCheck.TheVariants as check
+use Rattle.sg_target.specs.BlockCommands.{blocks_out, bytes_of, exchange_out}
 use Rattle.sg_pages.specs.BlockDescriptor.{logical_block_length}
 use Rattle.sg_wire.specs.SupportedOperations.{requested_report}
 use Rattle.sg_pages.specs.Reports.{lists_unit, log_page_with}
@@ -26,7 +28,8 @@ use Rattle.sg_target.specs.Checks.{cdb_checks, checked_cdb, checked_operation}
 use Rattle.sg_target.specs.Checks.{checked_parse, out_of_range, past_capacity}
 use Rattle.sg_target.specs.Checks.{requested, short_data_out, unsupported_value, write_protection}
 use Rattle.sg_target.specs.Config.{ConfigFields}
-use Rattle.sg_target.specs.Demands.{Demands, bad_comparison, bad_count, demands, extent, takes}
+use Rattle.sg_target.specs.Demands.{DataOutNeed, Demands, bad_comparison, bad_count, demands, extent}
+use Rattle.sg_target.specs.Demands.{need, takes, takes_no_data, verify, verify_only}
 use Rattle.sg_target.specs.Demands.{too_long, bad_anchor, unmap_extent, unmap_extents}
 use Rattle.sg_target.specs.Demands.{unmap_or_fill}
 use Rattle.sg_target.specs.Effect.{Effect}
@@ -44,6 +47,7 @@ use Rattle.sg_target.specs.declared.refusal.Refusal.{Refusal}
 -- the bytes of its blocks, or one block
 abbrev pub IsSound : Operation → Type 0
 IsSound (operation.Write out) = length out.bytes ≡ bytes_of out.extent
+IsSound (operation.CompareAndWrite exchange) = length exchange.replacement ≡ bytes_of exchange.extent
 IsSound (operation.Fill extent block) = length block ≡ logical_block_length
 IsSound _ = Unit {0}
 
@@ -62,34 +66,36 @@ unless None asked h = h refl
 unless (Some refusal) asked h = tt
 
 -- data-out that is not refused is long enough
-pub long_enough : (unsupported : Option ℕ) (n : ℕ) (data_out : List ℕ) →
-    first_some (unsupported_value unsupported ∷ short_data_out (Some n) data_out ∷ []) ≡ None
-    → n ≤ length data_out
-long_enough (Some byte) n data_out e = cc
-long_enough None n data_out e = grind (arith, nat_tests)
+pub long_enough : (unsupported : Option ℕ) (need : DataOutNeed) (data_out : List ℕ) →
+    first_some (unsupported_value unsupported ∷ short_data_out (Some need) data_out ∷ []) ≡ None
+    → need.bytes ≤ length data_out
+long_enough (Some byte) need data_out e = cc
+long_enough None need data_out e = grind (arith, nat_tests)
 
 requested-sound : (d : Demands) (data_out : List ℕ) → Sound d.operation
     → Sound (requested d data_out)
 requested-sound d data_out h =
     unless
-    (first_some (unsupported_value d.unsupported ∷ short_data_out d.data_out_length data_out ∷ []))
+    (first_some (unsupported_value d.unsupported ∷ short_data_out d.data_out data_out ∷ []))
     d.operation (λ e. h)
 
-takes-sound : (n : ℕ) (unsupported : Option ℕ) (asked : Result Operation Refusal) (data_out : List ℕ)
-    → (n ≤ length data_out → Sound asked) → Sound (requested (takes n unsupported asked) data_out)
-takes-sound n unsupported asked data_out h =
-    unless (first_some (unsupported_value unsupported ∷ short_data_out (Some n) data_out ∷ [])) asked
-    (λ e. h (long_enough unsupported n data_out e))
+takes-sound : (config : ConfigFields) (n : ℕ) (unsupported : Option ℕ)
+    (asked : Result Operation Refusal) (data_out : List ℕ) → (n ≤ length data_out → Sound asked)
+    → Sound (requested (takes config n unsupported asked) data_out)
+takes-sound config n unsupported asked data_out h =
+    unless
+    (first_some (unsupported_value unsupported ∷ short_data_out (Some (need config n)) data_out ∷ []))
+    asked (λ e. h (long_enough unsupported (need config n) data_out e))
 
 whole : (n : ℕ) (data_out : List ℕ) → n ≤ length data_out → length (take n data_out) ≡ n
 whole n data_out h = omega (arith, length-take n data_out)
 
-write-sound : (extent : Extent) (unsupported : Option ℕ) (data_out : List ℕ)
-    → Sound (requested (takes (bytes_of extent) unsupported (Ok
+write-sound : (config : ConfigFields) (extent : Extent) (unsupported : Option ℕ) (data_out : List ℕ)
+    → Sound (requested (takes config (bytes_of extent) unsupported (Ok
     (operation.Write (blocks_out extent data_out))))
     data_out)
-write-sound extent unsupported data_out =
-    takes-sound (bytes_of extent) unsupported (Ok (operation.Write (blocks_out extent data_out))) data_out
+write-sound config extent unsupported data_out =
+    takes-sound config (bytes_of extent) unsupported (Ok (operation.Write (blocks_out extent data_out))) data_out
     (whole (bytes_of extent) data_out)
 
 fill-or-unmap : (anchor is_unmap : Bool) (extent : Extent) (block : List ℕ)
@@ -99,37 +105,79 @@ fill-or-unmap true true extent block h = tt
 fill-or-unmap false true extent block h = tt
 fill-or-unmap anchor false extent block h = h
 
-write_same-sound : (anchor unmap : Bool) (extent : Extent) (unsupported : Option ℕ)
-    (data_out : List ℕ) → Sound (requested (takes logical_block_length unsupported
+write_same-sound : (config : ConfigFields) (anchor unmap : Bool) (extent : Extent)
+    (unsupported : Option ℕ) (data_out : List ℕ)
+    → Sound (requested (takes config logical_block_length unsupported
     (Ok (unmap_or_fill anchor unmap extent (block_out data_out)))) data_out)
-write_same-sound anchor unmap extent unsupported data_out =
+write_same-sound config anchor unmap extent unsupported data_out =
     let block = block_out data_out in
-    takes-sound logical_block_length unsupported (Ok (unmap_or_fill anchor unmap extent block)) data_out
+    takes-sound config logical_block_length unsupported (Ok (unmap_or_fill anchor unmap extent block)) data_out
     (λ h. fill-or-unmap anchor (unmaps unmap block) extent block (whole logical_block_length data_out h))
 
 extents-sound : (anchor : Bool) (extents : List Extent) → IsSound (unmap_extents anchor extents)
 extents-sound true extents = tt
 extents-sound false extents = tt
 
+-- VERIFY brings nothing that has to be sound
+each-sound : (config : ConfigFields) (extent : Extent) (byte : ℕ) (data_out : List ℕ) (none : Bool)
+    → Sound (requested (cond none (verify_only config extent byte)
+    (takes config logical_block_length (too_long config extent.count byte)
+    (Ok (operation.CompareEach extent (block_out data_out))))) data_out)
+each-sound config extent byte data_out true =
+    requested-sound (verify_only config extent byte) data_out tt
+each-sound config extent byte data_out false =
+    takes-sound config logical_block_length (too_long config extent.count byte)
+    (Ok (operation.CompareEach extent (block_out data_out))) data_out (λ h. tt)
+
+verify-sound : (config : ConfigFields) (check : ByteCheck) (extent : Extent) (byte : ℕ)
+    (data_out : List ℕ) → Sound (requested (verify config check extent byte data_out) data_out)
+verify-sound config check.Nothing extent byte data_out =
+    requested-sound (verify config check.Nothing extent byte data_out) data_out tt
+verify-sound config check.Reserved extent byte data_out =
+    requested-sound (verify config check.Reserved extent byte data_out) data_out tt
+verify-sound config check.DataOut extent byte data_out =
+    requested-sound (verify config check.DataOut extent byte data_out) data_out tt
+verify-sound config check.OneBlock extent byte data_out =
+    each-sound config extent byte data_out (extent.count == 0)
+
+-- COMPARE AND WRITE has as many bytes to write as to compare
+exchange-sound : (extent : Extent) (data_out : List ℕ) (is_whole : Bool)
+    → (length data_out == 2 * bytes_of extent) ≡ is_whole
+    → Sound (requested (takes_no_data (cond is_whole None (Some 13))
+    (Ok (operation.CompareAndWrite (exchange_out extent data_out)))) data_out)
+exchange-sound extent data_out false e = tt
+exchange-sound extent data_out true e =
+    let whole = eqb-true (length data_out) (2 * bytes_of extent) e in
+    omega (arith, whole, length-drop (bytes_of extent) data_out)
+
 command-sound : (config : ConfigFields) (c : Command) (data_out : List ℕ)
     → Sound (requested (demands config c data_out) data_out)
 command-sound config (command.Write6 short) data_out =
-    write-sound (extent short.0 short.1) None data_out
+    write-sound config (extent short.0 short.1) None data_out
 command-sound config (command.Write10 c) data_out =
-    write-sound (extent c.lba c.count) (too_long config c.count 7) data_out
+    write-sound config (extent c.lba c.count) (too_long config c.count 7) data_out
 command-sound config (command.Write12 c) data_out =
-    write-sound (extent c.lba c.count) (too_long config c.count 6) data_out
+    write-sound config (extent c.lba c.count) (too_long config c.count 6) data_out
 command-sound config (command.Write16 c) data_out =
-    write-sound (extent c.lba c.count) (too_long config c.count 10) data_out
+    write-sound config (extent c.lba c.count) (too_long config c.count 10) data_out
 command-sound config (command.WriteAndVerify10 c) data_out =
-    write-sound (extent c.extent.lba c.extent.count)
+    write-sound config (extent c.extent.lba c.extent.count)
     (bad_comparison c.byte_check (too_long config c.extent.count 7)) data_out
 command-sound config (command.WriteAndVerify12 c) data_out =
-    write-sound (extent c.extent.lba c.extent.count)
+    write-sound config (extent c.extent.lba c.extent.count)
     (bad_comparison c.byte_check (too_long config c.extent.count 6)) data_out
 command-sound config (command.WriteAndVerify16 c) data_out =
-    write-sound (extent c.extent.lba c.extent.count)
+    write-sound config (extent c.extent.lba c.extent.count)
     (bad_comparison c.byte_check (too_long config c.extent.count 10)) data_out
+command-sound config (command.CompareAndWrite c) data_out =
+    let named = extent c.lba c.count in
+    exchange-sound named data_out (length data_out == 2 * bytes_of named) refl
+command-sound config (command.Verify10 c) data_out =
+    verify-sound config c.byte_check (extent c.extent.lba c.extent.count) 7 data_out
+command-sound config (command.Verify12 c) data_out =
+    verify-sound config c.byte_check (extent c.extent.lba c.extent.count) 6 data_out
+command-sound config (command.Verify16 c) data_out =
+    verify-sound config c.byte_check (extent c.extent.lba c.extent.count) 10 data_out
 command-sound config (command.LogSense c) data_out =
     requested-sound (demands config (command.LogSense c) data_out) data_out
     (when
@@ -147,10 +195,10 @@ command-sound config (command.ReportLuns c) data_out =
     (when (ok_or (lists_unit c.select) (CheckCondition (InvalidFieldInCdb 2)))
     (λ listed. operation.ReturnLuns listed c.allocation_length) (λ listed. tt))
 command-sound config (command.WriteSame10 c) data_out =
-    write_same-sound c.anchor c.unmap (extent c.lba c.count)
+    write_same-sound config c.anchor c.unmap (extent c.lba c.count)
     (bad_anchor c.anchor c.unmap (bad_count config c.count 7)) data_out
 command-sound config (command.WriteSame16 c) data_out =
-    write_same-sound c.anchor c.unmap (extent c.lba c.count)
+    write_same-sound config c.anchor c.unmap (extent c.lba c.count)
     (bad_anchor c.anchor c.unmap (bad_count config c.count 10)) data_out
 command-sound config (command.Inquiry c) data_out =
     requested-sound (demands config (command.Inquiry c) data_out) data_out
@@ -207,7 +255,7 @@ operation-ready : (state : State) (o : Operation) → IsSound o → Ready state 
 operation-ready state o h =
     let medium = medium_use o in
     passes state o (out_of_range state.disk.capacity medium.extents)
-    (write_protection state.modes medium.writes)
+    (write_protection state medium)
     (λ e. record { sound = h; on_disk = on_disk state.disk.capacity medium.extents e })
 
 next-ready : (state : State) (asked : Result Operation Refusal) → Sound asked
@@ -277,6 +325,10 @@ operation-keeps disks state i (operation.Write out) h ready =
     disks.mapping state.disk.capacity state.disk.contents out.extent.lba out.extent.count
     (λ index. Data (block_at out.bytes index)) h ready.on_disk.0
     (λ k below. block-length out.bytes out.extent.count k ready.sound below)
+operation-keeps disks state i (operation.CompareAndWrite exchange) h ready =
+    disks.mapping state.disk.capacity state.disk.contents exchange.extent.lba exchange.extent.count
+    (λ index. Data (block_at exchange.replacement index)) h ready.on_disk.0
+    (λ k below. block-length exchange.replacement exchange.extent.count k ready.sound below)
 operation-keeps disks state i (operation.Fill extent block) h ready =
     disks.mapping state.disk.capacity state.disk.contents extent.lba extent.count
     (λ index. Data block) h ready.on_disk.0 (λ k below. ready.sound)

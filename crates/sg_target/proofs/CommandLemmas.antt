@@ -43,6 +43,7 @@ use Rattle.sg_target.specs.CommandLaws.{WriteSamesLeaveTheirBlock, WritesLeaveTh
 use Rattle.sg_target.specs.CommandLaws.{blocks_to_read, blocks_to_write, status_of_same}
 use Rattle.sg_target.specs.CommandLaws.{unmapped_status, verified_blocks, write_same_fields}
 use Rattle.sg_target.specs.Config.{ConfigFields}
+use Rattle.sg_target.specs.Demands.{need as need_of}
 use Rattle.sg_target.specs.Demands.{bad_comparison, bad_count, demands, extent, bad_anchor}
 use Rattle.sg_target.specs.Demands.{unmap_extent}
 use Rattle.sg_target.specs.Demands.{unmap_extents, unmap_or_fill}
@@ -345,9 +346,9 @@ same-long : (config : ConfigFields) (k : Command) (data_out : List ℕ) (c : Wri
     → first_some (request_checks (demands config k data_out) data_out) ≡ None
     → write_same_fields (Ok k) ≡ Some c → 512 ≤ length data_out
 same-long config (command.WriteSame10 w) data_out c e h =
-    long_enough (bad_anchor w.anchor w.unmap (bad_count config w.count 7)) 512 data_out e
+    long_enough (bad_anchor w.anchor w.unmap (bad_count config w.count 7)) (need_of config 512) data_out e
 same-long config (command.WriteSame16 w) data_out c e h =
-    long_enough (bad_anchor w.anchor w.unmap (bad_count config w.count 10)) 512 data_out e
+    long_enough (bad_anchor w.anchor w.unmap (bad_count config w.count 10)) (need_of config 512) data_out e
 same-long config _ data_out c e h = cc
 
 -- a block of zeros is the block of zeros

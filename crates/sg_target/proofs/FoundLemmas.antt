@@ -1,6 +1,6 @@
 -- What an operation finds on its way.
 use Rattle.std.proofs.Common.{◌≡◌, ℕ, Bool, true, false, cond, Option, Some, None, Result, Ok, Err}
-use Rattle.std.proofs.Common.{refl, ap, subst, ◌∙◌}
+use Rattle.std.proofs.Common.{List, [], ◌∷◌, refl, ap, subst, ◌∙◌}
 use Rattle.std.specs.FinMap.{len}
 use Rattle.std.specs.Option.{option_map_or}
 use Rattle.std.specs.Prelude.{nat_lt}
@@ -15,7 +15,9 @@ use Rattle.sg_target.specs.Step.{after_refusal, executed, outcome, refusal_answe
 use Rattle.sg_target.specs.Step.{sense_format}
 use Rattle.sg_target.specs.declared.operation.Operation.{Operation}
 use Rattle.sg_target.specs.declared.operation.Operation.TheVariants as operation
-use Rattle.sg_target.specs.declared.refusal.Reason.TheVariants.{SpaceAllocationFailed}
+use Rattle.sg_target.specs.BlockCommands.{miscompare}
+use Rattle.sg_target.specs.Refusal.{first_some}
+use Rattle.sg_target.specs.declared.refusal.Reason.TheVariants.{Miscompare, SpaceAllocationFailed}
 use Rattle.sg_target.specs.declared.refusal.Refusal.{Refusal}
 use Rattle.sg_target.specs.declared.refusal.Refusal.TheVariants.{CheckCondition}
 
@@ -35,6 +37,21 @@ module _ (state : State) (i : ℕ) where
   unfolding no_space
   no-space-keeps after = space-keeps (nat_lt after.pool (len after.contents))
 
+  difference-keeps : (difference : Option ℕ) → Keeps (miscompare difference)
+  difference-keeps None refusal e = cc
+  difference-keeps (Some offset) refusal e =
+      let same : CheckCondition (Miscompare offset) ≡ refusal = cc in
+      subst (λ (r : Refusal). after_refusal state i r ≡ state) same refl
+
+  last-keeps : (found : Option Refusal) → Keeps found → Keeps (first_some (found ∷ []))
+  last-keeps None h refusal e = cc
+  last-keeps (Some first) h = h
+
+  exchange-keeps : (difference : Option ℕ) (found : Option Refusal) → Keeps found
+      → Keeps (first_some (miscompare difference ∷ found ∷ []))
+  exchange-keeps None found h = last-keeps found h
+  exchange-keeps (Some offset) found h = difference-keeps (Some offset)
+
   none-keeps : Keeps None
   none-keeps refusal e = cc
 
@@ -49,6 +66,9 @@ module _ (state : State) (i : ℕ) where
 
   operation-keeps : (o : Operation) → EffectKeeps (effect_of state i o)
   operation-keeps (operation.Write out) = no-space-keeps _
+  operation-keeps (operation.Compare out) = difference-keeps _
+  operation-keeps (operation.CompareEach extent block) = difference-keeps _
+  operation-keeps (operation.CompareAndWrite exchange) = exchange-keeps _ _ (no-space-keeps _)
   operation-keeps (operation.Fill extent block) = no-space-keeps _
   operation-keeps (operation.Anchor extents) = no-space-keeps _
   operation-keeps (operation.AnchorExtent extent) = no-space-keeps _

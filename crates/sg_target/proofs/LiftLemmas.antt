@@ -49,7 +49,7 @@ module _ (state : State) (i : ℕ) where
 -- the checks of a command by its demands
 abbrev pub request_checks : Demands → (data_out : List ℕ) → List (Option Refusal)
 request_checks d data_out =
-    unsupported_value d.unsupported ∷ short_data_out d.data_out_length data_out ∷ []
+    unsupported_value d.unsupported ∷ short_data_out d.data_out data_out ∷ []
 
 -- the command that asks for an operation, and the checks that it has passed
 pub record Asked (state : State) (i : ℕ) (cdb data_out : List ℕ) (operation : Operation) : Type 0 where

@@ -1,12 +1,15 @@
 -- Only WRITE LONG marks a block as bad.
 use Rattle.std.proofs.Common.{◌≡◌, ℕ, List, Bool, true, false, Option, None, Result, Ok, Err}
-use Rattle.std.proofs.Common.{refl, sym, ap, ◌∙◌, not, ◌&&◌, if◌then◌else◌}
+use Rattle.std.proofs.Common.{refl, sym, ap, ◌∙◌, not, ◌&&◌, ◌==◌, cond, if◌then◌else◌}
 use Rattle.std.specs.Prelude.{is_some, ok_or}
 use Rattle.sg_wire.specs.CdbDecoding.{command_in}
 use Rattle.sg_wire.specs.FirstBytes.{first_bytes}
 use Rattle.sg_wire.specs.declared.command.Command.{Command}
 use Rattle.sg_wire.specs.declared.command.Command.TheVariants as command
+use Rattle.sg_wire.specs.declared.command.verify.ByteCheck.{ByteCheck}
+use Rattle.sg_wire.specs.declared.command.verify.ByteCheck.TheVariants as check
 use Rattle.sg_wire.specs.declared.extent.Extent.{Extent}
+use Rattle.sg_pages.specs.BlockDescriptor.{logical_block_length}
 use Rattle.sg_wire.specs.SupportedOperations.{requested_report}
 use Rattle.sg_pages.specs.Reports.{lists_unit, log_page_with}
 use Rattle.sg_pages.specs.declared.reports.Report.TheVariants as report
@@ -16,7 +19,8 @@ use Rattle.sg_faults.specs.declared.fault.Fault.{Fault}
 use Rattle.sg_target.specs.Armed.{Attempt, fault_by, marked_by, with_room}
 use Rattle.sg_target.specs.Checks.{checked_cdb}
 use Rattle.sg_target.specs.Config.{ConfigFields}
-use Rattle.sg_target.specs.Demands.{demands, unmap_extent, unmap_extents}
+use Rattle.sg_target.specs.Demands.{demands, extent, takes, too_long, unmap_extent, unmap_extents}
+use Rattle.sg_target.specs.Demands.{verify, verify_only}
 use Rattle.sg_target.specs.FaultLaws.{is_write_long}
 use Rattle.sg_target.specs.PrimaryCommands.{inquiry_page}
 use Rattle.sg_target.specs.ProvisioningCommands.{block_out, listed_extents, unmaps}
@@ -24,7 +28,7 @@ use Rattle.sg_target.specs.Refusal.{or_refused, when_sound}
 use Rattle.sg_target.specs.ReservationCommands.{fields_out}
 use Rattle.sg_target.specs.State.{State, config_of, profile_of}
 use Rattle.sg_target.specs.declared.operation.Operation.{Operation}
-use Rattle.sg_target.specs.declared.operation.Operation.TheVariants.{ChangeReservations, Fill}
+use Rattle.sg_target.specs.declared.operation.Operation.TheVariants.{ChangeReservations, CompareEach, Fill}
 use Rattle.sg_target.specs.declared.operation.Operation.TheVariants.{ReturnInquiry, ReturnLuns}
 use Rattle.sg_target.specs.declared.operation.Operation.TheVariants.{ReturnReport}
 use Rattle.sg_target.specs.declared.refusal.Reason.TheVariants.{InsufficientResources, InvalidFieldInCdb}
@@ -58,6 +62,21 @@ unmap-unmarked : (anchor : Bool) (extents : List Extent) → fault_by (unmap_ext
 unmap-unmarked true extents = refl
 unmap-unmarked false extents = refl
 
+each-unmarked : (config : ConfigFields) (extent : Extent) (byte : ℕ) (block : List ℕ) (none : Bool)
+    → marked_by (cond none (verify_only config extent byte)
+    (takes config logical_block_length (too_long config extent.count byte)
+    (Ok (CompareEach extent block)))).operation ≡ None
+each-unmarked config extent byte block true = refl
+each-unmarked config extent byte block false = refl
+
+verify-unmarked : (config : ConfigFields) (check : ByteCheck) (extent : Extent) (byte : ℕ)
+    (data_out : List ℕ) → marked_by (verify config check extent byte data_out).operation ≡ None
+verify-unmarked config check.Nothing extent byte data_out = refl
+verify-unmarked config check.Reserved extent byte data_out = refl
+verify-unmarked config check.DataOut extent byte data_out = refl
+verify-unmarked config check.OneBlock extent byte data_out =
+    each-unmarked config extent byte (block_out data_out) (extent.count == 0)
+
 unmarked : (config : ConfigFields) (command : Command) (data_out : List ℕ)
     → is_write_long (Ok command) ≡ false
     → marked_by (demands config command data_out).operation ≡ None
@@ -66,6 +85,12 @@ unmarked config (command.Inquiry c) data_out other =
     (ok_or (inquiry_page config.identity.profile c.evpd c.page_code)
     (CheckCondition (InvalidFieldInCdb 2)))
     (λ page. ReturnInquiry page c.allocation_length) (λ page. refl)
+unmarked config (command.Verify10 c) data_out other =
+    verify-unmarked config c.byte_check (extent c.extent.lba c.extent.count) 7 data_out
+unmarked config (command.Verify12 c) data_out other =
+    verify-unmarked config c.byte_check (extent c.extent.lba c.extent.count) 6 data_out
+unmarked config (command.Verify16 c) data_out other =
+    verify-unmarked config c.byte_check (extent c.extent.lba c.extent.count) 10 data_out
 unmarked config (command.LogSense c) data_out other =
     sound-unmarked
     (or_refused (λ byte. CheckCondition (InvalidFieldInCdb byte))

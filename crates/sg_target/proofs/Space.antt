@@ -1,6 +1,6 @@
 -- The pool has blocks for all addresses.
 use Rattle.std.proofs.Common.{◌≡◌, ◌≤◌, ◌<◌, ◌⊎◌, inl, inr, ℕ, ◌+◌, zero, suc, List, [], ◌∷◌}
-use Rattle.std.proofs.Common.{Some, None, Bool, true, false, cond, is_some, Result, Ok, Err}
+use Rattle.std.proofs.Common.{Option, Some, None, Bool, true, false, cond, is_some, Result, Ok, Err}
 use Rattle.std.proofs.Common.{refl, sym, ap, ap₂, ◌∙◌, arith}
 use Rattle.std.specs.Cmp.{nat_cmp_total}
 use Rattle.std.specs.FinMap as map
@@ -15,8 +15,9 @@ use Rattle.sg_store.specs.Laws.{RemappingTakesWhatIsNeeded, UnmapsEachAddress, U
 use Rattle.sg_target.specs.Checks.{checked_cdb}
 use Rattle.sg_target.specs.Effect.{Effect, no_space}
 use Rattle.sg_target.specs.ProvisioningCommands.{changed_in_turn}
-use Rattle.sg_target.specs.Refusal.{checked_next, when_sound}
+use Rattle.sg_target.specs.Refusal.{checked_next, first_some, when_sound}
 use Rattle.sg_target.specs.Semantics.{effect_of}
+use Rattle.sg_target.specs.BlockCommands.{miscompare}
 use Rattle.sg_target.specs.State.{State}
 use Rattle.sg_target.specs.declared.operation.Operation.{Operation}
 use Rattle.sg_target.specs.declared.operation.Operation.TheVariants as operation
@@ -47,6 +48,16 @@ pub ruleset room = (space-left)
 fits : (disk : Disk) → no_space disk ≡ None → len disk.contents ≤ disk.pool
 unfolding no_space
 fits disk e = grind (arith, nat_tests)
+
+-- a COMPARE AND WRITE that finds no refusal has space
+last-none : (found : Option Refusal) → first_some (found ∷ []) ≡ None → found ≡ None
+last-none None e = refl
+last-none (Some refusal) e = cc
+
+exchange-none : (difference : Option ℕ) (found : Option Refusal)
+    → first_some (miscompare difference ∷ found ∷ []) ≡ None → found ≡ None
+exchange-none None found e = last-none found e
+exchange-none (Some offset) found e = cc
 
 -- ---- Unmapping takes no block of the pool
 
@@ -114,6 +125,8 @@ module _ (law : RemappingTakesWhatIsNeeded) (addresses : UnmapsEachAddress)
   operation-keeps : (state : State) (i : ℕ) (o : Operation) → len state.disk.contents ≤ state.disk.pool
       → KeepsSpace (effect_of state i o)
   operation-keeps state i (operation.Write out) h = fits _
+  operation-keeps state i (operation.CompareAndWrite exchange) h =
+      λ none. fits _ (exchange-none _ _ none)
   operation-keeps state i (operation.Fill extent block) h = fits _
   operation-keeps state i (operation.Anchor extents) h = fits _
   operation-keeps state i (operation.AnchorExtent extent) h = fits _

@@ -1,11 +1,17 @@
 -- The effects of the block commands (SBC-3, 5).
-use Rattle.std.specs.Prelude.{ℕ, ◌*◌, List}
+use Rattle.std.specs.Prelude.{ℕ, ◌*◌, ◌%◌, List, [], ◌∷◌, drop, Option}
+use Rattle.std.specs.Option.{option_map}
 use Rattle.sg_wire.specs.FirstBytes.{first_bytes}
 use Rattle.sg_wire.specs.declared.extent.Extent.{Extent}
+use Rattle.sg_store.specs.Comparison.{first_difference, repeated}
 use Rattle.sg_store.specs.Disk.{blocks, written}
 use Rattle.sg_pages.specs.BlockDescriptor.{logical_block_length}
-use Rattle.sg_target.specs.Effect.{Effect, returning, storing}
+use Rattle.sg_target.specs.Effect.{Effect, no_effect, returning, storing}
+use Rattle.sg_target.specs.Refusal.{first_some}
 use Rattle.sg_target.specs.State.{State}
+use Rattle.sg_target.specs.declared.refusal.Reason.TheVariants.{Miscompare}
+use Rattle.sg_target.specs.declared.refusal.Refusal.{Refusal}
+use Rattle.sg_target.specs.declared.refusal.Refusal.TheVariants.{CheckCondition}
 
 -- READ returns the bytes of its blocks.
 abbrev pub reading : State → Extent → Effect
@@ -29,3 +35,51 @@ blocks_out extent data_out =
 abbrev pub writing : State → BlocksOutFields → Effect
 writing state out =
     storing state (written state.disk.contents out.extent.lba out.extent.count out.bytes)
+
+-- ---- Comparing
+
+-- Blocks differ from other bytes: the refusal has the offset of the first byte that differs.
+abbrev pub miscompare : Option ℕ → Option Refusal
+miscompare = option_map (λ offset. CheckCondition (Miscompare offset))
+
+abbrev pub blocks_at : State → Extent → List ℕ
+blocks_at state extent = blocks state.disk.contents extent.lba extent.count
+
+-- VERIFY compares its blocks with these bytes (SBC-3, 5.29).
+-- Choice (SBC-3, 5.29): INFORMATION of a VERIFY may be an address.
+abbrev pub comparing : State → BlocksOutFields → Effect
+comparing state out =
+    record (no_effect state)
+    { found = miscompare (first_difference (blocks_at state out.extent) out.bytes) }
+
+-- It compares each of its blocks with one block. The offset is the offset in that block.
+abbrev pub comparing_each : State → Extent → (block : List ℕ) → Effect
+comparing_each state extent block =
+    let difference = first_difference (blocks_at state extent) (repeated extent.count block) in
+    record (no_effect state)
+    { found = miscompare (option_map (λ offset. offset % logical_block_length) difference) }
+
+-- Blocks, the bytes that they are expected to have, and the bytes that replace them.
+pub record ExchangeFields : Type 0 where
+  pub extent : Extent
+  pub expected : List ℕ
+  pub replacement : List ℕ
+
+-- The first bytes of data-out are expected, and the others replace them.
+abbrev pub exchange_out : Extent → (data_out : List ℕ) → ExchangeFields
+exchange_out extent data_out = record {
+  extent = extent;
+  expected = first_bytes (bytes_of extent) data_out;
+  replacement = drop (bytes_of extent) data_out;
+}
+
+-- COMPARE AND WRITE replaces its blocks if they are as expected, and if the pool has space for them
+-- (SBC-3, 5.2).
+-- Choice (SBC-3, 5.2): a lack of space may be found before a difference.
+abbrev pub exchanging : State → ExchangeFields → Effect
+exchanging state exchange =
+    let extent = exchange.extent in
+    let write =
+    storing state (written state.disk.contents extent.lba extent.count exchange.replacement) in
+    let difference = first_difference (blocks_at state extent) exchange.expected in
+    record write { found = first_some (miscompare difference ∷ write.found ∷ []) }

@@ -1,6 +1,6 @@
 -- The checks that a command passes before it is executed, in their order. They know commands by
 -- their demands, and operations by their use of the medium.
-use Rattle.std.specs.Prelude.{Bool, ◌&&◌}
+use Rattle.std.specs.Prelude.{Bool, ◌&&◌, ◌||◌, not}
 use Rattle.std.specs.Prelude.{ℕ, ◌+◌, max, List, [], ◌∷◌, length, map, Option, Some, None, Result}
 use Rattle.std.specs.Prelude.{Ok, Err, nat_lt, if◌then◌else◌}
 use Rattle.std.specs.Option.{option_map}
@@ -9,19 +9,22 @@ use Rattle.sg_wire.specs.CdbDecoding.{class_in, command_in, is_blocked_in}
 use Rattle.sg_wire.specs.declared.command.Command.{Command}
 use Rattle.sg_wire.specs.declared.command.CdbFault.{CdbFault}
 use Rattle.sg_wire.specs.declared.command.CdbFault.TheVariants.{Empty, Opcode, Short, Field}
+use Rattle.sg_wire.specs.Profile.{rules_of}
 use Rattle.sg_wire.specs.declared.extent.Extent.{Extent}
-use Rattle.sg_pages.specs.ModePage.{ModeState, write_protected}
+use Rattle.sg_wire.specs.declared.profile.Rules.{Rules}
+use Rattle.sg_pages.specs.ModePage.{write_protected}
 use Rattle.sg_units.specs.Access.{allows}
 use Rattle.sg_units.specs.Attentions.{oldest}
 use Rattle.sg_target.specs.Effect.{Effect}
-use Rattle.sg_target.specs.Demands.{Demands, demands}
+use Rattle.sg_target.specs.Demands.{DataOutNeed, Demands, demands}
 use Rattle.sg_target.specs.Refusal.{checked_next, first_some, refusal_for, unless_refused}
-use Rattle.sg_target.specs.Semantics.{MediumUse, effect_of, medium_use}
+use Rattle.sg_target.specs.Semantics.{MediumUse, effect_of, medium_use, names_some_block}
 use Rattle.sg_target.specs.State.{State, config_of, profile_of}
 use Rattle.sg_target.specs.declared.operation.Operation.{Operation}
 use Rattle.sg_target.specs.declared.refusal.Reason.TheVariants.{InvalidFieldInCdb}
 use Rattle.sg_target.specs.declared.refusal.Reason.TheVariants.{UnitAttention as Attention}
-use Rattle.sg_target.specs.declared.refusal.Reason.TheVariants.{DataPhaseError, LbaOutOfRange}
+use Rattle.sg_target.specs.declared.refusal.Reason.{Reason}
+use Rattle.sg_target.specs.declared.refusal.Reason.TheVariants.{LbaOutOfRange, WriteProtected}
 use Rattle.sg_target.specs.declared.refusal.Reason.TheVariants.{SoftwareWriteProtected}
 use Rattle.sg_target.specs.declared.refusal.Refusal.{Refusal}
 use Rattle.sg_target.specs.declared.refusal.Refusal.TheVariants.{Conflict, CheckCondition}
@@ -87,17 +90,17 @@ unsupported_value unsupported =
 -- There is less data-out than the command needs. More is ignored.
 -- Choice (SAM-5, data-out): data-out of another length has no answer there.
 -- Departure (SAM-5, 5.3.3): a conflict of PERSISTENT RESERVE OUT comes first there.
-abbrev pub short_data_out : (data_out_length : Option ℕ) → List ℕ → Option Refusal
+abbrev pub short_data_out : Option DataOutNeed → List ℕ → Option Refusal
 short_data_out None data_out = None
-short_data_out (Some n) data_out =
-    if nat_lt (length data_out) n then Some (CheckCondition DataPhaseError) else None
+short_data_out (Some need) data_out =
+    if nat_lt (length data_out) need.bytes then Some (CheckCondition need.if_short) else None
 
 -- The operation that a command asks for, or the first refusal. A value, too little data-out, or the
 -- named page or parameter list can be the reason.
 abbrev pub requested : Demands → (data_out : List ℕ) → Result Operation Refusal
 requested d data_out =
     unless_refused
-    (first_some (unsupported_value d.unsupported ∷ short_data_out d.data_out_length data_out ∷ []))
+    (first_some (unsupported_value d.unsupported ∷ short_data_out d.data_out data_out ∷ []))
     d.operation
 
 -- ---- Checks of an operation
@@ -115,18 +118,27 @@ past_capacity capacity extent =
 unfoldable pub out_of_range : (capacity : ℕ) → List Extent → Option Refusal
 out_of_range capacity extents = first_some (map (past_capacity capacity) extents)
 
--- SWP of the Control mode page is set (SPC-4, 7.5), and the command writes to the medium, even if
--- it names no block.
--- Departure (SPC-4, 7.5): a command that names no block ends with GOOD there.
-unfoldable pub write_protection : ModeState → (writes_medium : Bool) → Option Refusal
-write_protection modes writes_medium =
-    if write_protected modes && writes_medium
-    then Some (CheckCondition SoftwareWriteProtected)
+-- A block is written. On a base disk a command that names no block counts, too.
+abbrev pub writes_some : Rules → MediumUse → Bool
+writes_some rules medium =
+    medium.writes && (not rules.protects_only_writes || names_some_block medium.extents)
+
+-- WRITE PROTECTED, or LOGICAL UNIT SOFTWARE WRITE PROTECTED on a base disk.
+abbrev pub protection_reason : Rules → Reason
+protection_reason rules =
+    if rules.protects_only_writes then WriteProtected else SoftwareWriteProtected
+
+-- SWP of the Control mode page is set (SPC-4, 7.5), and the command writes to the medium.
+unfoldable pub write_protection : State → MediumUse → Option Refusal
+write_protection state medium =
+    let rules = rules_of (profile_of state) in
+    if write_protected state.modes && writes_some rules medium
+    then Some (CheckCondition (protection_reason rules))
     else None
 
 abbrev pub medium_checks : State → MediumUse → List (Option Refusal)
 medium_checks state medium =
-    out_of_range state.disk.capacity medium.extents ∷ write_protection state.modes medium.writes ∷ []
+    out_of_range state.disk.capacity medium.extents ∷ write_protection state medium ∷ []
 
 abbrev pub checked_operation : State → Operation → Result Operation Refusal
 checked_operation state operation =

@@ -1,6 +1,6 @@
 -- Each command's demands on its fields and its data-out, and the operation that it asks for. The
 -- demands depend on the disk only by its configuration, which never changes.
-use Rattle.std.specs.Prelude.{ℕ, ◌+◌, ◌==◌, List, Bool, true, false, ◌&&◌, not, Option, Some, None}
+use Rattle.std.specs.Prelude.{ℕ, ◌+◌, ◌*◌, ◌==◌, length, List, Bool, true, false, ◌&&◌, not, Option, Some, None}
 use Rattle.std.specs.Prelude.{Result, Ok, nat_le, nat_lt, if◌then◌else◌, ok_or}
 use Rattle.sg_wire.specs.declared.command.Command.{Command}
 use Rattle.sg_wire.specs.declared.command.Command.TheVariants as command
@@ -18,12 +18,13 @@ use Rattle.sg_wire.specs.declared.command.report.ReportLuns.{ReportLuns}
 use Rattle.sg_wire.specs.declared.command.report.ReportSupportedOperationCodes.{ReportSupportedOperationCodes}
 use Rattle.sg_wire.specs.declared.profile.Profile.{Profile}
 use Rattle.sg_wire.specs.declared.command.reservation.PersistentReserveOut.{PersistentReserveOut}
+use Rattle.sg_wire.specs.declared.command.verify.CompareAndWrite.{CompareAndWrite}
 use Rattle.sg_wire.specs.declared.command.verify.ByteCheck.{ByteCheck}
 use Rattle.sg_wire.specs.declared.command.verify.ByteCheck.TheVariants.{Nothing, DataOut}
 use Rattle.sg_wire.specs.declared.command.verify.ByteCheck.TheVariants.{Reserved, OneBlock}
 use Rattle.sg_wire.specs.FirstBytes.{first_bytes}
 use Rattle.sg_wire.specs.declared.extent.Extent.{Extent}
-use Rattle.sg_target.specs.BlockCommands.{blocks_out, bytes_of}
+use Rattle.sg_target.specs.BlockCommands.{blocks_out, bytes_of, exchange_out}
 use Rattle.sg_pages.specs.BlockDescriptor.{logical_block_length}
 use Rattle.sg_pages.specs.Reports.{lists_unit, log_page_with}
 use Rattle.sg_pages.specs.declared.reports.Report.{Report}
@@ -36,16 +37,29 @@ use Rattle.sg_target.specs.Refusal.{or_refused, when_sound}
 use Rattle.sg_target.specs.ReservationCommands.{fields_out, bad_type}
 use Rattle.sg_target.specs.declared.operation.Operation.{Operation}
 use Rattle.sg_target.specs.declared.operation.Operation.TheVariants as operation
-use Rattle.sg_target.specs.declared.refusal.Reason.TheVariants.{InvalidFieldInCdb}
+use Rattle.sg_target.specs.declared.refusal.Reason.{Reason}
+use Rattle.sg_target.specs.declared.refusal.Reason.TheVariants.{DataPhaseError, InvalidFieldInCdb}
+use Rattle.sg_target.specs.declared.refusal.Reason.TheVariants.{InvalidInformationUnit}
 use Rattle.sg_target.specs.declared.refusal.Refusal.{Refusal}
 use Rattle.sg_target.specs.declared.refusal.Refusal.TheVariants.{CheckCondition}
+
+-- The number of bytes of data-out that a command needs, and why it is refused if there are fewer.
+pub record DataOutNeed : Type 0 where
+  pub bytes : ℕ
+  pub if_short : Reason
+
+-- INVALID FIELD IN COMMAND INFORMATION UNIT, or DATA PHASE ERROR on a base disk.
+abbrev pub short_reason : ConfigFields → Reason
+short_reason config =
+    if (rules_of config.identity.profile).short_data_out_is_illegal then InvalidInformationUnit
+    else DataPhaseError
 
 -- One row.
 pub record Demands : Type 0 where
   -- the byte of the first field whose value the disk does not support
   pub unsupported : Option ℕ
-  -- the number of bytes of data-out that the command needs, if it takes any
-  pub data_out_length : Option ℕ
+  -- the data-out that the command needs, if it takes any
+  pub data_out : Option DataOutNeed
   -- the operation that it asks for, or what is wrong with the page or the parameter list that it
   -- names
   pub operation : Result Operation Refusal
@@ -53,11 +67,15 @@ pub record Demands : Type 0 where
 -- A command without data-out.
 abbrev pub takes_no_data : (unsupported : Option ℕ) → Result Operation Refusal → Demands
 takes_no_data unsupported operation =
-    record { unsupported = unsupported; data_out_length = None; operation = operation }
+    record { unsupported = unsupported; data_out = None; operation = operation }
 
-abbrev pub takes : (bytes : ℕ) → (unsupported : Option ℕ) → Result Operation Refusal → Demands
-takes bytes unsupported operation =
-    record { unsupported = unsupported; data_out_length = Some bytes; operation = operation }
+abbrev pub need : ConfigFields → (bytes : ℕ) → DataOutNeed
+need config bytes = record { bytes = bytes; if_short = short_reason config }
+
+abbrev pub takes : ConfigFields → (bytes : ℕ) → (unsupported : Option ℕ) → Result Operation Refusal
+    → Demands
+takes config bytes unsupported operation =
+    record { unsupported = unsupported; data_out = Some (need config bytes); operation = operation }
 
 -- The demands of a command whose values are all supported.
 abbrev pub asks : Operation → Demands
@@ -111,9 +129,10 @@ abbrev pub bad_self_test : SendDiagnostic → Option ℕ
 bad_self_test c =
     if c.code == 0 then (if c.list_length == 0 then None else Some 3) else Some 1
 
-abbrev pub mode_select : CdbWidth → (pf sp : Bool) (list_length : ℕ) (data_out : List ℕ) → Demands
-mode_select width pf sp n data_out =
-    takes n (bad_page_format pf) (Ok (operation.ChangeModes width sp (first_bytes n data_out)))
+abbrev pub mode_select : ConfigFields → CdbWidth → (pf sp : Bool) (list_length : ℕ)
+    (data_out : List ℕ) → Demands
+mode_select config width pf sp n data_out =
+    takes config n (bad_page_format pf) (Ok (operation.ChangeModes width sp (first_bytes n data_out)))
 
 -- MODE SENSE asks for pages of a disk of some blocks.
 abbrev pub mode_sense : CdbWidth → (llbaa : Bool) → PageRequest → (blocks allocation_length : ℕ)
@@ -121,9 +140,9 @@ abbrev pub mode_sense : CdbWidth → (llbaa : Bool) → PageRequest → (blocks 
 mode_sense width llbaa page blocks n =
     operation.ReturnModes (record { width = width; llbaa = llbaa; page = page; blocks = blocks }) n
 
-abbrev pub reserve_out : PersistentReserveOut → (data_out : List ℕ) → Demands
-reserve_out c data_out =
-    takes c.list_length (bad_type c.action c.scope_type)
+abbrev pub reserve_out : ConfigFields → PersistentReserveOut → (data_out : List ℕ) → Demands
+reserve_out config c data_out =
+    takes config c.list_length (bad_type c.action c.scope_type)
     (when_sound (fields_out (first_bytes c.list_length data_out))
     (operation.ChangeReservations c.action c.scope_type))
 
@@ -142,9 +161,9 @@ abbrev pub read : Extent → (unsupported : Option ℕ) → Demands
 read extent unsupported = takes_no_data unsupported (Ok (operation.Read extent))
 
 -- WRITE takes the bytes of its blocks.
-abbrev pub write : Extent → (unsupported : Option ℕ) → (data_out : List ℕ) → Demands
-write extent unsupported data_out =
-    takes (bytes_of extent) unsupported (Ok (operation.Write (blocks_out extent data_out)))
+abbrev pub write : ConfigFields → Extent → (unsupported : Option ℕ) → (data_out : List ℕ) → Demands
+write config extent unsupported data_out =
+    takes config (bytes_of extent) unsupported (Ok (operation.Write (blocks_out extent data_out)))
 
 -- WRITE AND VERIFY compares its blocks with their own data-out, or with nothing, so the verification
 -- passes: BYTCHK, in byte 1, asks for no other comparison.
@@ -157,7 +176,40 @@ bad_comparison OneBlock otherwise = Some 1
 abbrev pub write_and_verify : ConfigFields → ByteCheck → Extent → (byte : ℕ) → (data_out : List ℕ)
     → Demands
 write_and_verify config check extent byte data_out =
-    write extent (bad_comparison check (too_long config extent.count byte)) data_out
+    write config extent (bad_comparison check (too_long config extent.count byte)) data_out
+
+-- VERIFY compares its blocks with data-out, block by block, or with one block of data-out, or with
+-- nothing. BYTCHK, in byte 1, asks for no other comparison. Without a block there is nothing to compare.
+abbrev pub verify_only : ConfigFields → Extent → (byte : ℕ) → Demands
+verify_only config extent byte =
+    takes_no_data (too_long config extent.count byte) (Ok (operation.Verify extent))
+
+abbrev pub verify_each : ConfigFields → Extent → (byte : ℕ) → (data_out : List ℕ) → Demands
+verify_each config extent byte data_out =
+    if extent.count == 0 then verify_only config extent byte
+    else takes config logical_block_length (too_long config extent.count byte)
+    (Ok (operation.CompareEach extent (block_out data_out)))
+
+abbrev pub verify : ConfigFields → ByteCheck → Extent → (byte : ℕ) → (data_out : List ℕ) → Demands
+verify config Nothing extent byte data_out = verify_only config extent byte
+verify config DataOut extent byte data_out =
+    takes config (bytes_of extent) (too_long config extent.count byte)
+    (Ok (operation.Compare (blocks_out extent data_out)))
+verify config Reserved extent byte data_out = takes_no_data (Some 1) (Ok (operation.Verify extent))
+verify config OneBlock extent byte data_out = verify_each config extent byte data_out
+
+-- COMPARE AND WRITE takes the blocks to compare, then as many to write, and no other number of bytes.
+-- The byte is where NUMBER OF LOGICAL BLOCKS is.
+-- Choice (SBC-3, 5.2): data-out of another length may be answered otherwise.
+abbrev pub wrong_length : Extent → (data_out : List ℕ) → Option ℕ
+wrong_length extent data_out =
+    if length data_out == 2 * bytes_of extent then None else Some 13
+
+abbrev pub compare_and_write : CompareAndWrite → (data_out : List ℕ) → Demands
+compare_and_write c data_out =
+    let extent = extent c.lba c.count in
+    takes_no_data (wrong_length extent data_out)
+    (Ok (operation.CompareAndWrite (exchange_out extent data_out)))
 
 -- A count of 0 reaches to the last block, if the profile says so: then the first block is looked up,
 -- as those after it are on the disk if it is.
@@ -209,7 +261,7 @@ unmap_or_fill anchor unmap extent block =
 abbrev pub write_same : ConfigFields → (anchor unmap : Bool) → Extent → (byte : ℕ)
     → (data_out : List ℕ) → Demands
 write_same config anchor unmap extent byte data_out =
-    takes logical_block_length (bad_anchor anchor unmap (bad_count config extent.count byte))
+    takes config logical_block_length (bad_anchor anchor unmap (bad_count config extent.count byte))
     (Ok (unmap_or_fill anchor unmap extent (block_out data_out)))
 
 -- UNMAP takes a list of extents, which it unmaps or anchors.
@@ -217,9 +269,9 @@ abbrev pub unmap_extents : (anchor : Bool) → List Extent → Operation
 unmap_extents anchor extents =
     if anchor then operation.Anchor extents else operation.Unmap extents
 
-abbrev pub unmap : Unmap → (data_out : List ℕ) → Demands
-unmap c data_out =
-    takes c.list_length None
+abbrev pub unmap : ConfigFields → Unmap → (data_out : List ℕ) → Demands
+unmap config c data_out =
+    takes config c.list_length None
     (when_sound (listed_extents (first_bytes c.list_length data_out)) (unmap_extents c.anchor))
 
 -- ---- The row of each command, on a disk of a configuration, with its data-out
@@ -231,8 +283,8 @@ demands config command.TestUnitReady data_out = asks operation.Nothing
 demands config (command.RequestSense c) data_out =
     asks (operation.ReturnSense (format_of c.desc) c.allocation_length)
 demands config (command.Inquiry c) data_out = inquiry config c
-demands config (command.ModeSelect6 c) data_out = mode_select Six c.pf c.sp c.list_length data_out
-demands config (command.ModeSelect10 c) data_out = mode_select Ten c.pf c.sp c.list_length data_out
+demands config (command.ModeSelect6 c) data_out = mode_select config Six c.pf c.sp c.list_length data_out
+demands config (command.ModeSelect10 c) data_out = mode_select config Ten c.pf c.sp c.list_length data_out
 demands config (command.ModeSense6 c) data_out =
     asks (mode_sense Six false c.page config.blocks c.allocation_length)
 demands config (command.ModeSense10 c) data_out =
@@ -246,6 +298,7 @@ demands config (command.ReportSupportedTaskManagementFunctions c) data_out =
     c.allocation_length
 demands config (command.SendDiagnostic c) data_out =
     takes_no_data (bad_self_test c) (Ok operation.Nothing)
+demands config (command.CompareAndWrite c) data_out = compare_and_write c data_out
 demands config (command.PreFetch10 c) data_out =
     asks (operation.PreFetch (reached config c.lba c.count))
 demands config (command.PreFetch16 c) data_out =
@@ -257,13 +310,13 @@ demands config (command.Read12 c) data_out =
     read (extent c.lba c.count) (too_long config c.count 6)
 demands config (command.Read16 c) data_out =
     read (extent c.lba c.count) (too_long config c.count 10)
-demands config (command.Write6 short) data_out = write (extent short.0 short.1) None data_out
+demands config (command.Write6 short) data_out = write config (extent short.0 short.1) None data_out
 demands config (command.Write10 c) data_out =
-    write (extent c.lba c.count) (too_long config c.count 7) data_out
+    write config (extent c.lba c.count) (too_long config c.count 7) data_out
 demands config (command.Write12 c) data_out =
-    write (extent c.lba c.count) (too_long config c.count 6) data_out
+    write config (extent c.lba c.count) (too_long config c.count 6) data_out
 demands config (command.Write16 c) data_out =
-    write (extent c.lba c.count) (too_long config c.count 10) data_out
+    write config (extent c.lba c.count) (too_long config c.count 10) data_out
 demands config command.ReadCapacity10 data_out = asks operation.ReturnCapacity10
 demands config (command.ReadCapacity16 c) data_out =
     asks (operation.ReturnCapacity16 c.allocation_length)
@@ -277,6 +330,12 @@ demands config (command.SynchronizeCache10 c) data_out =
     asks (operation.Synchronize (reached config c.lba c.count))
 demands config (command.SynchronizeCache16 c) data_out =
     asks (operation.Synchronize (reached config c.lba c.count))
+demands config (command.Verify10 c) data_out =
+    verify config c.byte_check (extent c.extent.lba c.extent.count) 7 data_out
+demands config (command.Verify12 c) data_out =
+    verify config c.byte_check (extent c.extent.lba c.extent.count) 6 data_out
+demands config (command.Verify16 c) data_out =
+    verify config c.byte_check (extent c.extent.lba c.extent.count) 10 data_out
 demands config (command.WriteAndVerify10 c) data_out =
     write_and_verify config c.byte_check (extent c.extent.lba c.extent.count) 7 data_out
 demands config (command.WriteAndVerify12 c) data_out =
@@ -288,9 +347,9 @@ demands config (command.WriteSame10 c) data_out =
     write_same config c.anchor c.unmap (extent c.lba c.count) 7 data_out
 demands config (command.WriteSame16 c) data_out =
     write_same config c.anchor c.unmap (extent c.lba c.count) 10 data_out
-demands config (command.Unmap c) data_out = unmap c data_out
+demands config (command.Unmap c) data_out = unmap config c data_out
 demands config (command.GetLbaStatus c) data_out =
     asks (operation.ReturnLbaStatus c.start c.allocation_length)
 demands config (command.PersistentReserveIn c) data_out =
     asks (operation.ReturnReservations c.action c.allocation_length)
-demands config (command.PersistentReserveOut c) data_out = reserve_out c data_out
+demands config (command.PersistentReserveOut c) data_out = reserve_out config c data_out

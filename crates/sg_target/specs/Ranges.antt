@@ -2,14 +2,18 @@
 use Rattle.std.specs.Prelude.{ℕ, List, [], ◌∷◌, ◌++◌, Bool, false, true, map, Result, Ok, Err}
 use Rattle.std.specs.Prelude.{if◌then◌else◌, is_none}
 use Rattle.sg_wire.specs.declared.extent.Extent.{Extent}
+use Rattle.sg_store.specs.Comparison.{first_difference}
 use Rattle.sg_store.specs.Disk.{Contents, Disk, anchored, unmapped}
 use Rattle.sg_store.specs.LbaStatus.{covered, lba_status}
 use Rattle.sg_target.specs.Armed.{Armed, attempt_of}
+use Rattle.sg_target.specs.BlockCommands.{ExchangeFields, blocks_at}
 use Rattle.sg_target.specs.Effect.{no_space}
 use Rattle.sg_target.specs.ProvisioningCommands.{Change, changed_in_turn}
 use Rattle.sg_target.specs.State.{State}
 use Rattle.sg_target.specs.declared.operation.Operation.{Operation}
 use Rattle.sg_target.specs.declared.operation.Operation.TheVariants.{Anchor, AnchorExtent, Fill, Read}
+use Rattle.sg_target.specs.declared.operation.Operation.TheVariants.{Compare, CompareAndWrite}
+use Rattle.sg_target.specs.declared.operation.Operation.TheVariants.{CompareEach}
 use Rattle.sg_target.specs.declared.operation.Operation.TheVariants.{ReturnLbaStatus, Unmap}
 use Rattle.sg_target.specs.declared.operation.Operation.TheVariants.{UnmapExtent, Write}
 use Rattle.sg_target.specs.declared.refusal.Refusal.{Refusal}
@@ -56,10 +60,20 @@ status_ranges disk start =
     }
     ∷ []
 
+-- COMPARE AND WRITE goes over its blocks again if they are as expected.
+abbrev pub exchange_ranges : State → ExchangeFields → List Range
+exchange_ranges state exchange =
+    let range = range state.disk.contents exchange.extent in
+    let difference = first_difference (blocks_at state exchange.extent) exchange.expected in
+    range ∷ (if is_none difference then range ∷ [] else [])
+
 -- The ranges of an operation, in order. An operation that is not named here goes over none.
 abbrev pub ranges_of : State → Operation → List Range
 ranges_of state (Read extent) = range state.disk.contents extent ∷ []
 ranges_of state (Write out) = range state.disk.contents out.extent ∷ []
+ranges_of state (Compare out) = range state.disk.contents out.extent ∷ []
+ranges_of state (CompareEach extent block) = range state.disk.contents extent ∷ []
+ranges_of state (CompareAndWrite exchange) = exchange_ranges state exchange
 ranges_of state (Fill extent block) = range state.disk.contents extent ∷ []
 ranges_of state (Unmap extents) = ranges_in_turn unmapped state.disk.contents extents
 ranges_of state (UnmapExtent extent) = ranges_in_turn unmapped state.disk.contents (extent ∷ [])

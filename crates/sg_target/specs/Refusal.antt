@@ -3,7 +3,7 @@ use Rattle.std.specs.Prelude.{ℕ, List, [], ◌∷◌, Option, Some, None, Resu
 use Rattle.std.specs.Result.{result_map_both}
 use Rattle.sg_wire.specs.SenseData.{SenseFields}
 use Rattle.sg_wire.specs.SenseKey.{no_sense, illegal_request, unit_attention, data_protect}
-use Rattle.sg_wire.specs.SenseKey.{aborted_command}
+use Rattle.sg_wire.specs.SenseKey.{aborted_command, miscompare}
 use Rattle.sg_wire.specs.declared.command.CdbFault.{CdbFault}
 use Rattle.sg_wire.specs.declared.command.CdbFault.TheVariants.{Empty, Opcode, Short, Field}
 use Rattle.sg_faults.specs.SenseCode.{key_code}
@@ -21,7 +21,8 @@ use Rattle.sg_target.specs.declared.refusal.Reason.TheVariants.{InsufficientRegi
 use Rattle.sg_target.specs.declared.refusal.Reason.TheVariants.{InsufficientResources}
 use Rattle.sg_target.specs.declared.refusal.Reason.TheVariants.{InvalidRelease, LbaOutOfRange}
 use Rattle.sg_target.specs.declared.refusal.Reason.TheVariants.{SpaceAllocationFailed, Fault}
-use Rattle.sg_target.specs.declared.refusal.Reason.TheVariants.{SoftwareWriteProtected}
+use Rattle.sg_target.specs.declared.refusal.Reason.TheVariants.{SoftwareWriteProtected, WriteProtected}
+use Rattle.sg_target.specs.declared.refusal.Reason.TheVariants.{InvalidInformationUnit, Miscompare}
 use Rattle.sg_target.specs.declared.refusal.Refusal.{Refusal}
 use Rattle.sg_target.specs.declared.refusal.Refusal.TheVariants.{CheckCondition}
 
@@ -36,7 +37,8 @@ fault_sense code = plain_sense (key_code code.key) code.asc code.ascq
 
 -- An invalid field has a pointer to its byte in the CDB or in the parameter list (SPC-4,
 -- 4.5.2.4.2). A logical block address out of range is INFORMATION (SPC-4, 4.5.2.2).
--- Departure (SPC-4, 7.5): 27h/00h, WRITE PROTECTED, there.
+-- A difference has the offset of its byte as INFORMATION (SBC-3, 5.2).
+-- Departure (SPC-4, 7.5): SoftwareWriteProtected, of a base disk, is 27h/00h, WRITE PROTECTED, there.
 -- Choice (SPC-4, 4.5.2.2): INFORMATION may be left out.
 abbrev pub sense_of : Reason → SenseFields
 sense_of (Attention condition) = plain_sense unit_attention (code_of condition).0 (code_of condition).1
@@ -44,6 +46,7 @@ sense_of InvalidCommandOperationCode = plain_sense illegal_request 0x20 0x00
 sense_of (InvalidFieldInCdb byte) =
     record (plain_sense illegal_request 0x24 0x00)
     { pointer = Some (record { in_command = true; byte = byte }) }
+sense_of InvalidInformationUnit = plain_sense illegal_request 0x0E 0x03
 sense_of DataPhaseError = plain_sense aborted_command 0x4B 0x00
 sense_of ParameterListLengthError = plain_sense illegal_request 0x1A 0x00
 sense_of (InvalidFieldInParameterList byte) =
@@ -53,8 +56,10 @@ sense_of InvalidRelease = plain_sense illegal_request 0x26 0x04
 sense_of InsufficientRegistrationResources = plain_sense illegal_request 0x55 0x04
 sense_of InsufficientResources = plain_sense illegal_request 0x55 0x03
 sense_of (LbaOutOfRange lba) = record (plain_sense illegal_request 0x21 0x00) { information = Some lba }
+sense_of WriteProtected = plain_sense data_protect 0x27 0x00
 sense_of SoftwareWriteProtected = plain_sense data_protect 0x27 0x02
 sense_of SpaceAllocationFailed = plain_sense data_protect 0x27 0x07
+sense_of (Miscompare offset) = record (plain_sense miscompare 0x1D 0x00) { information = Some offset }
 sense_of (Fault code first_bad) = record (fault_sense code) { information = first_bad }
 
 -- The sense data of REQUEST SENSE: the oldest unit attention, or NO SENSE.

@@ -1,7 +1,8 @@
 -- The meaning of each operation: the blocks that it names, and its effect.
-use Rattle.std.specs.Prelude.{ℕ, List, [], ◌∷◌, Bool, true, false, Result, Ok}
+use Rattle.std.specs.Prelude.{ℕ, List, [], ◌∷◌, Bool, true, false, nat_lt, Result, Ok}
+use Rattle.std.specs.List.{list_any}
 use Rattle.sg_wire.specs.declared.extent.Extent.{Extent}
-use Rattle.sg_target.specs.BlockCommands.{reading, writing}
+use Rattle.sg_target.specs.BlockCommands.{comparing, comparing_each, exchanging, reading, writing}
 use Rattle.sg_target.specs.Demands.{extent}
 use Rattle.sg_pages.specs.CapacityData.{capacity_10, capacity_16}
 use Rattle.sg_target.specs.Effect.{Effect, no_effect, returning, returning_up_to}
@@ -19,6 +20,8 @@ use Rattle.sg_target.specs.declared.operation.Operation.TheVariants.{ChangeModes
 use Rattle.sg_target.specs.declared.operation.Operation.TheVariants.{ReturnCapacity16, Read, Write}
 use Rattle.sg_target.specs.declared.operation.Operation.TheVariants.{Synchronize, Fill, Unmap}
 use Rattle.sg_target.specs.declared.operation.Operation.TheVariants.{MarkBad, PreFetch}
+use Rattle.sg_target.specs.declared.operation.Operation.TheVariants.{Verify, Compare, CompareEach}
+use Rattle.sg_target.specs.declared.operation.Operation.TheVariants.{CompareAndWrite}
 use Rattle.sg_target.specs.declared.operation.Operation.TheVariants.{ReturnLuns, ReturnReport}
 use Rattle.sg_target.specs.declared.operation.Operation.TheVariants.{UnmapExtent, ReturnLbaStatus}
 use Rattle.sg_target.specs.declared.operation.Operation.TheVariants.{Anchor, AnchorExtent}
@@ -49,6 +52,13 @@ reads_from extents = record (only_names extents) { reads = true }
 abbrev pub writes_to : List Extent → MediumUse
 writes_to extents = record (only_names extents) { writes = true }
 
+-- COMPARE AND WRITE does both.
+abbrev pub exchanges : List Extent → MediumUse
+exchanges extents = record (reads_from extents) { writes = true }
+
+abbrev pub names_some_block : List Extent → Bool
+names_some_block = list_any (λ (extent : Extent). nat_lt 0 extent.count)
+
 -- SYNCHRONIZE CACHE and PRE-FETCH have their extents checked, and GET LBA STATUS has to start at a block
 -- of the disk. They read no data: the last returns which blocks are mapped or anchored.
 abbrev pub medium_use : Operation → MediumUse
@@ -63,6 +73,10 @@ medium_use ReturnCapacity10 = uses_no_block
 medium_use (ReturnCapacity16 n) = uses_no_block
 medium_use (Read extent) = reads_from (extent ∷ [])
 medium_use (Write out) = writes_to (out.extent ∷ [])
+medium_use (Verify extent) = reads_from (extent ∷ [])
+medium_use (Compare out) = reads_from (out.extent ∷ [])
+medium_use (CompareEach extent block) = reads_from (extent ∷ [])
+medium_use (CompareAndWrite exchange) = exchanges (exchange.extent ∷ [])
 medium_use (PreFetch extent) = only_names (extent ∷ [])
 medium_use (Synchronize extent) = only_names (extent ∷ [])
 medium_use (Fill extent block) = writes_to (extent ∷ [])
@@ -78,7 +92,8 @@ medium_use (ChangeReservations action scope_type list) = uses_no_block
 -- ---- The effect
 
 -- The effect of an initiator's operation, or what is wrong with its page or its parameter list on a
--- disk in this state. SYNCHRONIZE CACHE and PRE-FETCH do nothing, because there is no cache.
+-- disk in this state. SYNCHRONIZE CACHE and PRE-FETCH do nothing, because there is no cache, and a
+-- VERIFY that compares nothing finds that its blocks can be read.
 -- `MarkBad` is WRITE LONG: it arms a fault (`Armed`), and leaves the state. `Fill` is a WRITE SAME
 -- that writes its block, and a WRITE SAME that unmaps or anchors is `UnmapExtent` or `AnchorExtent`.
 abbrev pub effect_of : State → (initiator : ℕ) → Operation → Result Effect Refusal
@@ -97,6 +112,10 @@ effect_of state i (ReturnCapacity16 n) =
     Ok (returning_up_to state n (capacity_16 state.disk.capacity))
 effect_of state i (Read extent) = Ok (reading state extent)
 effect_of state i (Write out) = Ok (writing state out)
+effect_of state i (Verify extent) = Ok (no_effect state)
+effect_of state i (Compare out) = Ok (comparing state out)
+effect_of state i (CompareEach extent block) = Ok (comparing_each state extent block)
+effect_of state i (CompareAndWrite exchange) = Ok (exchanging state exchange)
 effect_of state i (PreFetch extent) = Ok (no_effect state)
 effect_of state i (Synchronize extent) = Ok (no_effect state)
 effect_of state i (Fill extent block) = Ok (filling state extent block)

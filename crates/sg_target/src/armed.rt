@@ -49,8 +49,11 @@ impl<'a> Operation<'a> {
         match self {
             Operation::Unmap(extents) | Operation::Anchor(extents) => extents.to_list(),
             Operation::Read(blocks) => one_extent(blocks.extent),
-            Operation::Write(blocks) => one_extent(blocks.extent),
-            Operation::Fill { extent, .. }
+            Operation::Write(blocks) | Operation::Compare(blocks) => one_extent(blocks.extent),
+            Operation::CompareAndWrite(exchange) => one_extent(exchange.extent),
+            Operation::Verify(extent)
+            | Operation::CompareEach { extent, .. }
+            | Operation::Fill { extent, .. }
             | Operation::UnmapExtent(extent)
             | Operation::AnchorExtent(extent) => one_extent(*extent),
             Operation::MarkBad { lba, .. } => one_extent(one_block(*lba)),

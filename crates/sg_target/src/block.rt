@@ -7,8 +7,9 @@ ghost use Rattle.sg_wire.specs.Profile.{maximum_transfer_length};
 ghost use Rattle.sg_wire.specs.FirstBytes.{first_bytes};
 ghost use Rattle.sg_target.specs.Armed.{first_of};
 ghost use Rattle.sg_target.specs.BlockCommands.{blocks_out, bytes_of, reading, writing};
-ghost use Rattle.sg_target.specs.Checks.{requested, unsupported_value};
-ghost use Rattle.sg_target.specs.Demands.{extent, reached, read, too_long, write, write_and_verify};
+ghost use Rattle.sg_target.specs.Checks.{requested, short_data_out, unsupported_value};
+ghost use Rattle.sg_target.specs.Demands.{extent, need, reached, read, too_long, write};
+ghost use Rattle.sg_target.specs.Demands.{write_and_verify};
 ghost use Rattle.sg_target.specs.Charge.{TakesStep, cost_bounds};
 ghost use Rattle.sg_target.specs.Ranges.{range};
 ghost use Rattle.sg_target.specs.MadeReplies.{ReturnsData, executed_reply, refused_reply};
@@ -36,7 +37,11 @@ pub(crate) const LENGTH_AT_12: u16 = 6;
 pub(crate) const LENGTH_AT_16: u16 = 10;
 
 /// Refuses more blocks than the disk moves at once; TRANSFER LENGTH begins at the byte.
-fn check_transfer_length(config: &Config, extent: Extent, byte: u16) -> Result<(), Refusal>
+pub(crate) fn check_transfer_length(
+    config: &Config,
+    extent: Extent,
+    byte: u16,
+) -> Result<(), Refusal>
     ensures refused { IfErr result (λ refusal.
         unsupported_value (too_long config.now extent.count byte) ≡ Some refusal) }
     ensures passed { IfOk result (λ _. too_long config.now extent.count byte ≡ None) }
@@ -123,7 +128,7 @@ impl<S: Store> Target<S> {
 #[derive(Drop)]
 pub struct BlocksOut<'a> {
     pub(crate) extent: Extent,
-    bytes: &'a [u8],
+    pub(crate) bytes: &'a [u8],
 }
 
 impl<'a> Model for BlocksOut<'a> {
@@ -152,21 +157,35 @@ impl<'a> BlocksOut<'a> {
     }
 }
 
-/// Takes the bytes of blocks from data-out.
-fn take_blocks(extent: Extent, data_out: &[u8]) -> Result<Operation<'_>, Refusal>
-    requires { extent.count ≤ maximum_transfer_length }
-    ensures { result ≡ requested (write extent None data_out.now) data_out.now }
-{
-    let bytes = needed_data_out(data_out, byte_length(extent) as usize)?;
-    Ok(Operation::Write(BlocksOut { extent, bytes }))
+impl<'a> BlocksOut<'a> {
+    /// Takes the bytes of blocks from data-out.
+    pub(crate) fn take(
+        config: &Config,
+        extent: Extent,
+        data_out: &'a [u8],
+    ) -> Result<BlocksOut<'a>, Refusal>
+        requires { extent.count ≤ maximum_transfer_length }
+        ensures refused { IfErr result (λ refusal.
+            short_data_out (Some (need config.now (bytes_of extent))) data_out.now ≡ Some refusal) }
+        ensures passed { IfOk result (λ _.
+            short_data_out (Some (need config.now (bytes_of extent))) data_out.now ≡ None) }
+        ensures blocks { IfOk result (λ blocks. blocks ≡ blocks_out extent data_out.now) }
+    {
+        let bytes = needed_data_out(config, data_out, byte_length(extent) as usize)?;
+        Ok(BlocksOut { extent, bytes })
+    }
 }
 
 /// WRITE(6), whose layout names at most 256 blocks.
-pub(crate) fn check_write_6(extent: Extent, data_out: &[u8]) -> Result<Operation<'_>, Refusal>
+pub(crate) fn check_write_6<'a>(
+    config: &Config,
+    extent: Extent,
+    data_out: &'a [u8],
+) -> Result<Operation<'a>, Refusal>
     requires { extent.count ≤ maximum_transfer_length }
-    ensures { result ≡ requested (write extent None data_out.now) data_out.now }
+    ensures { result ≡ requested (write config.now extent None data_out.now) data_out.now }
 {
-    take_blocks(extent, data_out)
+    Ok(Operation::Write(BlocksOut::take(config, extent, data_out)?))
 }
 
 /// WRITE (10), (12) and (16); TRANSFER LENGTH begins at the byte.
@@ -177,10 +196,11 @@ pub(crate) fn check_write<'a>(
     data_out: &'a [u8],
 ) -> Result<Operation<'a>, Refusal>
     ensures { result
-        ≡ requested (write extent (too_long config.now extent.count byte) data_out.now) data_out.now }
+        ≡ requested (write config.now extent (too_long config.now extent.count byte) data_out.now)
+        data_out.now }
 {
     check_transfer_length(config, extent, byte)?;
-    take_blocks(extent, data_out)
+    Ok(Operation::Write(BlocksOut::take(config, extent, data_out)?))
 }
 
 /// A WRITE AND VERIFY, whose data-out is at most compared with the blocks that it has just replaced;

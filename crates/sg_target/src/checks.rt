@@ -1,9 +1,10 @@
 // The order of the checks that a command passes before it is executed.
-ghost use Rattle.std.specs.Prelude.{◌≡◌, Some, None, Ok, IfErr, IfOk, if◌then◌else◌};
+ghost use Rattle.std.specs.Prelude.{◌≡◌, Some, None, Ok, IfErr, IfOk, if◌then◌else◌, true};
 ghost use Rattle.sg_wire.specs.CdbDecoding.{command_in, is_blocked_in};
 ghost use Rattle.sg_units.specs.Attentions.{oldest};
 ghost use Rattle.sg_target.specs.Checks.{cdb_checks, checked_cdb, checked_operation};
-ghost use Rattle.sg_target.specs.Checks.{reservation_conflict};
+ghost use Rattle.sg_pages.specs.ModePage.{write_protected};
+ghost use Rattle.sg_target.specs.Checks.{reservation_conflict, write_protection};
 ghost use Rattle.sg_target.specs.Extents.{AreOnDisk};
 ghost use Rattle.sg_target.specs.Refusal.{first_some};
 ghost use Rattle.sg_target.specs.Semantics.{medium_use};
@@ -120,8 +121,27 @@ impl<S: Store> Target<S> {
             return Err(refusal);
         }
         if medium.writes && self.modes.write_protected() {
-            return Err(Refusal::CheckCondition(Reason::SoftwareWriteProtected));
+            self.check_protected(&operation)?;
         }
         Ok(operation)
+    }
+
+    /// Refuses an operation that writes to a disk whose SWP is set.
+    #[tactic(auto, unfolding(crate::specs::Checks::write_protection))]
+    fn check_protected(&self, operation: &Operation<'_>) -> Result<(), Refusal>
+        requires protected { write_protected self.now.state.modes ≡ true }
+        requires writes { (medium_use operation.now).writes ≡ true }
+        ensures refused { IfErr result (λ refusal.
+            write_protection self.now.state (medium_use operation.now) ≡ Some refusal) }
+        ensures passed { IfOk result (λ _.
+            write_protection self.now.state (medium_use operation.now) ≡ None) }
+    {
+        if !self.config.rules().protects_only_writes {
+            return Err(Refusal::CheckCondition(Reason::SoftwareWriteProtected));
+        }
+        if operation.names_some_block() {
+            return Err(Refusal::CheckCondition(Reason::WriteProtected));
+        }
+        Ok(())
     }
 }

@@ -27,6 +27,7 @@ mod reservation;
 mod room;
 mod run;
 mod target;
+mod verify;
 mod write_long;
 
 pub use call::Call;

@@ -7,6 +7,7 @@ ghost use Rattle.sg_target.specs.Charge.{TakesStep, cost_bounds, step_by};
 ghost use Rattle.sg_target.specs.ModeCommands.{attentions_after, select_refusal, sense_refusal};
 ghost use Rattle.sg_target.specs.State.{IsWithinLimits};
 
+use crate::config::Config;
 use crate::data_out::needed_data_out;
 use crate::operation::Operation;
 use crate::refusal::{Reason, Refusal};
@@ -136,26 +137,36 @@ impl<'a> Model for ModeList<'a> {
 }
 
 /// MODE SELECT(6).
-pub(crate) fn check_mode_select_6(
+pub(crate) fn check_mode_select_6<'a>(
+    config: &Config,
     fields: ModeSelect6,
-    data_out: &[u8],
-) -> Result<Operation<'_>, Refusal>
-    ensures { result ≡ requested (mode_select CdbWidth.Six fields.pf fields.sp fields.list_length
-        data_out.now) data_out.now }
+    data_out: &'a [u8],
+) -> Result<Operation<'a>, Refusal>
+    ensures { result ≡ requested (mode_select config.now CdbWidth.Six fields.pf fields.sp
+        fields.list_length data_out.now) data_out.now }
 {
     let list_length = u16::from(fields.list_length);
-    check_mode_select(CdbWidth::Six, fields.pf, fields.sp, list_length, data_out)
+    check_mode_select(
+        config,
+        CdbWidth::Six,
+        fields.pf,
+        fields.sp,
+        list_length,
+        data_out,
+    )
 }
 
 /// MODE SELECT(10).
-pub(crate) fn check_mode_select_10(
+pub(crate) fn check_mode_select_10<'a>(
+    config: &Config,
     fields: ModeSelect10,
-    data_out: &[u8],
-) -> Result<Operation<'_>, Refusal>
-    ensures { result ≡ requested (mode_select CdbWidth.Ten fields.pf fields.sp fields.list_length
-        data_out.now) data_out.now }
+    data_out: &'a [u8],
+) -> Result<Operation<'a>, Refusal>
+    ensures { result ≡ requested (mode_select config.now CdbWidth.Ten fields.pf fields.sp
+        fields.list_length data_out.now) data_out.now }
 {
     check_mode_select(
+        config,
         CdbWidth::Ten,
         fields.pf,
         fields.sp,
@@ -164,21 +175,23 @@ pub(crate) fn check_mode_select_10(
     )
 }
 
-fn check_mode_select(
+fn check_mode_select<'a>(
+    config: &Config,
     width: CdbWidth,
     pf: bool,
     sp: bool,
     list_length: u16,
-    data_out: &[u8],
-) -> Result<Operation<'_>, Refusal>
-    ensures { result ≡ requested (mode_select width pf sp list_length data_out.now) data_out.now }
+    data_out: &'a [u8],
+) -> Result<Operation<'a>, Refusal>
+    ensures { result
+        ≡ requested (mode_select config.now width pf sp list_length data_out.now) data_out.now }
 {
     if !pf {
         return Err(Refusal::CheckCondition(Reason::InvalidFieldInCdb {
             byte: PAGE_FORMAT_BYTE,
         }));
     }
-    let bytes = needed_data_out(data_out, usize::from(list_length))?;
+    let bytes = needed_data_out(config, data_out, usize::from(list_length))?;
     Ok(Operation::ChangeModes {
         width,
         sp,

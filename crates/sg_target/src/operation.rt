@@ -1,5 +1,6 @@
 // The operation that a command asks for, and its execution.
 ghost use Rattle.std.specs.Prelude.{◌≡◌, ◌≤◌, ◌∷◌, [], length, true, IfNone};
+ghost use Rattle.sg_wire.specs.Layout.{is_block_command};
 ghost use Rattle.sg_target.specs.Checks.{out_of_range, requested};
 ghost use Rattle.sg_target.specs.Demands.{demands};
 ghost use Rattle.sg_target.specs.Charge.{TakesStep, cost_bounds, step_by};
@@ -7,7 +8,7 @@ ghost use Rattle.sg_target.specs.DataIn.{returns_data};
 ghost use Rattle.sg_target.specs.DataInBound.{data_in_bound};
 ghost use Rattle.sg_target.specs.Extents.{AreOnDisk};
 ghost use Rattle.sg_target.specs.Ranges.{ranges_of};
-ghost use Rattle.sg_target.specs.Semantics.{medium_use};
+ghost use Rattle.sg_target.specs.Semantics.{medium_use, names_some_block};
 ghost use Rattle.sg_target.specs.State.{IsWithinLimits};
 
 use crate::block::{
@@ -25,7 +26,7 @@ use crate::mode::{
 use crate::primary::{InquiryPage, check_inquiry, check_request_sense};
 use crate::provisioning::{
     BlockOut, check_get_lba_status, check_unmap, check_write_same_10, check_write_same_16,
-    listed_out_of_range,
+    listed_out_of_range, listed_some_block,
 };
 use crate::refusal::Refusal;
 use crate::reply::Reply;
@@ -35,6 +36,9 @@ use crate::report::{
 };
 use crate::reservation::{check_reserve_in, check_reserve_out};
 use crate::target::Target;
+use crate::verify::{
+    Exchange, check_compare_and_write, check_verify_10, check_verify_12, check_verify_16,
+};
 use crate::write_long::check_write_long_10;
 use sg_pages::Report;
 use sg_store::{MAX_CAPACITY, Store};
@@ -96,6 +100,17 @@ pub enum Operation<'a> {
     Read(BlocksIn),
     /// Replaces blocks.
     Write(BlocksOut<'a>),
+    /// Finds out whether blocks can be read, which they can: VERIFY without a comparison.
+    Verify(Extent),
+    /// Compares blocks with data-out: VERIFY.
+    Compare(BlocksOut<'a>),
+    /// Compares each of its blocks with one block: VERIFY.
+    CompareEach {
+        extent: Extent,
+        block: BlockOut<'a>,
+    },
+    /// Replaces blocks if they are as expected: COMPARE AND WRITE.
+    CompareAndWrite(Exchange<'a>),
     /// Asks for blocks to be read into a cache, which the disk lacks: PRE-FETCH.
     PreFetch(Extent),
     /// Asks for blocks to be written through, which they are.
@@ -163,9 +178,15 @@ impl<'a> Operation<'a> {
     {
         let (out_of_range, writes) = match self {
             Operation::Read(blocks) => (past_capacity(blocks.extent, capacity), false),
-            Operation::PreFetch(extent) | Operation::Synchronize(extent) => {
-                (past_capacity(*extent, capacity), false)
-            }
+            Operation::Compare(blocks) => (past_capacity(blocks.extent, capacity), false),
+            Operation::CompareAndWrite(exchange) => (
+                past_capacity(exchange.extent, capacity),
+                true,
+            ),
+            Operation::Verify(extent)
+            | Operation::CompareEach { extent, .. }
+            | Operation::PreFetch(extent)
+            | Operation::Synchronize(extent) => (past_capacity(*extent, capacity), false),
             Operation::ReturnLbaStatus { start, .. } => {
                 (past_capacity(one_block(*start), capacity), false)
             }
@@ -194,6 +215,24 @@ impl<'a> Operation<'a> {
             writes,
         }
     }
+
+    /// Returns `true` if an operation that writes names some block.
+    // Not inlined: only a disk whose SWP is set asks.
+    #[inline(never)]
+    pub(crate) fn names_some_block(&self) -> bool
+        ensures { (medium_use self.now).writes ≡ true
+            → result ≡ names_some_block (medium_use self.now).extents }
+    {
+        match self {
+            Operation::Write(blocks) => blocks.extent.count > 0,
+            Operation::CompareAndWrite(exchange) => exchange.extent.count > 0,
+            Operation::Fill { extent, .. }
+            | Operation::UnmapExtent(extent)
+            | Operation::AnchorExtent(extent) => extent.count > 0,
+            Operation::Unmap(extents) | Operation::Anchor(extents) => { listed_some_block(extents) }
+            _ => true,
+        }
+    }
 }
 
 /// The operation that a command asks for on a disk of a configuration. This checks the command's
@@ -210,8 +249,8 @@ pub(crate) fn operation_of<'a>(
         Command::TestUnitReady => Ok(Operation::Nothing),
         Command::RequestSense(fields) => Ok(check_request_sense(fields)),
         Command::Inquiry(fields) => check_inquiry(config, fields),
-        Command::ModeSelect6(fields) => check_mode_select_6(fields, data_out),
-        Command::ModeSelect10(fields) => check_mode_select_10(fields, data_out),
+        Command::ModeSelect6(fields) => check_mode_select_6(config, fields, data_out),
+        Command::ModeSelect10(fields) => check_mode_select_10(config, fields, data_out),
         Command::ModeSense6(fields) => Ok(check_mode_sense_6(config.blocks(), fields)),
         Command::ModeSense10(fields) => Ok(check_mode_sense_10(config.blocks(), fields)),
         Command::LogSense(fields) => check_log_sense(fields),
@@ -219,13 +258,31 @@ pub(crate) fn operation_of<'a>(
         Command::ReportSupportedOperationCodes(fields) => check_operation_codes(config, &fields),
         Command::ReportSupportedTaskManagementFunctions(fields) => check_task_management(fields),
         Command::SendDiagnostic(fields) => check_send_diagnostic(fields),
+        Command::PersistentReserveIn(fields) => Ok(check_reserve_in(fields)),
+        Command::PersistentReserveOut(fields) => check_reserve_out(config, fields, data_out),
+        _ => block_operation_of(config, command, data_out),
+    }
+}
+
+/// The operation that a block command asks for.
+#[inline(always)]
+fn block_operation_of<'a>(
+    config: &Config,
+    command: &Command,
+    data_out: &'a [u8],
+) -> Result<Operation<'a>, Refusal>
+    requires { is_block_command command.now ≡ true }
+    ensures { result ≡ requested (demands config.now command.now data_out.now) data_out.now }
+{
+    match *command {
+        Command::CompareAndWrite(fields) => check_compare_and_write(fields, data_out),
         Command::PreFetch10(extent) => Ok(pre_fetch(config, Extent::from(extent))),
         Command::PreFetch16(extent) => Ok(pre_fetch(config, Extent::from(extent))),
         Command::Read6(extent) => Ok(check_read_6(Extent::from(extent))),
         Command::Read10(extent) => check_read(config, Extent::from(extent), LENGTH_AT_10),
         Command::Read12(extent) => check_read(config, Extent::from(extent), LENGTH_AT_12),
         Command::Read16(extent) => check_read(config, Extent::from(extent), LENGTH_AT_16),
-        Command::Write6(extent) => check_write_6(Extent::from(extent), data_out),
+        Command::Write6(extent) => check_write_6(config, Extent::from(extent), data_out),
         Command::Write10(extent) => check_write(config, extent.into(), LENGTH_AT_10, data_out),
         Command::Write12(extent) => check_write(config, extent.into(), LENGTH_AT_12, data_out),
         Command::Write16(extent) => check_write(config, extent.into(), LENGTH_AT_16, data_out),
@@ -235,16 +292,18 @@ pub(crate) fn operation_of<'a>(
         Command::ReadDefectData12(fields) => check_read_defect_data_12(fields),
         Command::SynchronizeCache10(extent) => Ok(synchronize(config, Extent::from(extent))),
         Command::SynchronizeCache16(extent) => Ok(synchronize(config, Extent::from(extent))),
+        Command::Verify10(fields) => check_verify_10(config, fields, data_out),
+        Command::Verify12(fields) => check_verify_12(config, fields, data_out),
+        Command::Verify16(fields) => check_verify_16(config, fields, data_out),
         Command::WriteAndVerify10(fields) => check_write_and_verify_10(config, fields, data_out),
         Command::WriteAndVerify12(fields) => check_write_and_verify_12(config, fields, data_out),
         Command::WriteAndVerify16(fields) => check_write_and_verify_16(config, fields, data_out),
         Command::WriteLong10(fields) => check_write_long_10(fields),
         Command::WriteSame10(fields) => check_write_same_10(config, fields, data_out),
         Command::WriteSame16(fields) => check_write_same_16(config, fields, data_out),
-        Command::Unmap(fields) => check_unmap(fields, data_out),
+        Command::Unmap(fields) => check_unmap(config, fields, data_out),
         Command::GetLbaStatus(fields) => Ok(check_get_lba_status(fields)),
-        Command::PersistentReserveIn(fields) => Ok(check_reserve_in(fields)),
-        Command::PersistentReserveOut(fields) => check_reserve_out(fields, data_out),
+        _ => unreachable!(),
     }
 }
 
@@ -269,6 +328,7 @@ impl<S: Store> Target<S> {
         match operation {
             // A block is marked with an error as the command ends: see `conclude_armed`.
             Operation::Nothing
+            | Operation::Verify(_)
             | Operation::PreFetch(_)
             | Operation::Synchronize(_)
             | Operation::MarkBad { .. } => Reply::without_blocks(0),
@@ -288,6 +348,11 @@ impl<S: Store> Target<S> {
                 self.change_modes(initiator, width, sp, &list, buf)
             }
             Operation::Write(blocks) => self.write(initiator, &blocks, buf),
+            Operation::Compare(blocks) => self.compare(initiator, &blocks, buf),
+            Operation::CompareEach { extent, block } => {
+                self.compare_each(initiator, extent, &block, buf)
+            }
+            Operation::CompareAndWrite(blocks) => self.compare_and_write(initiator, &blocks, buf),
             Operation::Fill { extent, block } => self.fill(initiator, extent, &block, buf),
             Operation::Unmap(extents) => self.unmap_listed(&extents, buf),
             Operation::UnmapExtent(extent) => self.unmap(&[extent], buf),

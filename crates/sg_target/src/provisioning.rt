@@ -14,6 +14,7 @@ ghost use Rattle.sg_target.specs.ProvisioningCommands.{anchoring, filling};
 ghost use Rattle.sg_target.specs.ProvisioningCommands.{reporting_status, unmap_list_refusal};
 ghost use Rattle.sg_target.specs.ProvisioningCommands.{unmapping, unmaps};
 ghost use Rattle.sg_target.specs.Ranges.{anchoring_ranges, range, ranges_in_turn, status_ranges};
+ghost use Rattle.sg_target.specs.Semantics.{names_some_block};
 ghost use Rattle.sg_target.specs.State.{IsWithinLimits};
 ghost use Rattle.sg_target.specs.Step.{executed, outcome};
 
@@ -54,10 +55,14 @@ impl From<UnmapListFault> for Refusal {
     }
 }
 
-pub(crate) fn check_unmap(fields: Unmap, data_out: &[u8]) -> Result<Operation<'_>, Refusal>
-    ensures { result ≡ requested (demands_of_unmap fields data_out.now) data_out.now }
+pub(crate) fn check_unmap<'a>(
+    config: &Config,
+    fields: Unmap,
+    data_out: &'a [u8],
+) -> Result<Operation<'a>, Refusal>
+    ensures { result ≡ requested (demands_of_unmap config.now fields data_out.now) data_out.now }
 {
-    let list = needed_data_out(data_out, usize::from(fields.list_length))?;
+    let list = needed_data_out(config, data_out, usize::from(fields.list_length))?;
     let extents = UnmapList::read(list)?;
     if fields.anchor {
         Ok(Operation::Anchor(extents))
@@ -77,6 +82,14 @@ pub(crate) fn listed_out_of_range(listed: &ListedExtents<'_>, capacity: u64) -> 
 {
     let extents = listed.to_list();
     first_past_capacity(extents.as_slice(), capacity)
+}
+
+/// Returns `true` if one of the extents names a block.
+pub(crate) fn listed_some_block(listed: &ListedExtents<'_>) -> bool
+    ensures { result ≡ names_some_block listed.now }
+{
+    let extents = listed.to_list();
+    extents.as_slice().iter().any(|extent| extent.count > 0)
 }
 
 impl<S: Store> Target<S> {
@@ -186,7 +199,7 @@ const NUMBER_OF_BLOCKS_16: u16 = 10;
 /// A logical block in data-out.
 #[derive(Drop)]
 pub struct BlockOut<'a> {
-    bytes: &'a [u8],
+    pub(crate) bytes: &'a [u8],
 }
 
 impl<'a> Model for BlockOut<'a> {
@@ -262,7 +275,7 @@ fn check_write_same<'a>(
         return Err(Refusal::CheckCondition(Reason::InvalidFieldInCdb { byte: ANCHOR_BYTE }));
     }
     check_write_same_length(config, extent, byte)?;
-    let bytes = needed_data_out(data_out, BLOCK_LENGTH)?;
+    let bytes = needed_data_out(config, data_out, BLOCK_LENGTH)?;
     if !unmaps(unmap, bytes) {
         let block = BlockOut { bytes };
         Ok(Operation::Fill { extent, block })

@@ -31,7 +31,9 @@ pub enum Reason {
     InvalidCommandOperationCode,
     /// A unit attention condition is reported.
     UnitAttention(UnitAttention),
-    /// DATA PHASE ERROR: there is less data-out than the command needs.
+    /// INVALID FIELD IN COMMAND INFORMATION UNIT: there is less data-out than the command needs.
+    InvalidInformationUnit,
+    /// DATA PHASE ERROR, the same on a base disk.
     DataPhaseError,
     /// PARAMETER LIST LENGTH ERROR: the list ends early.
     ParameterListLengthError,
@@ -49,10 +51,16 @@ pub enum Reason {
     LbaOutOfRange {
         lba: u64,
     },
-    /// LOGICAL UNIT SOFTWARE WRITE PROTECTED: SWP is set.
+    /// WRITE PROTECTED: SWP is set.
+    WriteProtected,
+    /// LOGICAL UNIT SOFTWARE WRITE PROTECTED, the same on a base disk.
     SoftwareWriteProtected,
     /// SPACE ALLOCATION FAILED WRITE PROTECT: no block is left to map.
     SpaceAllocationFailed,
+    /// MISCOMPARE DURING VERIFY OPERATION, with the offset of the first byte that differs.
+    Miscompare {
+        offset: u64,
+    },
     /// An armed fault, with the first bad block that the command names, if it lies on blocks.
     Fault {
         code: SenseCode,
@@ -77,6 +85,7 @@ impl Reason {
                 let (asc, ascq) = condition.code();
                 plain(Sense::UNIT_ATTENTION, asc, ascq)
             }
+            Reason::InvalidInformationUnit => plain(Sense::ILLEGAL_REQUEST, 0x0E, 0x03),
             Reason::DataPhaseError => plain(Sense::ABORTED_COMMAND, 0x4B, 0x00),
             Reason::ParameterListLengthError => plain(Sense::ILLEGAL_REQUEST, 0x1A, 0x00),
             Reason::InvalidFieldInParameterList { byte } => invalid_field(0x26, false, byte),
@@ -85,15 +94,11 @@ impl Reason {
                 plain(Sense::ILLEGAL_REQUEST, 0x55, 0x04)
             }
             Reason::InsufficientResources => plain(Sense::ILLEGAL_REQUEST, 0x55, 0x03),
-            Reason::LbaOutOfRange { lba } => Sense {
-                key: Sense::ILLEGAL_REQUEST,
-                asc: 0x21,
-                ascq: 0x00,
-                information: Some(lba),
-                pointer: None,
-            },
+            Reason::LbaOutOfRange { lba } => with_information(Sense::ILLEGAL_REQUEST, 0x21, lba),
+            Reason::WriteProtected => plain(Sense::DATA_PROTECT, 0x27, 0x00),
             Reason::SoftwareWriteProtected => plain(Sense::DATA_PROTECT, 0x27, 0x02),
             Reason::SpaceAllocationFailed => plain(Sense::DATA_PROTECT, 0x27, 0x07),
+            Reason::Miscompare { offset } => with_information(Sense::MISCOMPARE, 0x1D, offset),
             Reason::Fault { code, first_bad } => Sense {
                 key: code.key.code(),
                 asc: code.asc,
@@ -162,6 +167,20 @@ fn plain(key: u8, asc: u8, ascq: u8) -> Sense
         asc,
         ascq,
         information: None,
+        pointer: None,
+    }
+}
+
+/// A sense with a number as INFORMATION.
+fn with_information(key: u8, asc: u8, number: u64) -> Sense
+    requires { key ≤ 15 }
+    ensures { fields_of result ≡ record (plain_sense key asc 0x00) { information = Some number } }
+{
+    Sense {
+        key,
+        asc,
+        ascq: 0x00,
+        information: Some(number),
         pointer: None,
     }
 }

@@ -11,6 +11,7 @@ ghost use Rattle.sg_target.specs.ReservationCommands.{always_needs_type, out_ref
 ghost use Rattle.sg_target.specs.ReservationCommands.{reserve_in_data};
 ghost use Rattle.sg_target.specs.State.{IsWithinLimits};
 
+use crate::config::Config;
 use crate::data_in::DataIn;
 use crate::data_out::needed_data_out;
 use crate::operation::Operation;
@@ -100,10 +101,11 @@ fn always_needs_type(action: OutAction) -> bool
 
 #[tactic(auto, unfolding(crate::specs::ReservationCommands::bad_type))]
 pub(crate) fn check_reserve_out(
+    config: &Config,
     fields: PersistentReserveOut,
     data_out: &[u8],
 ) -> Result<Operation<'static>, Refusal>
-    ensures { result ≡ requested (reserve_out fields data_out.now) data_out.now }
+    ensures { result ≡ requested (reserve_out config.now fields data_out.now) data_out.now }
 {
     let PersistentReserveOut {
         action,
@@ -115,7 +117,7 @@ pub(crate) fn check_reserve_out(
             byte: SCOPE_TYPE_BYTE,
         }));
     }
-    let list = needed_data_out(data_out, list_length as usize)?;
+    let list = needed_data_out(config, data_out, list_length as usize)?;
     if list.len() != OutList::LENGTH {
         return Err(Refusal::CheckCondition(Reason::ParameterListLengthError));
     }
