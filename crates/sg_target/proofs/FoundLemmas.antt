@@ -45,7 +45,7 @@ module _ (state : State) (i : ℕ) where
 
   last-keeps : (found : Option Refusal) → Keeps found → Keeps (first_some (found ∷ []))
   last-keeps None h refusal e = cc
-  last-keeps (Some first) h = h
+  last-keeps (Some first) h refusal e = h refusal e
 
   exchange-keeps : (difference : Option ℕ) (found : Option Refusal) → Keeps found
       → Keeps (first_some (miscompare difference ∷ found ∷ []))
