@@ -121,9 +121,9 @@ abbrev pub mode_sense : CdbWidth → (llbaa : Bool) → PageRequest → (blocks 
 mode_sense width llbaa page blocks n =
     operation.ReturnModes (record { width = width; llbaa = llbaa; page = page; blocks = blocks }) n
 
-abbrev pub reserve_out : PersistentReserveOut → (data_out : List ℕ) → Demands
-reserve_out c data_out =
-    takes c.list_length (bad_type c.action c.scope_type)
+abbrev pub reserve_out : ConfigFields → PersistentReserveOut → (data_out : List ℕ) → Demands
+reserve_out config c data_out =
+    takes c.list_length (bad_type (rules_of config.identity.profile) c.action c.scope_type)
     (when_sound (fields_out (first_bytes c.list_length data_out))
     (operation.ChangeReservations c.action c.scope_type))
 
@@ -293,4 +293,4 @@ demands config (command.GetLbaStatus c) data_out =
     asks (operation.ReturnLbaStatus c.start c.allocation_length)
 demands config (command.PersistentReserveIn c) data_out =
     asks (operation.ReturnReservations c.action c.allocation_length)
-demands config (command.PersistentReserveOut c) data_out = reserve_out c data_out
+demands config (command.PersistentReserveOut c) data_out = reserve_out config c data_out

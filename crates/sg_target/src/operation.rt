@@ -244,7 +244,7 @@ pub(crate) fn operation_of<'a>(
         Command::Unmap(fields) => check_unmap(fields, data_out),
         Command::GetLbaStatus(fields) => Ok(check_get_lba_status(fields)),
         Command::PersistentReserveIn(fields) => Ok(check_reserve_in(fields)),
-        Command::PersistentReserveOut(fields) => check_reserve_out(fields, data_out),
+        Command::PersistentReserveOut(fields) => check_reserve_out(config, fields, data_out),
     }
 }
 
