@@ -2,6 +2,7 @@
 use Rattle.std.proofs.Common.{◌≡◌, ℕ, List}
 use Rattle.std.proofs.Common.{Bool, true, false, Result, Ok, Err, refl, subst, sym}
 use Rattle.sg_wire.specs.declared.command.out_action.OutAction.{OutAction}
+use Rattle.sg_wire.specs.Profile.{rules_of}
 use Rattle.sg_pages.specs.ModeSelect.{changed_by}
 use Rattle.sg_units.specs.Attentions.{ArePending, Pending, without_oldest}
 use Rattle.sg_units.specs.Laws.{QueuesKeepTheirLimits, ReservationsStayConsistent}
@@ -33,7 +34,7 @@ use Rattle.sg_target.specs.Refusal.{checked_next, or_refused, when_sound}
 use Rattle.sg_target.specs.ReservationCommands.{changing_reservations, out_refusal}
 use Rattle.sg_target.specs.ReservationCommands.{reservation_change}
 use Rattle.sg_target.specs.Semantics.{effect_of}
-use Rattle.sg_target.specs.State.{IsWithinLimits, State}
+use Rattle.sg_target.specs.State.{IsWithinLimits, State, profile_of}
 use Rattle.sg_target.specs.Step.{Step, outcome as step_outcome, refused, step}
 use Rattle.sg_target.specs.declared.happening.Happening.{Happening}
 use Rattle.sg_target.specs.declared.happening.Happening.TheVariants.{Power, LogicalUnitReset}
@@ -103,9 +104,10 @@ module _ (reservations : ReservationsStayConsistent) (queues : QueuesKeepTheirLi
   unfolding reservation_change
   changing-keeps state i action scope_type list change h e =
       let raised = raised_by state.reservations.registrations i change in
-      let o = outcome state.reservations i action scope_type list in (
+      let rules = rules_of (profile_of state) in
+      let o = outcome rules state.reservations i action scope_type list in (
         queues.raised state.attentions raised h.0,
-        reservations.changed state.reservations i action scope_type list change h.1
+        reservations.changed rules state.reservations i action scope_type list change h.1
             (changed state o change e),
       )
 

@@ -1,5 +1,6 @@
 -- Data-in that no refusal follows, in the words of the definitions.
 use Rattle.std.specs.Prelude.{ℕ, Bool, true, false, List}
+use Rattle.sg_wire.specs.Profile.{rules_of}
 use Rattle.sg_wire.specs.SenseData.{sense_data}
 use Rattle.sg_pages.specs.CapacityData.{capacity_10, capacity_16}
 use Rattle.sg_pages.specs.DataLengths.{capacity_10_length, capacity_16_length}
@@ -27,7 +28,8 @@ abbrev pub data_of : IdentityFields → (capacity : ℕ) → ReservationState �
 data_of identity capacity reservations (Sense condition format) =
     sense_data format (pending_sense condition)
 data_of identity capacity reservations (Inquiry page) = inquiry_data identity page
-data_of identity capacity reservations (Reservations action) = reserve_in_data reservations action
+data_of identity capacity reservations (Reservations action) =
+    reserve_in_data (rules_of identity.profile) reservations action
 data_of identity capacity reservations (Report report) = report_data identity.profile report
 data_of identity capacity reservations Capacity10 = capacity_10 capacity
 data_of identity capacity reservations Capacity16 = capacity_16 capacity

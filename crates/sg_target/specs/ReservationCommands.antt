@@ -1,5 +1,5 @@
 -- The effects of PERSISTENT RESERVE IN and PERSISTENT RESERVE OUT (SPC-4, 5.13).
-use Rattle.std.specs.Prelude.{ℕ, ◌==◌, List, length, Bool, true, false, ◌&&◌, Option, Some, None}
+use Rattle.std.specs.Prelude.{ℕ, ◌==◌, List, length, Bool, true, false, not, ◌&&◌, Option, Some, None}
 use Rattle.std.specs.Prelude.{is_none, Result, Ok, Err, if◌then◌else◌}
 use Rattle.sg_wire.specs.declared.command.in_action.InAction.{InAction}
 use Rattle.sg_wire.specs.declared.command.in_action.InAction.TheVariants.{ReadKeys, ReadReservation}
@@ -8,6 +8,8 @@ use Rattle.sg_wire.specs.declared.command.in_action.InAction.TheVariants.{ReadFu
 use Rattle.sg_wire.specs.declared.command.out_action.OutAction.{OutAction}
 use Rattle.sg_wire.specs.declared.command.out_action.OutAction.TheVariants.{Reserve, Release}
 use Rattle.sg_wire.specs.OutList.{list_length, out_list}
+use Rattle.sg_wire.specs.Profile.{rules_of}
+use Rattle.sg_wire.specs.declared.profile.Rules.{Rules}
 use Rattle.sg_units.specs.Raised.{raised_for_each}
 use Rattle.sg_units.specs.ReservationType.{type_of}
 use Rattle.sg_units.specs.FullStatus.{full_status_data}
@@ -20,7 +22,7 @@ use Rattle.sg_units.specs.declared.reservation_change.ReservationChange.{Reserva
 use Rattle.sg_units.specs.declared.reservation_state.ReservationState.{ReservationState}
 use Rattle.sg_target.specs.Effect.{Effect, no_effect, returning_up_to}
 use Rattle.sg_target.specs.Refusal.{or_refused}
-use Rattle.sg_target.specs.State.{State}
+use Rattle.sg_target.specs.State.{State, profile_of}
 use Rattle.sg_target.specs.declared.refusal.Reason.TheVariants.{InsufficientRegistrationResources}
 use Rattle.sg_target.specs.declared.refusal.Reason.TheVariants.{InvalidFieldInCdb}
 use Rattle.sg_target.specs.declared.refusal.Reason.TheVariants.{InvalidFieldInParameterList}
@@ -31,30 +33,31 @@ use Rattle.sg_target.specs.declared.refusal.Refusal.TheVariants.{Conflict, Check
 
 -- ---- PERSISTENT RESERVE IN
 
--- The data that a service action returns.
-abbrev pub reserve_in_data : ReservationState → InAction → List ℕ
-reserve_in_data reservations ReadKeys = keys_data reservations
-reserve_in_data reservations ReadReservation = reservation_data reservations
-reserve_in_data reservations ReportCapabilities = capabilities_data reservations
-reserve_in_data reservations ReadFullStatus = full_status_data reservations
+-- The data that a service action returns, on a disk with these rules.
+abbrev pub reserve_in_data : Rules → ReservationState → InAction → List ℕ
+reserve_in_data rules reservations ReadKeys = keys_data reservations
+reserve_in_data rules reservations ReadReservation = reservation_data reservations
+reserve_in_data rules reservations ReportCapabilities = capabilities_data rules reservations
+reserve_in_data rules reservations ReadFullStatus = full_status_data reservations
 
 abbrev pub reporting : State → InAction → (allocation_length : ℕ) → Effect
-reporting state action n = returning_up_to state n (reserve_in_data state.reservations action)
+reporting state action n =
+    returning_up_to state n (reserve_in_data (rules_of (profile_of state)) state.reservations action)
 
 -- ---- PERSISTENT RESERVE OUT
 
--- RESERVE and RELEASE need a valid scope and type, in byte 2. PREEMPT needs one if it takes the
--- reservation, and no other service action looks at them.
-abbrev pub always_needs_type : OutAction → Bool
-always_needs_type Reserve = true
-always_needs_type Release = true
-always_needs_type _ = false
+-- RESERVE needs a valid scope and type, in byte 2. PREEMPT needs one if it takes the reservation, and
+-- RELEASE if the initiator holds the reservation. No other service action looks at them.
+abbrev pub always_needs_type : Rules → OutAction → Bool
+always_needs_type rules Reserve = true
+always_needs_type rules Release = not rules.releases_nothing_by_any_type
+always_needs_type rules _ = false
 
--- Departure (SPC-4, 5.13, releasing): GOOD for a registrant that holds nothing there.
+-- Departure (SPC-4, 5.13, releasing): on a base disk each RELEASE needs a valid SCOPE and TYPE.
 -- Choice (SPC-4, 5.13, reserving): a conflict may come before a bad SCOPE or TYPE.
-unfoldable pub bad_type : OutAction → (scope_type : ℕ) → Option ℕ
-bad_type action scope_type =
-    if always_needs_type action && is_none (type_of scope_type) then Some 2 else None
+unfoldable pub bad_type : Rules → OutAction → (scope_type : ℕ) → Option ℕ
+bad_type rules action scope_type =
+    if always_needs_type rules action && is_none (type_of scope_type) then Some 2 else None
 
 -- The status or the sense data of each fault.
 abbrev pub out_refusal : OutFault → Refusal
@@ -76,7 +79,8 @@ fields_out list =
 unfoldable pub reservation_change : State → (initiator : ℕ) → OutAction → (scope_type : ℕ)
     → OutList → Result ReservationChange Refusal
 reservation_change state initiator action scope_type list =
-    or_refused out_refusal (outcome state.reservations initiator action scope_type list)
+    or_refused out_refusal
+    (outcome (rules_of (profile_of state)) state.reservations initiator action scope_type list)
 
 -- Registrations and reservation change, and conditions are established for other initiators.
 abbrev pub changing_reservations : State → (initiator : ℕ) → ReservationChange → Effect

@@ -85,7 +85,9 @@ impl DataIn {
         match self {
             DataIn::Sense { condition, format } => pending_sense(condition).write(format, cut),
             DataIn::Inquiry(page) => page.write(config.identity(), cut),
-            DataIn::Reservations(action) => write_reserve_in_data(action, reservations, cut),
+            DataIn::Reservations(action) => {
+                write_reserve_in_data(config.rules(), action, reservations, cut)
+            }
             DataIn::Report(report) => report.write(config.identity().profile(), cut),
             DataIn::Capacity10 => write_capacity_10(config.blocks(), cut),
             DataIn::Capacity16 => write_capacity_16(config.blocks(), cut),

@@ -2,6 +2,7 @@
 ghost use Rattle.std.specs.Prelude.{◌≡◌, ◌≤◌, [], length, min};
 ghost use Rattle.sg_wire.specs.Cut.{Puts};
 ghost use Rattle.sg_wire.specs.FirstBytes.{first_bytes};
+ghost use Rattle.sg_wire.specs.Profile.{rules_of};
 ghost use Rattle.sg_units.specs.FullStatus.{longest_reserve_in};
 ghost use Rattle.sg_target.specs.Checks.{requested};
 ghost use Rattle.sg_target.specs.Demands.{reserve_out};
@@ -20,7 +21,9 @@ use crate::reply::Reply;
 use crate::target::Target;
 use sg_store::{Counts, Store};
 use sg_units::{OutFault, OutList, ReservationType, Reservations};
-use sg_wire::{Cut, InAction, Initiator, OutAction, PersistentReserveIn, PersistentReserveOut};
+use sg_wire::{
+    Cut, InAction, Initiator, OutAction, PersistentReserveIn, PersistentReserveOut, Rules,
+};
 
 /// Where SCOPE and TYPE are in the CDB of PERSISTENT RESERVE OUT.
 const SCOPE_TYPE_BYTE: u16 = 2;
@@ -28,14 +31,19 @@ const SCOPE_TYPE_BYTE: u16 = 2;
 // ---- PERSISTENT RESERVE IN
 
 /// Writes what a service action of PERSISTENT RESERVE IN returns, whole.
-pub(crate) fn write_reserve_in_data(action: InAction, reservations: &Reservations, cut: &mut Cut)
-    ensures data { Puts cut.old cut.new (reserve_in_data reservations.now action) }
-    ensures at_most { length (reserve_in_data reservations.now action) ≤ longest_reserve_in }
+pub(crate) fn write_reserve_in_data(
+    rules: Rules,
+    action: InAction,
+    reservations: &Reservations,
+    cut: &mut Cut,
+)
+    ensures data { Puts cut.old cut.new (reserve_in_data rules reservations.now action) }
+    ensures at_most { length (reserve_in_data rules reservations.now action) ≤ longest_reserve_in }
 {
     match action {
         InAction::ReadKeys => reservations.read_keys(cut),
         InAction::ReadReservation => reservations.read_reservation(cut),
-        InAction::ReportCapabilities => reservations.report_capabilities(cut),
+        InAction::ReportCapabilities => reservations.report_capabilities(rules, cut),
         InAction::ReadFullStatus => reservations.read_full_status(cut),
     }
 }
@@ -60,7 +68,9 @@ impl<S: Store> Target<S> {
         buf: &mut [u8],
     ) -> Reply
         requires { min longest_reserve_in allocation_length ≤ length buf.old }
-        ensures { let full = reserve_in_data self.now.state.reservations action in
+        ensures { let state = self.now.state in
+            let rules = rules_of state.identity.profile in
+            let full = reserve_in_data rules state.reservations action in
             ReturnsData (first_bytes allocation_length full) result buf.old buf.new }
     {
         let data_in = DataIn::Reservations(action);
@@ -93,10 +103,18 @@ impl From<OutFault> for Refusal {
 }
 
 /// Returns `true` if a service action is refused without a valid scope and type.
-fn always_needs_type(action: OutAction) -> bool
-    ensures { result ≡ always_needs_type action }
+fn always_needs_type(rules: Rules, action: OutAction) -> bool
+    ensures { result ≡ always_needs_type rules action }
 {
-    matches!(action, OutAction::Reserve | OutAction::Release)
+    match action {
+        OutAction::Reserve => true,
+        OutAction::Release => !rules.releases_nothing_by_any_type,
+        OutAction::Register
+        | OutAction::Clear
+        | OutAction::Preempt
+        | OutAction::PreemptAndAbort
+        | OutAction::RegisterAndIgnoreExistingKey => false,
+    }
 }
 
 #[tactic(auto, unfolding(crate::specs::ReservationCommands::bad_type))]
@@ -112,7 +130,8 @@ pub(crate) fn check_reserve_out(
         scope_type,
         list_length,
     } = fields;
-    if always_needs_type(action) && ReservationType::with_scope_and_type(scope_type).is_none() {
+    let needs_type = always_needs_type(config.rules(), action);
+    if needs_type && ReservationType::with_scope_and_type(scope_type).is_none() {
         return Err(Refusal::CheckCondition(Reason::InvalidFieldInCdb {
             byte: SCOPE_TYPE_BYTE,
         }));
@@ -147,7 +166,8 @@ impl<S: Store> Target<S> {
             TakesStep (cost_bounds S.price S.least) (step_by self.old.state initiator operation)
             [] self.old self.new result buf.now buf.now }
     {
-        match self.reservations.out(initiator, action, scope_type, list) {
+        let rules = self.config.rules();
+        match self.reservations.out(rules, initiator, action, scope_type, list) {
             Ok(raised) => {
                 self.attentions.raise_for_each(&raised);
                 Reply::without_blocks(0)

@@ -22,13 +22,14 @@ use Rattle.sg_units.specs.Reservations.{AreConsistent, IsConsistent, has_holder,
 use Rattle.sg_units.specs.Reservations.{is_held_if_any, names_holder, names_holder_if_any, taken}
 use Rattle.sg_units.specs.Reservations.{while_held}
 use Rattle.sg_units.proofs.OutcomeLemmas.{EffectIs, FirstIs, and_false, case_or, if-accepted, effective}
-use Rattle.sg_units.proofs.OutcomeLemmas.{last_case, refused, taking, typed}
+use Rattle.sg_units.proofs.OutcomeLemmas.{last_case, refused, releasing, taking, typed}
 use Rattle.sg_wire.specs.declared.command.out_action.OutAction.{OutAction}
 use Rattle.sg_wire.specs.declared.command.out_action.OutAction.TheVariants.{Register, Reserve}
 use Rattle.sg_wire.specs.declared.command.out_action.OutAction.TheVariants.{Release, Clear, Preempt}
 use Rattle.sg_wire.specs.declared.command.out_action.OutAction.TheVariants.{PreemptAndAbort}
 use Rattle.sg_wire.specs.declared.command.out_action.OutAction.TheVariants.{RegisterAndIgnoreExistingKey}
 use Rattle.sg_wire.specs.declared.out_list.OutList.{OutList}
+use Rattle.sg_wire.specs.declared.profile.Rules.{Rules}
 use Rattle.sg_units.specs.declared.registrations.Registration.{Registration}
 use Rattle.sg_units.specs.declared.reservation.Reservation.{Reservation}
 use Rattle.sg_units.specs.declared.reservation_state.ReservationState.{ReservationState}
@@ -295,14 +296,16 @@ consistent-none = record {
 
 -- ---- Outcomes
 
-consistent-register : (state : ReservationState) (i sark : ℕ) (aptpl : Bool) → IsConsistent state
-    → FirstIs (EffectIs IsConsistentChange) (register_cases state i sark aptpl)
+consistent-register : (rules : Rules) (state : ReservationState) (i sark : ℕ) (aptpl : Bool)
+    → IsConsistent state
+    → FirstIs (EffectIs IsConsistentChange) (register_cases rules state i sark aptpl)
 unfolding register_cases
-consistent-register state i sark aptpl h =
+consistent-register rules state i sark aptpl h =
     let all = state.registrations in
     let held = state.reservation in
     let others = λ (r : Registration). not (is_of i r) in
     case_or (EffectIs IsConsistentChange) _ _ (λ _. effective IsConsistentChange _ h)
+    (λ _. case_or (EffectIs IsConsistentChange) _ _ (λ _. effective IsConsistentChange _ h)
     (λ zero. case_or (EffectIs IsConsistentChange) _ _ (λ _. refused IsConsistentChange _)
     (λ full. case_or (EffectIs IsConsistentChange) _ _
     (λ new. effective IsConsistentChange _
@@ -313,7 +316,7 @@ consistent-register state i sark aptpl h =
     (λ _. last_case (EffectIs IsConsistentChange) _ _ refl
     (effective IsConsistentChange _
     (consistent-filter others all held _ h (held-while_held held _)
-    (named-while_held held _ h.holder)))))))
+    (named-while_held held _ h.holder))))))))
 
 consistent-reserve : (state : ReservationState) (i : ℕ) (type : ReservationType)
     → is_registered state.registrations i ≡ true → IsConsistent state
@@ -338,11 +341,11 @@ consistent-release state i type h =
     (λ _. last_case (EffectIs IsConsistentChange) _ _ refl
     (effective IsConsistentChange _ (consistent-held all state.reservation None h refl refl))))
 
-consistent-preempt : (state : ReservationState) (i : ℕ) (type : Option ReservationType) (sark : ℕ)
-    → is_registered state.registrations i ≡ true → IsConsistent state
-    → FirstIs (EffectIs IsConsistentChange) (preempt_cases state i type sark)
+consistent-preempt : (rules : Rules) (state : ReservationState) (i : ℕ) (type : Option ReservationType)
+    (sark : ℕ) → is_registered state.registrations i ≡ true → IsConsistent state
+    → FirstIs (EffectIs IsConsistentChange) (preempt_cases rules state i type sark)
 unfolding preempt_cases
-consistent-preempt state i type sark here h =
+consistent-preempt rules state i type sark here h =
     let all = state.registrations in
     let held = state.reservation in
     let others = λ (r : Registration). not (is_under sark r) in
@@ -351,6 +354,7 @@ consistent-preempt state i type sark here h =
     is_registered-filter stay i (λ r e. or_left (is_of i r) (not (is_under sark r)) e) all here in
     let alone = is_registered-filter (is_of i) i (λ r e. e) all here in
     case_or (EffectIs IsConsistentChange) _ _ (λ _. refused IsConsistentChange _)
+    (λ _. case_or (EffectIs IsConsistentChange) _ _ (λ _. refused IsConsistentChange _)
     (λ _. case_or (EffectIs IsConsistentChange) _ _
     (λ _. taking IsConsistentChange held i type _
     (λ type. effective IsConsistentChange _
@@ -364,36 +368,37 @@ consistent-preempt state i type sark here h =
     (λ _. last_case (EffectIs IsConsistentChange) _ _ refl
     (effective IsConsistentChange _
     (consistent-filter others all held _ h (held-while_held held _)
-    (named-while_held held _ h.holder)))))))
+    (named-while_held held _ h.holder))))))))
 
 -- a caller whose key is accepted is registered, unless it registers
-consistent-action : (state : ReservationState) (i : ℕ) (action : OutAction)
+consistent-action : (rules : Rules) (state : ReservationState) (i : ℕ) (action : OutAction)
     (type : Option ReservationType) (key sark : ℕ) (aptpl : Bool)
     → accepts_key state.registrations i action key ≡ true → IsConsistent state
-    → EffectIs IsConsistentChange (action_outcome state i action type sark aptpl)
-consistent-action state i Register type key sark aptpl a h =
-    (consistent-register state i sark aptpl h).first
-consistent-action state i Reserve type key sark aptpl a h =
+    → EffectIs IsConsistentChange (action_outcome rules state i action type sark aptpl)
+consistent-action rules state i Register type key sark aptpl a h =
+    (consistent-register rules state i sark aptpl h).first
+consistent-action rules state i Reserve type key sark aptpl a h =
     let here = is_registered-under state.registrations i key a in
     typed IsConsistentChange type _ (λ type. (consistent-reserve state i type here h).first)
-consistent-action state i Release type key sark aptpl a h =
-    typed IsConsistentChange type _ (λ type. (consistent-release state i type h).first)
-consistent-action state i Clear type key sark aptpl a h = effective IsConsistentChange _ consistent-none
-consistent-action state i Preempt type key sark aptpl a h =
+consistent-action rules state i Release type key sark aptpl a h =
+    releasing IsConsistentChange rules state i type h (λ type. consistent-release state i type h)
+consistent-action rules state i Clear type key sark aptpl a h =
+    effective IsConsistentChange _ consistent-none
+consistent-action rules state i Preempt type key sark aptpl a h =
     let here = is_registered-under state.registrations i key a in
-    (consistent-preempt state i type sark here h).first
-consistent-action state i PreemptAndAbort type key sark aptpl a h =
+    (consistent-preempt rules state i type sark here h).first
+consistent-action rules state i PreemptAndAbort type key sark aptpl a h =
     let here = is_registered-under state.registrations i key a in
-    (consistent-preempt state i type sark here h).first
-consistent-action state i RegisterAndIgnoreExistingKey type key sark aptpl a h =
-    (consistent-register state i sark aptpl h).first
+    (consistent-preempt rules state i type sark here h).first
+consistent-action rules state i RegisterAndIgnoreExistingKey type key sark aptpl a h =
+    (consistent-register rules state i sark aptpl h).first
 
-pub consistent-outcome : (state : ReservationState) (i : ℕ) (action : OutAction) (scope_type : ℕ)
-    (list : OutList) → IsConsistent state
-    → EffectIs IsConsistentChange (outcome state i action scope_type list)
-consistent-outcome state i action scope_type list h =
-    if-accepted IsConsistentChange state i action scope_type list
-    (λ accepted. consistent-action state i action (type_of scope_type) list.reservation_key
+pub consistent-outcome : (rules : Rules) (state : ReservationState) (i : ℕ) (action : OutAction)
+    (scope_type : ℕ) (list : OutList) → IsConsistent state
+    → EffectIs IsConsistentChange (outcome rules state i action scope_type list)
+consistent-outcome rules state i action scope_type list h =
+    if-accepted IsConsistentChange rules state i action scope_type list
+    (λ accepted. consistent-action rules state i action (type_of scope_type) list.reservation_key
     list.service_action_key list.aptpl accepted h)
 
 pub consistent-state_after : (state : ReservationState) (o : Outcome) → IsConsistent state

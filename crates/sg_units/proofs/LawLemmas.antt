@@ -30,6 +30,7 @@ use Rattle.sg_wire.specs.declared.command.out_action.OutAction.TheVariants.{Rele
 use Rattle.sg_wire.specs.declared.command.out_action.OutAction.TheVariants.{PreemptAndAbort}
 use Rattle.sg_wire.specs.declared.command.out_action.OutAction.TheVariants.{RegisterAndIgnoreExistingKey}
 use Rattle.sg_wire.specs.declared.out_list.OutList.{OutList}
+use Rattle.sg_wire.specs.declared.profile.Rules.{Rules}
 use Rattle.sg_units.specs.declared.registrations.Registration.{Registration}
 use Rattle.sg_units.specs.declared.reservation.Reservation.{Reservation}
 use Rattle.sg_units.specs.declared.reservation_state.ReservationState.{ReservationState}
@@ -43,7 +44,7 @@ use Rattle.sg_units.specs.declared.types.ReservationType.TheVariants.{ExclusiveA
 use Rattle.sg_units.specs.declared.unit_attention.UnitAttention.{UnitAttention}
 use Rattle.sg_units.proofs.ConsistencyLemmas.{is_registered-under, registrations_of-cons}
 use Rattle.sg_units.proofs.OutcomeLemmas.{EffectIs, FirstIs, case_or, if-accepted, effective, last_case}
-use Rattle.sg_units.proofs.OutcomeLemmas.{refused, taking, typed}
+use Rattle.sg_units.proofs.OutcomeLemmas.{refused, releasing, taking, typed}
 
 -- ---- One key each
 
@@ -299,16 +300,17 @@ counts : (state : ReservationState) (change : ReservationChange)
 counts state change is =
     effective (Counted state) change (λ e. absurd (false≢true (sym e ∙ is)))
 
-counted-register : (state : ReservationState) (i sark : ℕ) (aptpl : Bool)
-    → FirstIs (EffectIs (Counted state)) (register_cases state i sark aptpl)
+counted-register : (rules : Rules) (state : ReservationState) (i sark : ℕ) (aptpl : Bool)
+    → FirstIs (EffectIs (Counted state)) (register_cases rules state i sark aptpl)
 unfolding register_cases
-counted-register state i sark aptpl =
+counted-register rules state i sark aptpl =
     let P = Counted state in
-    case_or (EffectIs P) _ _ (λ _. stays state _ _)
+    case_or (EffectIs P) _ _ (λ _. counts state _ refl)
+    (λ _. case_or (EffectIs P) _ _ (λ _. stays state _ _)
     (λ _. case_or (EffectIs P) _ _ (λ _. refused P _)
     (λ _. case_or (EffectIs P) _ _ (λ _. counts state _ refl)
     (λ _. case_or (EffectIs P) _ _ (λ _. counts state _ refl)
-    (λ _. last_case (EffectIs P) _ _ refl (counts state _ refl)))))
+    (λ _. last_case (EffectIs P) _ _ refl (counts state _ refl))))))
 
 counted-reserve : (state : ReservationState) (i : ℕ) (type : ReservationType)
     → FirstIs (EffectIs (Counted state)) (reserve_cases state i type)
@@ -328,37 +330,42 @@ counted-release state i type =
     (λ _. case_or (EffectIs P) _ _ (λ _. refused P _)
     (λ _. last_case (EffectIs P) _ _ refl (stays state _ _)))
 
-counted-preempt : (state : ReservationState) (i : ℕ) (type : Option ReservationType) (sark : ℕ)
-    → FirstIs (EffectIs (Counted state)) (preempt_cases state i type sark)
+counted-preempt : (rules : Rules) (state : ReservationState) (i : ℕ) (type : Option ReservationType)
+    (sark : ℕ) → FirstIs (EffectIs (Counted state)) (preempt_cases rules state i type sark)
 unfolding preempt_cases
-counted-preempt state i type sark =
+counted-preempt rules state i type sark =
     let P = Counted state in
     let held = state.reservation in
     case_or (EffectIs P) _ _ (λ _. refused P _)
+    (λ _. case_or (EffectIs P) _ _ (λ _. refused P _)
     (λ _. case_or (EffectIs P) _ _ (λ _. taking P held i type _ (λ type. counts state _ refl))
     (λ _. case_or (EffectIs P) _ _ (λ _. taking P held i type _ (λ type. counts state _ refl))
     (λ _. case_or (EffectIs P) _ _ (λ _. refused P _)
-    (λ _. last_case (EffectIs P) _ _ refl (counts state _ refl)))))
+    (λ _. last_case (EffectIs P) _ _ refl (counts state _ refl))))))
 
-counted-action : (state : ReservationState) (i : ℕ) (action : OutAction)
+counted-action : (rules : Rules) (state : ReservationState) (i : ℕ) (action : OutAction)
     (type : Option ReservationType) (sark : ℕ) (aptpl : Bool)
-    → EffectIs (Counted state) (action_outcome state i action type sark aptpl)
-counted-action state i Register type sark aptpl = (counted-register state i sark aptpl).first
-counted-action state i Reserve type sark aptpl =
+    → EffectIs (Counted state) (action_outcome rules state i action type sark aptpl)
+counted-action rules state i Register type sark aptpl =
+    (counted-register rules state i sark aptpl).first
+counted-action rules state i Reserve type sark aptpl =
     typed (Counted state) type _ (λ type. (counted-reserve state i type).first)
-counted-action state i Release type sark aptpl =
-    typed (Counted state) type _ (λ type. (counted-release state i type).first)
-counted-action state i Clear type sark aptpl = counts state _ refl
-counted-action state i Preempt type sark aptpl = (counted-preempt state i type sark).first
-counted-action state i PreemptAndAbort type sark aptpl = (counted-preempt state i type sark).first
-counted-action state i RegisterAndIgnoreExistingKey type sark aptpl =
-    (counted-register state i sark aptpl).first
+counted-action rules state i Release type sark aptpl =
+    releasing (Counted state) rules state i type (λ _. refl) (counted-release state i)
+counted-action rules state i Clear type sark aptpl = counts state _ refl
+counted-action rules state i Preempt type sark aptpl =
+    (counted-preempt rules state i type sark).first
+counted-action rules state i PreemptAndAbort type sark aptpl =
+    (counted-preempt rules state i type sark).first
+counted-action rules state i RegisterAndIgnoreExistingKey type sark aptpl =
+    (counted-register rules state i sark aptpl).first
 
-counted-outcome : (state : ReservationState) (i : ℕ) (action : OutAction) (scope_type : ℕ)
-    (list : OutList) → EffectIs (Counted state) (outcome state i action scope_type list)
-counted-outcome state i action scope_type list =
-    if-accepted (Counted state) state i action scope_type list
-    (λ _. counted-action state i action (type_of scope_type) list.service_action_key list.aptpl)
+counted-outcome : (rules : Rules) (state : ReservationState) (i : ℕ) (action : OutAction)
+    (scope_type : ℕ) (list : OutList)
+    → EffectIs (Counted state) (outcome rules state i action scope_type list)
+counted-outcome rules state i action scope_type list =
+    if-accepted (Counted state) rules state i action scope_type list
+    (λ _. counted-action rules state i action (type_of scope_type) list.service_action_key list.aptpl)
 
 same_or_next : (increments : Bool) (n : ℕ)
     → (generation_after increments n ≡ n) ⊎ (generation_after increments n ≡ (n + 1) % 2 ^ 32)
@@ -379,8 +386,8 @@ counts_changes state (Ok change) h k = record {
 }
 counts_changes state (Err fault) h k = record { by_one = inl refl; unchanged = λ e. refl }
 
-pub generation_counts : (state : ReservationState) (i : ℕ) (action : OutAction) (scope_type : ℕ)
-    (list : OutList) → state.generation < 2 ^ 32
-    → CountsChanges state (state_after state (outcome state i action scope_type list))
-generation_counts state i action scope_type list h =
-    counts_changes state _ h (counted-outcome state i action scope_type list)
+pub generation_counts : (rules : Rules) (state : ReservationState) (i : ℕ) (action : OutAction)
+    (scope_type : ℕ) (list : OutList) → state.generation < 2 ^ 32
+    → CountsChanges state (state_after state (outcome rules state i action scope_type list))
+generation_counts rules state i action scope_type list h =
+    counts_changes state _ h (counted-outcome rules state i action scope_type list)

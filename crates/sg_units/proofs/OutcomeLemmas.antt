@@ -5,9 +5,11 @@ use Rattle.std.proofs.lemmas.Bool.{cond_both, false≢true, not-false}
 use Rattle.sg_wire.specs.OutList.{flags_at}
 use Rattle.sg_wire.specs.declared.command.out_action.OutAction.{OutAction}
 use Rattle.sg_wire.specs.declared.out_list.OutList.{OutList}
+use Rattle.sg_wire.specs.declared.profile.Rules.{Rules}
 use Rattle.sg_units.specs.ReservationType.{type_of}
 use Rattle.sg_units.specs.ReserveOut.{Case, Outcome, accepts_key, action_outcome, first_case, outcome}
-use Rattle.sg_units.specs.ReserveOut.{preempted, with_type}
+use Rattle.sg_units.specs.ReserveOut.{preempted, release_cases, release_outcome, unchanged, with_type}
+use Rattle.sg_units.specs.Reservations.{is_holder}
 use Rattle.sg_units.specs.UnsupportedFlags.{has_unsupported_flag}
 use Rattle.sg_units.specs.declared.reservation_change.ReservationChange.{ReservationChange}
 use Rattle.sg_units.specs.declared.out_fault.OutFault.{OutFault}
@@ -67,14 +69,24 @@ pub last_case : (P : Outcome → Type 0) (case : Case) (cases : List Case) → c
     → P case.outcome → FirstIs P (case ∷ cases)
 last_case P case cases e h = case_or P case cases (λ _. h) (λ no. absurd (false≢true (sym no ∙ e)))
 
+-- a RELEASE changes nothing, or the cases of a valid type decide
+pub releasing : (P : ReservationChange → Type 0) (rules : Rules) (state : ReservationState) (i : ℕ)
+    (type : Option ReservationType) → P (unchanged state)
+    → ((type : ReservationType) → FirstIs (EffectIs P) (release_cases state i type))
+    → EffectIs P (release_outcome rules state i type)
+releasing P rules state i type idle h =
+    choice (EffectIs P) (rules.releases_nothing_by_any_type && not (is_holder state i)) _ _
+    (λ _. effective P _ idle) (λ _. typed P type _ (λ type. (h type).first))
+
 -- a command is refused, or its key is accepted and it has the outcome of its service action
-pub if-accepted : (P : ReservationChange → Type 0) (state : ReservationState) (i : ℕ) (action : OutAction)
-    (scope_type : ℕ) (list : OutList)
+pub if-accepted : (P : ReservationChange → Type 0) (rules : Rules) (state : ReservationState) (i : ℕ)
+    (action : OutAction) (scope_type : ℕ) (list : OutList)
     → (accepts_key state.registrations i action list.reservation_key ≡ true
-    → EffectIs P (action_outcome state i action (type_of scope_type) list.service_action_key list.aptpl))
-    → EffectIs P (outcome state i action scope_type list)
+    → EffectIs P
+    (action_outcome rules state i action (type_of scope_type) list.service_action_key list.aptpl))
+    → EffectIs P (outcome rules state i action scope_type list)
 unfolding outcome
-if-accepted P state i action scope_type list h =
+if-accepted P rules state i action scope_type list h =
     let accepts = accepts_key state.registrations i action list.reservation_key in
     choice (EffectIs P) (has_unsupported_flag action list) _ _ (λ _. refused P (Field flags_at))
     (λ _. choice (EffectIs P) (not accepts) _ _ (λ _. refused P Conflict)

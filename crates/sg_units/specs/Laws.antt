@@ -2,6 +2,7 @@
 use Rattle.std.specs.Prelude.{◌≡◌, ◌≢◌, ◌⊎◌, ◌<◌, ◌+◌, ◌%◌, ◌^◌, ℕ, ◌==◌, Bool, true, false}
 use Rattle.std.specs.Prelude.{◌&&◌, ◌||◌, List, length, is_some, Option, Some, None, Ok, slice_get}
 use Rattle.sg_wire.specs.declared.command.Class.{Class}
+use Rattle.sg_wire.specs.declared.profile.Rules.{Rules}
 use Rattle.sg_wire.specs.declared.command.out_action.OutAction.{OutAction}
 use Rattle.sg_wire.specs.declared.command.out_action.OutAction.TheVariants.{Clear, Preempt}
 use Rattle.sg_wire.specs.declared.command.out_action.OutAction.TheVariants.{PreemptAndAbort}
@@ -141,9 +142,10 @@ pub record CountsChanges (before after : ReservationState) : Type 0 where
 
 abbrev pub GenerationCountsChanges : Type 0
 GenerationCountsChanges =
-    (state : ReservationState) (caller : ℕ) (action : OutAction) (scope_type : ℕ) (list : OutList)
+    (rules : Rules) (state : ReservationState) (caller : ℕ) (action : OutAction) (scope_type : ℕ)
+    (list : OutList)
     → state.generation < 2 ^ 32
-    → CountsChanges state (state_after state (outcome state caller action scope_type list))
+    → CountsChanges state (state_after state (outcome rules state caller action scope_type list))
 
 -- ---- The end of a reservation
 
@@ -160,9 +162,9 @@ ends_for_others _ = false
 -- If registrations and reservation are consistent, they are consistent after PERSISTENT RESERVE OUT
 -- and after a power cycle.
 pub record ReservationsStayConsistent : Type 0 where
-  pub changed : (state : ReservationState) (initiator : ℕ) (action : OutAction) (scope_type : ℕ)
-      (list : OutList) (change : ReservationChange) → IsConsistent state
-      → outcome state initiator action scope_type list ≡ Ok change → IsConsistentChange change
+  pub changed : (rules : Rules) (state : ReservationState) (initiator : ℕ) (action : OutAction)
+      (scope_type : ℕ) (list : OutList) (change : ReservationChange) → IsConsistent state
+      → outcome rules state initiator action scope_type list ≡ Ok change → IsConsistentChange change
   pub power_cycle : (state : ReservationState) → IsConsistent state → IsConsistent (after_power_on state)
 
 -- The queues of unit attentions stay within their limits if the oldest condition of a queue, or a

@@ -5,6 +5,7 @@ use Rattle.std.specs.Prelude.{Option, Some, None, unwrap_or, option_and_then, if
 use Rattle.std.specs.List.{flat_map}
 use Rattle.byteorder.specs.Endian.{big_bytes}
 use Rattle.sg_wire.specs.Fields.{Field, field, fields_bytes}
+use Rattle.sg_wire.specs.declared.profile.Rules.{Rules}
 use Rattle.sg_units.specs.Registrations.{key_of}
 use Rattle.sg_units.specs.ReservationType.{code_of, each_type}
 use Rattle.sg_units.specs.declared.registrations.Registration.{Registration}
@@ -68,17 +69,24 @@ ptpl_c = 0x01
 abbrev capable_bits : Field
 capable_bits = field 1 ptpl_c
 
--- Byte 3. TMV, bit 7: the type mask is valid. ALLOW COMMANDS 0h: no information on the commands
--- that a reservation allows. PTPL_A, bit 0: registrations and reservation do persist.
+-- Byte 3. TMV, bit 7: the type mask is valid. ALLOW COMMANDS, bits 6 to 4: which commands of others
+-- a reservation allows. PTPL_A, bit 0: registrations and reservation do persist.
 abbrev tmv : ℕ
 tmv = 0x80
 
 abbrev ptpl_a : ℕ
 ptpl_a = 0x01
 
--- Choice (SPC-4, 6.15.4): ALLOW COMMANDS may say which commands are allowed.
-abbrev activated_bits : ReservationState → Field
-activated_bits state = field 1 (if state.persists_through_power_loss then tmv + ptpl_a else tmv)
+-- 3h of an extended disk: Write Exclusive and Exclusive Access allow TEST UNIT READY. Write Exclusive
+-- also allows MODE SENSE, READ DEFECT DATA and the reports of commands and task management functions.
+abbrev allow_commands : Rules → ℕ
+allow_commands rules = rules.allow_commands % 2 ^ 3 * 2 ^ 4
+
+-- Choice (SPC-4, 6.15.4): 0h of a base disk gives no information on these commands.
+abbrev activated_bits : Rules → ReservationState → Field
+activated_bits rules state =
+    let flags = tmv + allow_commands rules in
+    field 1 (if state.persists_through_power_loss then flags + ptpl_a else flags)
 
 -- PERSISTENT RESERVATION TYPE MASK, bytes 4 and 5: WR_EX_AR, EX_AC_RO, WR_EX_RO, EX_AC, WR_EX and
 -- EX_AC_AR 1, because each type is supported. The bit of a type follows from its code: it is bit
@@ -96,13 +104,13 @@ type_mask byte = field 1 (sum (map type_bit (filter (is_in_byte byte) each_type)
 abbrev reserved : Field
 reserved = field 2 0
 
-abbrev capabilities_after_length : ReservationState → List ℕ
-capabilities_after_length state =
+abbrev capabilities_after_length : Rules → ReservationState → List ℕ
+capabilities_after_length rules state =
     fields_bytes (
-    capable_bits ∷ activated_bits state ∷ type_mask 0 ∷ type_mask 1 ∷ reserved ∷ []
+    capable_bits ∷ activated_bits rules state ∷ type_mask 0 ∷ type_mask 1 ∷ reserved ∷ []
     )
 
-abbrev pub capabilities_data : ReservationState → List ℕ
-capabilities_data state =
-    let following = capabilities_after_length state in
+abbrev pub capabilities_data : Rules → ReservationState → List ℕ
+capabilities_data rules state =
+    let following = capabilities_after_length rules state in
     fields_bytes (capabilities_length following ∷ []) ++ following

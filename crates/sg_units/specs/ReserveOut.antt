@@ -5,6 +5,7 @@ use Rattle.std.specs.Prelude.{Option, Some, None, is_some, is_none, unwrap_or}
 use Rattle.std.specs.List.{range_with_len}
 use Rattle.std.specs.Option.{option_map_or}
 use Rattle.sg_wire.specs.Initiator.{initiator_count}
+use Rattle.sg_wire.specs.declared.profile.Rules.{Rules}
 use Rattle.sg_units.specs.UnsupportedFlags.{has_unsupported_flag}
 use Rattle.sg_wire.specs.OutList.{flags_at, service_action_key_at}
 use Rattle.sg_units.specs.Raised.{Conditions}
@@ -77,6 +78,11 @@ abbrev pub first_case : List Case → Outcome
 first_case [] = Err Conflict
 first_case (case ∷ cases) = if case.condition then case.outcome else first_case cases
 
+-- A service action that needs a type is refused if the scope or the type is not valid.
+abbrev pub with_type : Option ReservationType → (ReservationType → Outcome) → Outcome
+with_type None outcome = Err BadType
+with_type (Some type) outcome = outcome type
+
 -- ---- What the end of a reservation raises for the other registrants
 
 -- Registrants are notified if they had the access of a holder.
@@ -95,15 +101,21 @@ released_unless_type held type = if has_type held type then None else Some Reser
 
 -- ---- The service actions. SARK is the SERVICE ACTION RESERVATION KEY
 
--- REGISTER and REGISTER AND IGNORE EXISTING KEY (SPC-4, 5.13, registering and unregistering).
--- Choice (SPC-4, 5.13, registering): the first case may count, with PRGENERATION and APTPL.
-unfoldable pub register_cases : ReservationState → (caller sark : ℕ) → (aptpl : Bool) → List Case
-register_cases state caller sark aptpl =
+-- REGISTER and REGISTER AND IGNORE EXISTING KEY (SPC-4, 5.13, registering and unregistering). If
+-- an initiator that is not registered sends key 0, then nothing is registered or unregistered. An
+-- extended disk counts this REGISTER, because PRGENERATION counts each REGISTER (SPC-4, 6.15.2). It
+-- takes APTPL, because the last REGISTER decides (SPC-4, 5.13).
+-- Choice (SPC-4, 5.13, registering): a base disk leaves PRGENERATION and APTPL then.
+unfoldable pub register_cases : Rules → ReservationState → (caller sark : ℕ) → (aptpl : Bool)
+    → List Case
+register_cases rules state caller sark aptpl =
     let all = state.registrations in
     let held = state.reservation in
     let known = is_registered all caller in
     let rest = without_initiator all caller in
-    when (not known && sark == 0) (Ok (unchanged state))
+    let idle = not known && sark == 0 in
+    when (rules.counts_each_register && idle) (Ok (registering state all aptpl))
+    ∷ when idle (Ok (unchanged state))
     ∷ when (not known && length all == max_registrations) (Err NoRoom)
     ∷ when (not known) (Ok (registering state (with_registration all caller sark) aptpl))
     ∷ when (not (sark == 0)) (Ok (registering state (with_key_replaced all caller sark) aptpl))
@@ -122,7 +134,7 @@ reserve_cases state caller type =
     ∷ otherwise (Err Conflict)
     ∷ []
 
--- RELEASE (SPC-4, 5.13, releasing).
+-- RELEASE of a valid type (SPC-4, 5.13, releasing).
 unfoldable pub release_cases : ReservationState → (caller : ℕ) → ReservationType → List Case
 release_cases state caller type =
     when (not (is_holder state caller)) (Ok (unchanged state))
@@ -132,6 +144,14 @@ release_cases state caller type =
       for_remaining = released type;
     }))
     ∷ []
+
+-- RELEASE. If a registrant holds nothing, an extended disk changes nothing, whatever SCOPE and TYPE
+-- are (SPC-4, 5.13, releasing). A base disk looks for a valid SCOPE and TYPE first.
+abbrev pub release_outcome : Rules → ReservationState → (caller : ℕ) → Option ReservationType → Outcome
+release_outcome rules state caller type =
+    if rules.releases_nothing_by_any_type && not (is_holder state caller)
+    then Ok (unchanged state)
+    else with_type type (λ type. first_case (release_cases state caller type))
 
 -- CLEAR (SPC-4, 5.13, clearing).
 abbrev pub cleared : Outcome
@@ -183,16 +203,19 @@ is_key_of_holder state key =
     option_map_or (λ holder. is_registered_under state.registrations holder key) r.holder false)
     state.reservation false
 
--- PREEMPT and PREEMPT AND ABORT (SPC-4, 5.13, preempting).
--- Departure (SPC-4, 5.13, preempting): 26h/00h for a SARK of 0 there, if none is held.
-unfoldable pub preempt_cases : ReservationState → (caller : ℕ) → Option ReservationType
+-- PREEMPT and PREEMPT AND ABORT (SPC-4, 5.13, preempting). A SARK of 0 is an error of the list,
+-- unless an all registrants reservation is held.
+-- Departure (SPC-4, 5.13, preempting): if none is held, a SARK of 0 is a conflict on a base disk.
+unfoldable pub preempt_cases : Rules → ReservationState → (caller : ℕ) → Option ReservationType
     → (sark : ℕ) → List Case
-preempt_cases state caller type sark =
+preempt_cases rules state caller type sark =
     let all = state.registrations in
     let held = state.reservation in
     let rest = without_key all sark in
     let take : List Registration → Outcome = preempted held caller type in
-    when (has_one_holder held && sark == 0) (Err (Field service_action_key_at))
+    let no_key = Err (Field service_action_key_at) in
+    when (has_one_holder held && sark == 0) no_key
+    ∷ when (rules.preempts_some_key && is_none held && sark == 0) no_key
     ∷ when (is_key_of_holder state sark) (take (without_key_of_others all caller sark))
     ∷ when (is_held_by_all held && sark == 0) (take (without_others all caller))
     ∷ when (not (has_key all sark)) (Err Conflict)
@@ -201,24 +224,20 @@ preempt_cases state caller type sark =
 
 -- ---- The command
 
--- A service action that needs a type is refused if the scope or the type is not valid.
-abbrev pub with_type : Option ReservationType → (ReservationType → Outcome) → Outcome
-with_type None outcome = Err BadType
-with_type (Some type) outcome = outcome type
-
-abbrev pub action_outcome : ReservationState → (caller : ℕ) → OutAction → Option ReservationType
-    → (sark : ℕ) → (aptpl : Bool) → Outcome
-action_outcome state i Register type sark aptpl = first_case (register_cases state i sark aptpl)
-action_outcome state i Reserve type sark aptpl =
+abbrev pub action_outcome : Rules → ReservationState → (caller : ℕ) → OutAction
+    → Option ReservationType → (sark : ℕ) → (aptpl : Bool) → Outcome
+action_outcome rules state i Register type sark aptpl =
+    first_case (register_cases rules state i sark aptpl)
+action_outcome rules state i Reserve type sark aptpl =
     with_type type (λ type. first_case (reserve_cases state i type))
-action_outcome state i Release type sark aptpl =
-    with_type type (λ type. first_case (release_cases state i type))
-action_outcome state i Clear type sark aptpl = cleared
-action_outcome state i Preempt type sark aptpl = first_case (preempt_cases state i type sark)
-action_outcome state i PreemptAndAbort type sark aptpl =
-    first_case (preempt_cases state i type sark)
-action_outcome state i RegisterAndIgnoreExistingKey type sark aptpl =
-    first_case (register_cases state i sark aptpl)
+action_outcome rules state i Release type sark aptpl = release_outcome rules state i type
+action_outcome rules state i Clear type sark aptpl = cleared
+action_outcome rules state i Preempt type sark aptpl =
+    first_case (preempt_cases rules state i type sark)
+action_outcome rules state i PreemptAndAbort type sark aptpl =
+    first_case (preempt_cases rules state i type sark)
+action_outcome rules state i RegisterAndIgnoreExistingKey type sark aptpl =
+    first_case (register_cases rules state i sark aptpl)
 
 -- The RESERVATION KEY has to be the caller's. To register for the first time it has to be 0, and
 -- REGISTER AND IGNORE EXISTING KEY ignores it.
@@ -229,15 +248,15 @@ accepts_key all caller Register key =
 accepts_key all caller action key = is_registered_under all caller key
 
 -- Choice (SAM-5, 5.3.3): a conflict may come before a fault of the list.
-unfoldable pub outcome : ReservationState → (caller : ℕ) → OutAction → (scope_type : ℕ) → OutList
-    → Outcome
-outcome state caller action scope_type list =
+unfoldable pub outcome : Rules → ReservationState → (caller : ℕ) → OutAction → (scope_type : ℕ)
+    → OutList → Outcome
+outcome rules state caller action scope_type list =
     let accepts = accepts_key state.registrations caller action list.reservation_key in
     let type = type_of scope_type in
     first_case (
     when (has_unsupported_flag action list) (Err (Field flags_at))
     ∷ when (not accepts) (Err Conflict)
-    ∷ otherwise (action_outcome state caller action type list.service_action_key list.aptpl)
+    ∷ otherwise (action_outcome rules state caller action type list.service_action_key list.aptpl)
     ∷ [])
 
 -- ---- What it leaves

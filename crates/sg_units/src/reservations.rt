@@ -1,7 +1,7 @@
 // Registrations and the persistent reservation for other crates: a value that is always consistent.
 use crate::reservation_state::ReservationState;
 use crate::{OutFault, OutList, Raised, ReservationChange};
-use sg_wire::{Class, Cut, Initiator, OutAction};
+use sg_wire::{Class, Cut, Initiator, OutAction, Rules};
 use std::marker::Model;
 
 // Flags of REPORT CAPABILITIES. Byte 2: persist through power loss capable. Byte 3: the type mask
@@ -11,6 +11,11 @@ const PTPL_C: u8 = 0x01;
 const TMV: u8 = 0x80;
 
 const PTPL_A: u8 = 0x01;
+
+// ALLOW COMMANDS of byte 3: three bits, of which the lowest is bit 4.
+const ALLOW_COMMANDS_LIMIT: u8 = 0x08;
+
+const ALLOW_COMMANDS_BIT: u8 = 0x10;
 
 // PERSISTENT RESERVATION TYPE MASK. Byte 4: WR_EX_AR, EX_AC_RO, WR_EX_RO, EX_AC and WR_EX. Byte 5:
 // EX_AC_AR.
@@ -57,21 +62,23 @@ impl Reservations {
     }
 
     /// Returns the change that a service action of PERSISTENT RESERVE OUT makes, for an initiator
-    /// (SPC-4, 5.13). The scope and type are byte 2 of the CDB. Nothing has changed yet.
+    /// (SPC-4, 5.13), on a disk with these rules. The scope and type are byte 2 of the CDB. Nothing
+    /// has changed yet.
     ///
     /// # Errors
     /// The first fault that applies.
     pub fn change(
         &self,
+        rules: Rules,
         caller: Initiator,
         action: OutAction,
         scope_type: u8,
         list: &OutList,
     ) -> Result<ReservationChange, OutFault>
-        ensures value { result ≡ outcome self.now caller action scope_type list.now }
+        ensures value { result ≡ outcome rules self.now caller action scope_type list.now }
         ensures consistent { IfOk result IsConsistentChange }
     {
-        self.state.outcome(caller, action, scope_type, list)
+        self.state.outcome(rules, caller, action, scope_type, list)
     }
 
     /// Applies the change of an initiator's command, and returns the unit attention conditions that
@@ -100,20 +107,21 @@ impl Reservations {
     /// The first fault that applies. Nothing has changed then.
     pub fn out(
         &mut self,
+        rules: Rules,
         caller: Initiator,
         action: OutAction,
         scope_type: u8,
         list: &OutList,
     ) -> Result<Raised, OutFault>
         ensures reply { result ≡
-            reply_of self.old caller (outcome self.old caller action scope_type list.now) }
+            reply_of self.old caller (outcome rules self.old caller action scope_type list.now) }
         ensures state { self.new ≡
-            state_after self.old (outcome self.old caller action scope_type list.now) }
+            state_after self.old (outcome rules self.old caller action scope_type list.now) }
         ensures consistent { IsConsistent self.new }
     {
         // A use of a field makes it known that the state is consistent. A fault leaves it so.
         let _ = &self.state;
-        let change = self.change(caller, action, scope_type, list)?;
+        let change = self.change(rules, caller, action, scope_type, list)?;
         Ok(self.apply(caller, change))
     }
 
@@ -173,15 +181,16 @@ impl Reservations {
         self.state.read_full_status(cut);
     }
 
-    /// Writes the data-in of REPORT CAPABILITIES (SPC-4, 6.15.4).
-    pub fn report_capabilities(&self, cut: &mut Cut)
-        ensures data { Puts cut.old cut.new (capabilities_data self.now) }
-        ensures at_most { length (capabilities_data self.now) ≤ longest_reserve_in }
+    /// Writes the data-in of REPORT CAPABILITIES (SPC-4, 6.15.4), of a disk with these rules.
+    pub fn report_capabilities(&self, rules: Rules, cut: &mut Cut)
+        ensures data { Puts cut.old cut.new (capabilities_data rules self.now) }
+        ensures at_most { length (capabilities_data rules self.now) ≤ longest_reserve_in }
     {
+        let allowed = TMV + rules.allow_commands % ALLOW_COMMANDS_LIMIT * ALLOW_COMMANDS_BIT;
         let flags = if self.state.persists_through_power_loss {
-            TMV + PTPL_A
+            allowed + PTPL_A
         } else {
-            TMV
+            allowed
         };
         let [first, second] = TYPE_MASK;
         cut.put(&[0x00, 0x08, PTPL_C, flags, first, second, 0x00, 0x00]);

@@ -6,19 +6,20 @@ ghost use Rattle.sg_units.specs.UnsupportedFlags.{has_unsupported_flag};
 use super::ReservationState;
 use crate::reservation_change::ReservationChange;
 use crate::{OutFault, OutList, ReservationType};
-use sg_wire::{Initiator, OutAction};
+use sg_wire::{Initiator, OutAction, Rules};
 
 impl ReservationState {
     /// The change of a command. Nothing has changed yet.
     #[tactic(auto, unfolding(crate::specs::ReserveOut::outcome))]
     pub(crate) fn outcome(
         &self,
+        rules: Rules,
         caller: Initiator,
         action: OutAction,
         scope_type: u8,
         list: &OutList,
     ) -> Result<ReservationChange, OutFault>
-        ensures { result ≡ outcome self.now caller action scope_type list.now }
+        ensures { result ≡ outcome rules self.now caller action scope_type list.now }
     {
         if has_unsupported_flag(list, action) {
             return Err(OutFault::Field(OutList::FLAGS_AT as u8));
@@ -27,7 +28,7 @@ impl ReservationState {
             return Err(OutFault::Conflict);
         }
         let kind = ReservationType::with_scope_and_type(scope_type);
-        self.action_outcome(caller, action, kind, list)
+        self.action_outcome(rules, caller, action, kind, list)
     }
 
     /// Returns `true` if a key is the caller's, or the action needs no key.
@@ -50,25 +51,26 @@ impl ReservationState {
 
     fn action_outcome(
         &self,
+        rules: Rules,
         caller: Initiator,
         action: OutAction,
         kind: Option<ReservationType>,
         list: &OutList,
     ) -> Result<ReservationChange, OutFault>
-        ensures { result ≡ action_outcome self.now caller action kind
+        ensures { result ≡ action_outcome rules self.now caller action kind
             list.now.service_action_key list.now.aptpl }
     {
         let service_action_key = list.service_action_key;
         match action {
             OutAction::Register | OutAction::RegisterAndIgnoreExistingKey => {
-                self.register(caller, service_action_key, list.aptpl)
+                self.register(rules, caller, service_action_key, list.aptpl)
             }
             OutAction::Reserve => { self.reserve(caller, kind.ok_or(OutFault::BadType)?) }
-            OutAction::Release => { self.release(caller, kind.ok_or(OutFault::BadType)?) }
+            OutAction::Release => self.release(rules, caller, kind),
             OutAction::Clear => Ok(self.clear()),
             // No command is there to abort: each has ended before the next begins.
             OutAction::Preempt | OutAction::PreemptAndAbort => {
-                self.preempt(caller, kind, service_action_key)
+                self.preempt(rules, caller, kind, service_action_key)
             }
         }
     }

@@ -1,5 +1,5 @@
 // PREEMPT and PREEMPT AND ABORT (SPC-4, 5.13) are the same here: no command is left to abort.
-ghost use Rattle.std.specs.Prelude.{◌≡◌, Ok};
+ghost use Rattle.std.specs.Prelude.{◌≡◌, ◌&&◌, ◌||◌, Ok, is_none};
 ghost use Rattle.sg_units.specs.ReserveOut.{first_case, has_one_holder, is_held_by_all};
 ghost use Rattle.sg_units.specs.ReserveOut.{is_key_of_holder, preempt_cases};
 ghost use Rattle.sg_units.specs.ReserveOut.{preempted, registrations_preempted};
@@ -8,7 +8,7 @@ use super::ReservationState;
 use crate::registrations::Registrations;
 use crate::reservation_change::ReservationChange;
 use crate::{OutFault, OutList, Reservation, ReservationType, UnitAttention};
-use sg_wire::Initiator;
+use sg_wire::{Initiator, Rules};
 
 impl ReservationState {
     /// Removes the registrations under a key. The caller takes the reservation if the key is the
@@ -16,13 +16,15 @@ impl ReservationState {
     #[tactic(auto, unfolding(crate::specs::ReserveOut::preempt_cases))]
     pub(super) fn preempt(
         &self,
+        rules: Rules,
         caller: Initiator,
         kind: Option<ReservationType>,
         service_action_key: u64,
     ) -> Result<ReservationChange, OutFault>
-        ensures { result ≡ first_case (preempt_cases self.now caller kind service_action_key) }
+        ensures { result ≡
+            first_case (preempt_cases rules self.now caller kind service_action_key) }
     {
-        if self.has_one_holder() && service_action_key == 0 {
+        if self.needs_some_key(rules) && service_action_key == 0 {
             return Err(OutFault::Field(OutList::SERVICE_ACTION_KEY_AT as u8));
         }
         let mut registrations = self.registrations.copied();
@@ -79,6 +81,15 @@ impl ReservationState {
             increments_generation: true,
             aptpl: None,
         }
+    }
+
+    /// Returns `true` if key 0 names no registration to preempt: one initiator holds the reservation,
+    /// or by these rules none does.
+    fn needs_some_key(&self, rules: Rules) -> bool
+        ensures { result ≡ (has_one_holder self.now.reservation
+            || (rules.preempts_some_key && is_none self.now.reservation)) }
+    {
+        self.has_one_holder() || rules.preempts_some_key && self.reservation.is_none()
     }
 
     fn has_one_holder(&self) -> bool

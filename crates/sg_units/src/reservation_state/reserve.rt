@@ -1,13 +1,13 @@
 // RESERVE, RELEASE and CLEAR (SPC-4, 5.13). Only CLEAR changes registrations.
 ghost use Rattle.std.specs.Prelude.{◌≡◌, Ok};
-ghost use Rattle.sg_units.specs.ReserveOut.{cleared, first_case, release_cases};
+ghost use Rattle.sg_units.specs.ReserveOut.{cleared, first_case, release_cases, release_outcome};
 ghost use Rattle.sg_units.specs.ReserveOut.{reserve_cases};
 
 use super::ReservationState;
 use crate::registrations::Registrations;
 use crate::reservation_change::ReservationChange;
 use crate::{OutFault, Reservation, ReservationType, UnitAttention};
-use sg_wire::Initiator;
+use sg_wire::{Initiator, Rules};
 
 impl ReservationState {
     /// A registrant takes a reservation, if none is held.
@@ -31,9 +31,25 @@ impl ReservationState {
         Err(OutFault::Conflict)
     }
 
-    /// A holder ends the reservation.
-    #[tactic(auto, unfolding(crate::specs::ReserveOut::release_cases))]
+    /// A holder ends the reservation. The rules say whether a registrant that holds nothing needs a
+    /// valid scope and type.
     pub(super) fn release(
+        &self,
+        rules: Rules,
+        caller: Initiator,
+        kind: Option<ReservationType>,
+    ) -> Result<ReservationChange, OutFault>
+        ensures { result ≡ release_outcome rules self.now caller kind }
+    {
+        if rules.releases_nothing_by_any_type && !self.is_holder(caller) {
+            return Ok(self.unchanged());
+        }
+        self.release_typed(caller, kind.ok_or(OutFault::BadType)?)
+    }
+
+    /// A holder ends the reservation, if it has this type.
+    #[tactic(auto, unfolding(crate::specs::ReserveOut::release_cases))]
+    fn release_typed(
         &self,
         caller: Initiator,
         kind: ReservationType,

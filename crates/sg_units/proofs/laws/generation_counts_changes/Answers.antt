@@ -2,4 +2,5 @@ use Rattle.sg_units.proofs.LawLemmas.{generation_counts}
 use Rattle.sg_units.proofs.laws.generation_counts_changes.Goals as goal
 
 pub returns : goal.returns
-returns c state i action scope_type list h = generation_counts state i action scope_type list h
+returns c rules state i action scope_type list h =
+    generation_counts rules state i action scope_type list h

@@ -4,7 +4,7 @@ use Rattle.sg_units.proofs.laws.reservations_stay_consistent.Goals as goal
 
 pub returns : goal.returns
 returns c = record {
-  changed = λ state i action scope_type list change h e.
-      (consistent-outcome state i action scope_type list h).shown change e;
+  changed = λ rules state i action scope_type list change h e.
+      (consistent-outcome rules state i action scope_type list h).shown change e;
   power_cycle = consistent-power_on;
 }

@@ -7,4 +7,4 @@ pub returns-clause-consistent : goal.returns-clause-consistent
 returns-clause-consistent c =
     let a = c.args in
     if-ok IsConsistentChange _ _ c.outcome.ensures
-    (consistent-outcome _ a.caller a.action a.scope_type a.list.now c.self.invariant)
+    (consistent-outcome a.rules _ a.caller a.action a.scope_type a.list.now c.self.invariant)
