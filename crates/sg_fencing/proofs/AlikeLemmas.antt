@@ -29,7 +29,7 @@ use Rattle.sg_units.specs.declared.reservation_state.ReservationState.{Reservati
 use Rattle.sg_units.specs.declared.unit_attention.UnitAttention.{UnitAttention}
 use Rattle.sg_units.specs.declared.unit_attention.UnitAttention.TheVariants.{ModeParametersChanged}
 use Rattle.sg_units.specs.declared.unit_attention.UnitAttention.TheVariants.{ReportedLunsDataChanged}
-use Rattle.sg_target.specs.BlockCommands.{reading, writing}
+use Rattle.sg_target.specs.BlockCommands.{comparing, comparing_each, exchanging, reading, writing}
 use Rattle.sg_target.specs.Checks.{bad_field, cdb_checks, checked_parse, empty_cdb}
 use Rattle.sg_target.specs.Checks.{pending_attention, reservation_conflict, short_cdb}
 use Rattle.sg_target.specs.Checks.{unknown_opcode}
@@ -46,6 +46,8 @@ use Rattle.sg_target.specs.State.{State, profile_of}
 use Rattle.sg_target.specs.Step.{Step, cut, executed, good, outcome, refused}
 use Rattle.sg_target.specs.Charge.{step_by}
 use Rattle.sg_target.specs.declared.operation.Operation.{Operation}
+use Rattle.sg_target.specs.declared.operation.Operation.TheVariants.{Compare, CompareAndWrite}
+use Rattle.sg_target.specs.declared.operation.Operation.TheVariants.{CompareEach, Verify}
 use Rattle.sg_target.specs.declared.operation.Operation.TheVariants.{Nothing, ReturnSense}
 use Rattle.sg_target.specs.declared.operation.Operation.TheVariants.{ReturnInquiry, ReturnModes}
 use Rattle.sg_target.specs.declared.operation.Operation.TheVariants.{ChangeModes, ReturnCapacity10}
@@ -311,6 +313,12 @@ module _ (Related : ReservationState → ReservationState → Type 0) (s : State
       (returning_up_to t n (capacity_16 t.disk.capacity)) refl refl refl refl refl
   operation-agrees (Read extent) c = leaving (reading s extent) (reading t extent) refl refl refl refl refl
   operation-agrees (Write out) c = leaving (writing s out) (writing t out) refl refl refl refl refl
+  operation-agrees (Verify extent) c = leaving (no_effect s) (no_effect t) refl refl refl refl refl
+  operation-agrees (Compare out) c = leaving (comparing s out) (comparing t out) refl refl refl refl refl
+  operation-agrees (CompareEach extent block) c =
+      leaving (comparing_each s extent block) (comparing_each t extent block) refl refl refl refl refl
+  operation-agrees (CompareAndWrite exchange) c =
+      leaving (exchanging s exchange) (exchanging t exchange) refl refl refl refl refl
   operation-agrees (PreFetch extent) c = leaving (no_effect s) (no_effect t) refl refl refl refl refl
   operation-agrees (Synchronize extent) c = leaving (no_effect s) (no_effect t) refl refl refl refl refl
   operation-agrees (MarkBad lba cor_dis) c = leaving (no_effect s) (no_effect t) refl refl refl refl refl

@@ -14,6 +14,10 @@ use Rattle.sg_wire.specs.declared.command.CdbFault.{CdbFault}
 use Rattle.sg_wire.specs.declared.command.out_action.OutAction.{OutAction}
 use Rattle.sg_wire.specs.declared.extent.Extent.{Extent}
 use Rattle.sg_wire.specs.declared.out_list.OutList.{OutList}
+use Rattle.sg_wire.specs.declared.command.verify.ByteCheck.{ByteCheck}
+use Rattle.sg_wire.specs.declared.command.verify.ByteCheck.TheVariants as check
+use Rattle.sg_pages.specs.BlockDescriptor.{logical_block_length}
+use Rattle.sg_target.specs.Demands.{extent, takes, too_long, verify, verify_only}
 use Rattle.sg_target.specs.Armed.{first_blocks}
 use Rattle.sg_target.specs.Config.{ConfigFields}
 use Rattle.sg_target.specs.Demands.{demands, unmap_extent, unmap_extents}
@@ -25,6 +29,8 @@ use Rattle.sg_pages.specs.declared.reports.Report.TheVariants as report
 use Rattle.sg_target.specs.Refusal.{or_refused, when_sound}
 use Rattle.sg_target.specs.ReservationCommands.{fields_out}
 use Rattle.sg_target.specs.declared.operation.Operation.{Operation}
+use Rattle.sg_target.specs.declared.operation.Operation.TheVariants.{Compare, CompareAndWrite}
+use Rattle.sg_target.specs.declared.operation.Operation.TheVariants.{CompareEach, Verify}
 use Rattle.sg_target.specs.declared.operation.Operation.TheVariants.{ChangeModes, Read, Write, Fill}
 use Rattle.sg_target.specs.declared.operation.Operation.TheVariants.{Unmap, UnmapExtent, Anchor, AnchorExtent}
 use Rattle.sg_target.specs.declared.operation.Operation.TheVariants.{MarkBad}
@@ -44,6 +50,10 @@ use Rattle.sg_fencing.specs.Laws.{may_change_blocks}
 abbrev pub class_for : Operation → Option Class
 class_for (Read extent) = Some Reads
 class_for (ReturnLbaStatus start n) = Some Reads
+class_for (Verify extent) = Some Reads
+class_for (Compare out) = Some Reads
+class_for (CompareEach extent block) = Some Reads
+class_for (CompareAndWrite exchange) = Some Writes
 class_for (Write out) = Some Writes
 class_for (Fill extent block) = Some Writes
 class_for (MarkBad lba cor_dis) = Some Writes
@@ -112,6 +122,26 @@ unmap-suits command w s true extents =
 unmap-suits command w s false extents =
     record { class = λ class h. cc; of_kind = λ kind k. refl; shown = s }
 
+-- VERIFY reads
+module _ (command : Command) (r : (layout command).class ≡ Reads)
+    (s : shows_others (Ok command) ≡ false) (config : ConfigFields) (extent : Extent) (byte : ℕ) where
+  each-suits : (block : List ℕ) (none : Bool)
+      → SuitsIf command (cond none (verify_only config extent byte)
+      (takes config logical_block_length (too_long config extent.count byte)
+      (Ok (CompareEach extent block)))).operation
+  each-suits block true = record { class = λ class h. cc; of_kind = λ kind k. refl; shown = s }
+  each-suits block false = record { class = λ class h. cc; of_kind = λ kind k. refl; shown = s }
+
+  verify-suits : (check : ByteCheck) (data_out : List ℕ)
+      → SuitsIf command (verify config check extent byte data_out).operation
+  verify-suits check.Nothing data_out =
+      record { class = λ class h. cc; of_kind = λ kind k. refl; shown = s }
+  verify-suits check.Reserved data_out =
+      record { class = λ class h. cc; of_kind = λ kind k. refl; shown = s }
+  verify-suits check.DataOut data_out =
+      record { class = λ class h. cc; of_kind = λ kind k. refl; shown = s }
+  verify-suits check.OneBlock data_out = each-suits (block_out data_out) (extent.count == 0)
+
 pub suits : (config : ConfigFields) (command : Command) (data_out : List ℕ)
     → SuitsIf command (demands config command data_out).operation
 suits config (command.Inquiry c) data_out =
@@ -120,6 +150,15 @@ suits config (command.Inquiry c) data_out =
     (CheckCondition (InvalidFieldInCdb 2)))
     (λ page. ReturnInquiry page c.allocation_length)
     (λ page. record { class = λ class h. cc; of_kind = λ kind k. refl; shown = refl })
+suits config (command.Verify10 c) data_out =
+    verify-suits (command.Verify10 c) refl refl config (extent c.extent.lba c.extent.count) 7
+    c.byte_check data_out
+suits config (command.Verify12 c) data_out =
+    verify-suits (command.Verify12 c) refl refl config (extent c.extent.lba c.extent.count) 6
+    c.byte_check data_out
+suits config (command.Verify16 c) data_out =
+    verify-suits (command.Verify16 c) refl refl config (extent c.extent.lba c.extent.count) 10
+    c.byte_check data_out
 suits config (command.LogSense c) data_out =
     sound-suits (command.LogSense c)
     (or_refused (λ byte. CheckCondition (InvalidFieldInCdb byte))

@@ -27,6 +27,7 @@ use Rattle.sg_target.specs.Semantics.{effect_of}
 use Rattle.sg_target.specs.State.{IsWithinLimits, State}
 use Rattle.sg_target.specs.Step.{Step, outcome as step_outcome, refused, step}
 use Rattle.sg_target.specs.declared.operation.Operation.{Operation}
+use Rattle.sg_target.specs.declared.operation.Operation.TheVariants.{CompareAndWrite}
 use Rattle.sg_target.specs.declared.operation.Operation.TheVariants.{ReturnSense, ReturnModes}
 use Rattle.sg_target.specs.declared.operation.Operation.TheVariants.{ReturnLuns}
 use Rattle.sg_target.specs.declared.operation.Operation.TheVariants.{ChangeModes, Write, Fill, Unmap}
@@ -126,6 +127,7 @@ module _ (Where : State → Type 0) (state : State) (i j : ℕ) (other : j ≡ i
         sound-keeps (mode_parameters state.modes request) (returning_up_to state n)
         (λ list _. same state i)
     operation-keeps (ChangeModes width sp list) c = absurd (c refl)
+    operation-keeps (CompareAndWrite exchange) c = absurd (c refl)
     operation-keeps (Write out) c = absurd (c refl)
     operation-keeps (Fill extent block) c = absurd (c refl)
     operation-keeps (Unmap extents) c = absurd (c refl)

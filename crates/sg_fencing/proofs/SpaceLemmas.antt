@@ -6,6 +6,7 @@ use Rattle.std.specs.Prelude.{◌==◌, if◌then◌else◌, ◌+◌, ◌^◌, �
 use Rattle.std.specs.Prelude.{option_and_then, slice_index}
 use Rattle.std.specs.Option.{option_map}
 use Rattle.sg_wire.specs.CdbDecoding.{class_in, command_in, command_of, is_blocked_in}
+use Rattle.sg_wire.specs.Profile.{rules_of}
 use Rattle.sg_wire.specs.SenseData.{SenseFields, fixed_data, sense_data}
 use Rattle.sg_wire.specs.declared.command.CdbFault.{CdbFault}
 use Rattle.sg_wire.specs.declared.command.CdbFault.TheVariants.{Empty, Opcode, Short, Field}
@@ -15,27 +16,30 @@ use Rattle.sg_wire.specs.declared.command.Command.TheVariants as command
 use Rattle.sg_wire.specs.declared.extent.Extent.{Extent}
 use Rattle.sg_wire.specs.declared.sense.Format.{Format}
 use Rattle.sg_wire.specs.declared.sense.Format.TheVariants.{Fixed, Descriptor}
-use Rattle.sg_pages.specs.ModePage.{ModeState, write_protected}
+use Rattle.sg_pages.specs.ModePage.{write_protected}
 use Rattle.sg_units.specs.Access.{allows}
 use Rattle.sg_units.specs.Attentions.{oldest}
-use Rattle.sg_target.specs.BlockCommands.{blocks_out}
+use Rattle.sg_target.specs.BlockCommands.{blocks_out, bytes_of}
 use Rattle.sg_wire.proofs.ProfileLemmas.{read-any}
 use Rattle.sg_target.specs.Checks.{bad_field, cdb_checks, checked_cdb, checked_effect}
 use Rattle.sg_target.specs.Checks.{checked_operation, checked_parse, empty_cdb, medium_checks}
 use Rattle.sg_target.specs.Checks.{out_of_range, past_capacity, pending_attention, requested}
 use Rattle.sg_target.specs.Checks.{reservation_conflict, short_cdb, short_data_out, unknown_opcode}
-use Rattle.sg_target.specs.Checks.{unsupported_value, write_protection}
+use Rattle.sg_target.specs.Checks.{unsupported_value, write_protection, writes_some}
+use Rattle.sg_target.specs.Config.{ConfigFields}
 use Rattle.sg_target.specs.CommandLaws.{WritesOverUsedAddressesHaveSpace, blocks_to_write}
-use Rattle.sg_target.specs.Demands.{bad_comparison, extent, too_long, write}
+use Rattle.sg_target.specs.Demands.{bad_comparison, extent, need, too_long, write}
 use Rattle.sg_target.specs.Effect.{Effect}
 use Rattle.sg_target.specs.Refusal.{checked_next, first_some, refusal_for, sense_of, unless_refused}
-use Rattle.sg_target.specs.Semantics.{effect_of, medium_use}
+use Rattle.sg_target.specs.Semantics.{MediumUse, effect_of, medium_use}
 use Rattle.sg_target.specs.State.{State, config_of, profile_of}
 use Rattle.sg_target.specs.Step.{Answer, outcome, refusal_answer, sense_format}
 use Rattle.sg_target.specs.declared.operation.Operation.TheVariants as operation
 use Rattle.sg_target.specs.declared.refusal.Reason.{Reason}
 use Rattle.sg_target.specs.declared.refusal.Reason.TheVariants.{LbaOutOfRange}
-use Rattle.sg_target.specs.declared.refusal.Reason.TheVariants.{SoftwareWriteProtected}
+use Rattle.sg_target.specs.declared.refusal.Reason.TheVariants.{SoftwareWriteProtected, WriteProtected}
+use Rattle.sg_target.specs.declared.refusal.Reason.TheVariants.{DataPhaseError, InvalidInformationUnit}
+use Rattle.sg_target.specs.declared.refusal.Reason.TheVariants.{Miscompare}
 use Rattle.sg_target.specs.declared.refusal.Reason.TheVariants.{SpaceAllocationFailed, Fault}
 use Rattle.sg_target.specs.declared.refusal.Refusal.{Refusal}
 use Rattle.sg_target.specs.declared.refusal.Refusal.TheVariants.{Conflict, CheckCondition}
@@ -82,7 +86,7 @@ differ-fixed true lba s second index byte with_lba without is =
 differ-fixed false lba s second index byte with_lba without is =
     differ (fixed_data 0x70 0 s) second index byte without is
 
--- the sense key is byte 2 in fixed format, and byte 1 in descriptor format; only software write
+-- the sense key is byte 2 in fixed format, and byte 1 in descriptor format; only write
 -- protection has the same key, and has another qualifier
 fixed-apart : (reason : Reason) → is_for_space reason ≡ false
     → sense_data Fixed (sense_of reason) ≡ sense_data Fixed (sense_of SpaceAllocationFailed) → ⊥
@@ -91,7 +95,10 @@ fixed-apart SpaceAllocationFailed h = absurd (false≢true (sym h))
 fixed-apart (Fault code first_bad) h = absurd (false≢true (sym h))
 fixed-apart (LbaOutOfRange lba) h =
     differ-fixed (nat_lt lba (2 ^ 32)) lba (sense_of (LbaOutOfRange lba)) _ 2 7 refl refl refl
+fixed-apart (Miscompare offset) h =
+    differ-fixed (nat_lt offset (2 ^ 32)) offset (sense_of (Miscompare offset)) _ 2 7 refl refl refl
 fixed-apart SoftwareWriteProtected h = differ _ _ 13 7 refl refl
+fixed-apart WriteProtected h = differ _ _ 13 7 refl refl
 fixed-apart _ h = differ _ _ 2 7 refl refl
 
 descriptor-apart : (reason : Reason) → is_for_space reason ≡ false
@@ -101,6 +108,7 @@ unfolding sense_data
 descriptor-apart SpaceAllocationFailed h = absurd (false≢true (sym h))
 descriptor-apart (Fault code first_bad) h = absurd (false≢true (sym h))
 descriptor-apart SoftwareWriteProtected h = differ _ _ 3 7 refl refl
+descriptor-apart WriteProtected h = differ _ _ 3 7 refl refl
 descriptor-apart _ h = differ _ _ 1 7 refl refl
 
 fixed-descriptor-apart : (reason : Reason)
@@ -108,6 +116,8 @@ fixed-descriptor-apart : (reason : Reason)
 unfolding sense_data
 fixed-descriptor-apart (LbaOutOfRange lba) =
     differ-fixed (nat_lt lba (2 ^ 32)) lba (sense_of (LbaOutOfRange lba)) _ 0 0x72 refl refl refl
+fixed-descriptor-apart (Miscompare offset) =
+    differ-fixed (nat_lt offset (2 ^ 32)) offset (sense_of (Miscompare offset)) _ 0 0x72 refl refl refl
 fixed-descriptor-apart (Fault code (Some lba)) =
     differ-fixed (nat_lt lba (2 ^ 32)) lba (sense_of (Fault code (Some lba))) _ 0 0x72 refl refl refl
 fixed-descriptor-apart (Fault code None) = differ _ _ 0 0x72 refl refl
@@ -184,18 +194,33 @@ class-other state i None = tt
 class-other state i (Some class) =
     unless-other (allows state.reservations i class) (Some Conflict) tt
 
-data-other : (needed : Option ℕ) (data_out : List ℕ) → IsOtherIfAny (short_data_out needed data_out)
-data-other None data_out = tt
-data-other (Some n) data_out = if-other (nat_lt (length data_out) n) _ refl
+reason-other : (config : ConfigFields) (is_illegal : Bool)
+    → IsOther (CheckCondition (cond is_illegal InvalidInformationUnit DataPhaseError))
+reason-other config true = refl
+reason-other config false = refl
+
+data-other : (config : ConfigFields) (n : ℕ) (data_out : List ℕ)
+    → IsOtherIfAny (short_data_out (Some (need config n)) data_out)
+data-other config n data_out =
+    if-other (nat_lt (length data_out) n) _
+    (reason-other config (rules_of config.identity.profile).short_data_out_is_illegal)
 
 range-other : (capacity : ℕ) (e : Extent) → IsOtherIfAny (out_of_range capacity (e ∷ []))
 unfolding out_of_range
 range-other capacity e =
     first-other (past_capacity capacity e) [] (if-other (nat_lt capacity (e.lba + e.count)) _ refl) tt
 
-protection-other : (modes : ModeState) (writes : Bool) → IsOtherIfAny (write_protection modes writes)
+protected-other : (only_writes : Bool)
+    → IsOther (CheckCondition (cond only_writes WriteProtected SoftwareWriteProtected))
+protected-other true = refl
+protected-other false = refl
+
+protection-other : (state : State) (medium : MediumUse) → IsOtherIfAny (write_protection state medium)
 unfolding write_protection
-protection-other modes writes = if-other (write_protected modes && writes) _ refl
+protection-other state medium =
+    let rules = rules_of (profile_of state) in
+    if-other (write_protected state.modes && writes_some rules medium) _
+    (protected-other rules.protects_only_writes)
 
 cdb-other : (state : State) (i : ℕ) (cdb : List ℕ) → IsOtherIfAny (first_some (cdb_checks state i cdb))
 cdb-other state i cdb =
@@ -229,22 +254,23 @@ module _ (state : State) (i : ℕ) (data_out : List ℕ) where
       (first_some (medium_checks state (medium_use (operation.Write (blocks_out out data_out)))))
       (first-other (out_of_range state.disk.capacity (out ∷ [])) _
       (range-other state.disk.capacity out)
-      (first-other (write_protection state.modes true) [] (protection-other state.modes true) tt))
+      (first-other (write_protection state (medium_use (operation.Write (blocks_out out data_out)))) []
+      (protection-other state (medium_use (operation.Write (blocks_out out data_out)))) tt))
   by-request out (Some refusal) h = h
 
   write-other : (out : Extent) (unsupported : Option ℕ)
       → IsOtherIfRefused
       (checked_next
-      (checked_next (requested (write out unsupported data_out) data_out) (checked_operation state))
+      (checked_next (requested (write (config_of state) out unsupported data_out) data_out) (checked_operation state))
       (effect_of state i))
   write-other out unsupported =
-      let d = write out unsupported data_out in
+      let d = write (config_of state) out unsupported data_out in
       by-request out
-      (first_some (unsupported_value unsupported ∷ short_data_out d.data_out_length data_out ∷ []))
+      (first_some (unsupported_value unsupported ∷ short_data_out d.data_out data_out ∷ []))
       (first-other (unsupported_value unsupported) _
       (mapped-other unsupported _ (λ byte. refl))
-      (first-other (short_data_out d.data_out_length data_out) []
-      (data-other d.data_out_length data_out) tt))
+      (first-other (short_data_out d.data_out data_out) []
+      (data-other (config_of state) (bytes_of out) data_out) tt))
 
   by-cdb : (first : Option Refusal) (parse : Result Command CdbFault) (out : Extent)
       → IsOtherIfAny first

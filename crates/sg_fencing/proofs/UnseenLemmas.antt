@@ -15,6 +15,8 @@ use Rattle.sg_target.specs.State.{State}
 use Rattle.sg_target.specs.Step.{Step, outcome, step}
 use Rattle.sg_target.specs.Charge.{step_by}
 use Rattle.sg_target.specs.declared.operation.Operation.{Operation}
+use Rattle.sg_target.specs.declared.operation.Operation.TheVariants.{Compare, CompareAndWrite}
+use Rattle.sg_target.specs.declared.operation.Operation.TheVariants.{CompareEach, Verify}
 use Rattle.sg_target.specs.declared.operation.Operation.TheVariants.{ReturnModes, ChangeModes}
 use Rattle.sg_target.specs.declared.operation.Operation.TheVariants.{Read, Write, Fill, Unmap}
 use Rattle.sg_target.specs.declared.operation.Operation.TheVariants.{UnmapExtent, ReturnLbaStatus}
@@ -44,6 +46,10 @@ module _ (s : State) (x : Contents) (j : ℕ) where
   unfolding reservation_change
   operation-alike (Read extent) r w = absurd (r refl)
   operation-alike (ReturnLbaStatus start n) r w = absurd (r refl)
+  operation-alike (Verify extent) r w = absurd (r refl)
+  operation-alike (Compare out) r w = absurd (r refl)
+  operation-alike (CompareEach extent block) r w = absurd (r refl)
+  operation-alike (CompareAndWrite exchange) r w = absurd (w refl)
   operation-alike (Write out) r w = absurd (w refl)
   operation-alike (Fill extent block) r w = absurd (w refl)
   operation-alike (Unmap extents) r w = absurd (w refl)

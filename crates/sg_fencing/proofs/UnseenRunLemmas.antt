@@ -11,9 +11,11 @@ use Rattle.std.proofs.lemmas.Bool.{eqb-true}
 use Rattle.sg_wire.specs.Laws.{CommandsHaveTheirClass}
 use Rattle.sg_store.specs.Disk.{Contents}
 use Rattle.sg_units.specs.Laws.{OthersAreRefused}
+use Rattle.sg_target.specs.BlockCommands.{ExchangeFields, comparing, comparing_each, exchanging}
+use Rattle.sg_target.specs.BlockCommands.{miscompare}
 use Rattle.sg_target.specs.Effect.{Effect, no_space, returning_up_to, storing, with_contents}
 use Rattle.sg_target.specs.ModeCommands.{changing_modes, mode_parameters, selected_modes}
-use Rattle.sg_target.specs.Refusal.{when_sound}
+use Rattle.sg_target.specs.Refusal.{when_sound, first_some}
 use Rattle.sg_target.specs.ReservationCommands.{changing_reservations, reservation_change}
 use Rattle.sg_target.specs.Runs.{all_calls, answers, step_of}
 use Rattle.sg_target.specs.State.{State}
@@ -21,6 +23,8 @@ use Rattle.sg_target.specs.Step.{Answer, Step, executed, outcome, refused, step}
 use Rattle.sg_target.specs.Charge.{step_by}
 use Rattle.sg_target.specs.declared.call.Call.{Call}
 use Rattle.sg_target.specs.declared.operation.Operation.{Operation}
+use Rattle.sg_target.specs.declared.operation.Operation.TheVariants.{Compare, CompareAndWrite}
+use Rattle.sg_target.specs.declared.operation.Operation.TheVariants.{CompareEach, Verify}
 use Rattle.sg_target.specs.declared.operation.Operation.TheVariants.{ReturnModes, ChangeModes}
 use Rattle.sg_target.specs.declared.operation.Operation.TheVariants.{Write, Fill}
 use Rattle.sg_target.specs.declared.operation.Operation.TheVariants.{Anchor, AnchorExtent}
@@ -85,6 +89,42 @@ module _ (s : State) (x : Contents) (i : ℕ) where
       (first-like (storing s first) refl (nat_lt s.disk.pool (len first)))
       (second-like (storing t second) refl (nat_lt t.disk.pool (len second)))
 
+  -- a comparison, whatever it finds
+  first-compared : (effect : Effect) → IsLike effect.after → (difference : Option ℕ)
+      → IsLike (option_map_or (refused s i) (miscompare difference) (executed effect)).state
+  first-compared effect e (Some offset) = refl
+  first-compared effect e None = e
+
+  second-compared : (effect : Effect) → IsLike effect.after → (difference : Option ℕ)
+      → IsLike (option_map_or (refused t i) (miscompare difference) (executed effect)).state
+  second-compared effect e (Some offset) = refl
+  second-compared effect e None = e
+
+  -- blocks that are replaced if they are as expected
+  abbrev refusals : Option ℕ → Bool → Option Refusal
+  refusals difference lacks = first_some (miscompare difference ∷ lack lacks ∷ [])
+
+  first-exchanged : (effect : Effect) → IsLike effect.after → (difference : Option ℕ) (lacks : Bool)
+      → IsLike (option_map_or (refused s i) (refusals difference lacks) (executed effect)).state
+  first-exchanged effect e (Some offset) lacks = refl
+  first-exchanged effect e None true = refl
+  first-exchanged effect e None false = e
+
+  second-exchanged : (effect : Effect) → IsLike effect.after → (difference : Option ℕ) (lacks : Bool)
+      → IsLike (option_map_or (refused t i) (refusals difference lacks) (executed effect)).state
+  second-exchanged effect e (Some offset) lacks = refl
+  second-exchanged effect e None true = refl
+  second-exchanged effect e None false = e
+
+  exchanged : (exchange : ExchangeFields)
+      → StepsDiffer (outcome s i (Ok (exchanging s exchange))) (outcome t i (Ok (exchanging t exchange)))
+  unfolding no_space
+  exchanged exchange =
+      like-differ (outcome s i (Ok (exchanging s exchange))).state
+      (outcome t i (Ok (exchanging t exchange))).state
+      (first-exchanged (exchanging s exchange) refl _ _)
+      (second-exchanged (exchanging t exchange) refl _ _)
+
   sound-differ : {A : Type 0} (sound : Result A Refusal) (first second : A → Effect)
       → ((value : A) → StepsDiffer (outcome s i (Ok (first value))) (outcome t i (Ok (second value))))
       → StepsDiffer (outcome s i (when_sound sound first)) (outcome t i (when_sound sound second))
@@ -99,6 +139,15 @@ module _ (s : State) (x : Contents) (i : ℕ) where
       (λ list. refl)
   operation-differs (ChangeModes width sp list) =
       sound-differ (selected_modes s width sp list) (changing_modes s i) (changing_modes t i) (λ modes. refl)
+  operation-differs (Compare out) =
+      like-differ (outcome s i (Ok (comparing s out))).state (outcome t i (Ok (comparing t out))).state
+      (first-compared (comparing s out) refl _) (second-compared (comparing t out) refl _)
+  operation-differs (CompareEach extent block) =
+      like-differ (outcome s i (Ok (comparing_each s extent block))).state
+      (outcome t i (Ok (comparing_each t extent block))).state
+      (first-compared (comparing_each s extent block) refl _)
+      (second-compared (comparing_each t extent block) refl _)
+  operation-differs (CompareAndWrite exchange) = exchanged exchange
   operation-differs (Write out) = stored _ _
   operation-differs (Fill extent block) = stored _ _
   operation-differs (Anchor extents) = stored _ _

@@ -7,7 +7,7 @@ use Rattle.std.proofs.lemmas.Bool.Decides.{nat_tests}
 use Rattle.sg_wire.specs.Laws.{CommandsHaveTheirClass}
 use Rattle.sg_wire.specs.CdbDecoding.{class_in, command_in, command_of, is_blocked_in}
 use Rattle.sg_wire.specs.Layout.{layout}
-use Rattle.sg_wire.specs.Profile.{limits_of}
+use Rattle.sg_wire.specs.Profile.{limits_of, rules_of}
 use Rattle.sg_wire.specs.declared.command.CdbFault.{CdbFault}
 use Rattle.sg_wire.specs.declared.command.Class.{Class}
 use Rattle.sg_wire.specs.declared.command.Class.TheVariants.{Writes}
@@ -16,7 +16,7 @@ use Rattle.sg_wire.specs.declared.command.Command.TheVariants as command
 use Rattle.sg_wire.specs.declared.command.verify.ByteCheck.{ByteCheck}
 use Rattle.sg_wire.specs.declared.extent.Extent.{Extent}
 use Rattle.sg_target.proofs.CommandLemmas.{its-blocks, its-comparison}
-use Rattle.sg_pages.specs.ModePage.{ModeState, write_protected}
+use Rattle.sg_pages.specs.ModePage.{write_protected}
 use Rattle.sg_units.specs.Access.{allows}
 use Rattle.sg_units.specs.Attentions.{oldest}
 use Rattle.sg_target.specs.BlockCommands.{blocks_out, bytes_of, writing}
@@ -25,13 +25,13 @@ use Rattle.sg_target.specs.Checks.{bad_field, cdb_checks, checked_cdb, checked_e
 use Rattle.sg_target.specs.Checks.{checked_operation, checked_parse, empty_cdb, medium_checks}
 use Rattle.sg_target.specs.Checks.{out_of_range, past_capacity, pending_attention, requested}
 use Rattle.sg_target.specs.Checks.{reservation_conflict, short_cdb, short_data_out, unknown_opcode}
-use Rattle.sg_target.specs.Checks.{unsupported_value, write_protection}
+use Rattle.sg_target.specs.Checks.{unsupported_value, write_protection, writes_some}
 use Rattle.sg_target.specs.CommandLaws.{WritesOverUsedAddressesHaveSpace, blocks_to_write}
 use Rattle.sg_target.specs.CommandLaws.{verified_blocks}
-use Rattle.sg_target.specs.Demands.{bad_comparison, extent, too_long, write}
+use Rattle.sg_target.specs.Demands.{bad_comparison, extent, need, too_long, write}
 use Rattle.sg_target.specs.Effect.{Effect}
 use Rattle.sg_target.specs.Refusal.{checked_next, first_some, unless_refused}
-use Rattle.sg_target.specs.Semantics.{effect_of, medium_use}
+use Rattle.sg_target.specs.Semantics.{MediumUse, effect_of, medium_use}
 use Rattle.sg_target.specs.State.{State, config_of, profile_of}
 use Rattle.sg_target.specs.declared.operation.Operation.{Operation}
 use Rattle.sg_target.specs.declared.operation.Operation.TheVariants as operation
@@ -93,10 +93,12 @@ range-none capacity out h =
     first-none (past_capacity capacity out) []
     (if-none (nat_lt capacity (out.lba + out.count)) _ (at-most (out.lba + out.count) capacity h)) refl
 
-protection-none : (modes : ModeState) (writes : Bool) → write_protected modes ≡ false
-    → write_protection modes writes ≡ None
+protection-none : (state : State) (medium : MediumUse) → write_protected state.modes ≡ false
+    → write_protection state medium ≡ None
 unfolding write_protection
-protection-none modes writes h = if-none (write_protected modes && writes) _ (ap (λ b. b && writes) h)
+protection-none state medium h =
+    let writes = writes_some (rules_of (profile_of state)) medium in
+    if-none (write_protected state.modes && writes) _ (ap (λ b. b && writes) h)
 
 -- ---- The command
 
@@ -121,21 +123,21 @@ module _ (state : State) (i : ℕ) (data_out : List ℕ) (out : Extent)
       by-medium (first_some (medium_checks state (medium_use asked)))
       (first-none (out_of_range state.disk.capacity (out ∷ [])) _
       (range-none state.disk.capacity out free.on_disk)
-      (first-none (write_protection state.modes true) []
-      (protection-none state.modes true free.unprotected) refl))
+      (first-none (write_protection state (medium_use asked)) []
+      (protection-none state (medium_use asked) free.unprotected) refl))
   by-request (Some refusal) h = cc
 
   write-effect : (unsupported : Option ℕ) → unsupported ≡ None
       → IsItsEffect
       (checked_next
-      (checked_next (requested (write out unsupported data_out) data_out) (checked_operation state))
+      (checked_next (requested (write (config_of state) out unsupported data_out) data_out) (checked_operation state))
       (effect_of state i))
   write-effect unsupported h =
       by-request
       (first_some
-      (unsupported_value unsupported ∷ short_data_out (Some (bytes_of out)) data_out ∷ []))
+      (unsupported_value unsupported ∷ short_data_out (Some (need (config_of state) (bytes_of out))) data_out ∷ []))
       (first-none (unsupported_value unsupported) _ (ap unsupported_value h)
-      (first-none (short_data_out (Some (bytes_of out)) data_out) []
+      (first-none (short_data_out (Some (need (config_of state) (bytes_of out))) data_out) []
       (if-none (nat_lt (length data_out) (bytes_of out)) _
       (at-most (bytes_of out) (length data_out) free.has_data)) refl))
 
@@ -147,13 +149,13 @@ module _ (state : State) (i : ℕ) (data_out : List ℕ) (out : Extent)
   at-extent : (named : Extent) → named ≡ out → (unsupported : Option ℕ) → unsupported ≡ None
       → IsItsEffect
       (checked_next
-      (checked_next (requested (write named unsupported data_out) data_out) (checked_operation state))
+      (checked_next (requested (write (config_of state) named unsupported data_out) data_out) (checked_operation state))
       (effect_of state i))
   at-extent named is unsupported h =
       subst
       (λ (e : Extent). IsItsEffect
       (checked_next
-      (checked_next (requested (write e unsupported data_out) data_out) (checked_operation state))
+      (checked_next (requested (write (config_of state) e unsupported data_out) data_out) (checked_operation state))
       (effect_of state i)))
       (sym is) (write-effect unsupported h)
 
@@ -162,7 +164,7 @@ module _ (state : State) (i : ℕ) (data_out : List ℕ) (out : Extent)
       → IsItsEffect
       (checked_next
       (checked_next
-      (requested (write named (bad_comparison check (too_long (config_of state) named.count byte)) data_out)
+      (requested (write (config_of state) named (bad_comparison check (too_long (config_of state) named.count byte)) data_out)
       data_out)
       (checked_operation state))
       (effect_of state i))
