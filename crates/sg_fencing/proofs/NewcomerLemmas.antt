@@ -15,6 +15,7 @@ use Rattle.sg_wire.specs.declared.command.out_action.OutAction.{OutAction}
 use Rattle.sg_wire.specs.declared.command.out_action.OutAction.TheVariants.{Register}
 use Rattle.sg_wire.specs.declared.command.out_action.OutAction.TheVariants.{RegisterAndIgnoreExistingKey}
 use Rattle.sg_wire.specs.declared.out_list.OutList.{OutList}
+use Rattle.sg_wire.specs.declared.profile.Rules.{Rules}
 use Rattle.sg_units.specs.Registrations.{is_registered, with_registration}
 use Rattle.sg_units.specs.ReservationType.{type_of}
 use Rattle.sg_units.specs.ReserveOut.{Outcome, action_outcome, generation_after, outcome}
@@ -38,7 +39,7 @@ use Rattle.sg_target.specs.declared.refusal.Reason.TheVariants.{UnitAttention as
 use Rattle.sg_target.specs.declared.refusal.Refusal.{Refusal}
 use Rattle.sg_target.specs.declared.refusal.Refusal.TheVariants.{CheckCondition}
 use Rattle.sg_fencing.specs.Group.{IsSeen}
-use Rattle.sg_fencing.specs.Registrants.{is_registering, is_registrant, registering_list}
+use Rattle.sg_fencing.specs.Registrants.{is_registering, is_registrant, registering_list, rules_for}
 use Rattle.sg_target.proofs.LiftLemmas.{lifted}
 use Rattle.sg_fencing.proofs.OperationLemmas.{listed}
 use Rattle.sg_fencing.proofs.OthersLemmas.{changed-keeps}
@@ -56,16 +57,19 @@ pub record Adds (state : ReservationState) (j : ℕ) (list : OutList) (change : 
   pub aptpl : change.aptpl ≡ Some list.aptpl
   pub key : (list.service_action_key == 0) ≡ false
 
-module _ (state : ReservationState) (j : ℕ) (unknown : is_registered state.registrations j ≡ false)
-    (list : OutList) where
+module _ (rules : Rules) (state : ReservationState) (j : ℕ)
+    (unknown : is_registered state.registrations j ≡ false) (list : OutList) where
   -- j's command does so if j is registered afterwards
   abbrev pub AddsIf : ReservationChange → Type 0
   AddsIf change = is_registered change.registrations j ≡ true → Adds state j list change
 
-  register-adds : FirstIs (EffectIs AddsIf) (register_cases state j list.service_action_key list.aptpl)
+  register-adds : FirstIs (EffectIs AddsIf)
+      (register_cases rules state j list.service_action_key list.aptpl)
   unfolding register_cases
   register-adds =
       case_or (EffectIs AddsIf) _ _
+      (λ _. effective AddsIf _ (λ known. absurd (false≢true (sym unknown ∙ known))))
+      (λ _. case_or (EffectIs AddsIf) _ _
       (λ _. effective AddsIf _ (λ known. absurd (false≢true (sym unknown ∙ known))))
       (λ keyed. case_or (EffectIs AddsIf) _ _ (λ _. refused AddsIf _)
       (λ _. case_or (EffectIs AddsIf) _ _
@@ -76,18 +80,19 @@ module _ (state : ReservationState) (j : ℕ) (unknown : is_registered state.reg
         aptpl = refl;
         key = and_false (not (is_registered state.registrations j)) _ (ap not unknown) keyed;
       }))
-      (λ known. absurd (not_so (is_registered state.registrations j) unknown known))))
+      (λ known. absurd (not_so (is_registered state.registrations j) unknown known)))))
 
   action-adds : (action : OutAction) (type : Option ReservationType) → is_registering action ≡ true
-      → EffectIs AddsIf (action_outcome state j action type list.service_action_key list.aptpl)
+      → EffectIs AddsIf (action_outcome rules state j action type list.service_action_key list.aptpl)
   action-adds Register type h = register-adds.first
   action-adds RegisterAndIgnoreExistingKey type h = register-adds.first
   action-adds _ type h = absurd (false≢true h)
 
   outcome-adds : (action : OutAction) (scope_type : ℕ) → is_registering action ≡ true
-      → EffectIs AddsIf (outcome state j action scope_type list)
+      → EffectIs AddsIf (outcome rules state j action scope_type list)
   outcome-adds action scope_type h =
-      if-accepted AddsIf state j action scope_type list (λ _. action-adds action (type_of scope_type) h)
+      if-accepted AddsIf rules state j action scope_type list
+      (λ _. action-adds action (type_of scope_type) h)
 
 -- ---- The command
 
@@ -133,20 +138,22 @@ module _ (state : State) (j : ℕ) (unknown : is_registrant state j ≡ false) (
       (change : ReservationChange) → o ≡ Ok change → Adds state.reservations j list change
       → Follows (changing_reservations state j change).after
 
-  after-outcome : (o : Outcome) → EffectIs (AddsIf state.reservations j unknown list) o → FollowsFrom o
+  after-outcome : (o : Outcome) → EffectIs (AddsIf (rules_for state) state.reservations j unknown list) o
+      → FollowsFrom o
       → IfKnown (step_outcome state j (when_sound (result_map_both (λ change. change) out_refusal o)
       (changing_reservations state j))).state
   after-outcome (Ok change) adds f = λ known. f change refl (adds.shown change refl known)
   after-outcome (Err fault) adds f = after-refusal (out_refusal fault)
 
   module _ (follows : (action : OutAction) (scope_type : ℕ)
-      → FollowsFrom (outcome state.reservations j action scope_type list)) where
+      → FollowsFrom (outcome (rules_for state) state.reservations j action scope_type list)) where
     after-registering : (action : OutAction) (scope_type : ℕ) → is_registering action ≡ true
         → IfKnown (step_by state j (ChangeReservations action scope_type list)).state
     unfolding reservation_change
     after-registering action scope_type h =
-        after-outcome (outcome state.reservations j action scope_type list)
-        (outcome-adds state.reservations j unknown list action scope_type h) (follows action scope_type)
+        after-outcome (outcome (rules_for state) state.reservations j action scope_type list)
+        (outcome-adds (rules_for state) state.reservations j unknown list action scope_type h)
+        (follows action scope_type)
 
     if-known : (cdb data_out : List ℕ) → registering_list (command_of cdb) data_out ≡ Some list
         → IfKnown (step state j cdb data_out).state
@@ -164,7 +171,7 @@ module _ (state : State) (j : ℕ) (unknown : is_registrant state j ≡ false) (
 
   module _ (w : IsWithinLimits state) where
     change-seen : (action : OutAction) (scope_type : ℕ) (change : ReservationChange)
-        → outcome state.reservations j action scope_type list ≡ Ok change
+        → outcome (rules_for state) state.reservations j action scope_type list ≡ Ok change
         → Adds state.reservations j list change
         → IsSeen state (changing_reservations state j change).after j list
     change-seen action scope_type change e h = record {
@@ -180,8 +187,8 @@ module _ (state : State) (j : ℕ) (unknown : is_registrant state j ≡ false) (
       others =
           λ i other.
           let left =
-          (outcome-leaves state.reservations i j (ne_eqb j i other) unknown action scope_type list).shown
-          change e in
+          (outcome-leaves (rules_for state) state.reservations i j (ne_eqb j i other) unknown action
+          scope_type list).shown change e in
           (changed-keeps state i j w change left.key left.reservation left.unraised).view;
     }
 

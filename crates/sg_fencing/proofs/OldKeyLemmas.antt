@@ -29,6 +29,7 @@ use Rattle.sg_target.specs.declared.refusal.Reason.TheVariants.{ParameterListLen
 use Rattle.sg_target.specs.declared.refusal.Refusal.TheVariants.{CheckCondition}
 use Rattle.sg_target.specs.declared.reply.Status.TheVariants.{Good}
 use Rattle.sg_target.proofs.LiftLemmas.{lifted, not_good}
+use Rattle.sg_fencing.specs.Registrants.{rules_for}
 use Rattle.sg_fencing.specs.Registrants.{OldKeysAreRefused, is_register, is_registrant, list_of}
 use Rattle.sg_fencing.proofs.OperationLemmas.{listed}
 use Rattle.sg_fencing.proofs.RegistrationLemmas.{not-under}
@@ -70,8 +71,8 @@ module _ (state : State) (j : ℕ) (unknown : is_registrant state j ≡ false) w
       → NotGood (step_by state j (ChangeReservations Register scope_type list))
   unfolding reservation_change
   by-list scope_type list h =
-      by-outcome (outcome state.reservations j Register scope_type list)
-      (if-accepted Never state.reservations j Register scope_type list
+      by-outcome (outcome (rules_for state) state.reservations j Register scope_type list)
+      (if-accepted Never (rules_for state) state.reservations j Register scope_type list
       (λ accepted. absurd (false≢true (sym (not-accepted list.reservation_key h) ∙ accepted))))
 
   by-command : (command : Command) (data_out : List ℕ) (operation : Operation) (list : OutList)

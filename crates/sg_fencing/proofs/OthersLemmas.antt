@@ -44,6 +44,7 @@ use Rattle.sg_fencing.proofs.HolderLemmas.{HoldsAlone, alone, cleared-other, one
 use Rattle.sg_fencing.proofs.HolderLemmas.{raised-none, raised-others, refuses-others, same-view}
 use Rattle.sg_fencing.proofs.HolderLemmas.{without-other}
 use Rattle.sg_fencing.proofs.OperationLemmas.{class_for}
+use Rattle.sg_fencing.specs.Registrants.{rules_for}
 
 -- the view of i and the identity of the disk are as they were
 pub record Keeps (before after : State) (i : ℕ) : Type 0 where
@@ -170,13 +171,14 @@ module _ (state : State) (i j : ℕ) (other : j ≡ i → ⊥) (h : HoldsAlone s
   changing-keeps (Err fault) k = tt
 
   out-leaves : (action : OutAction) (scope_type : ℕ) (list : OutList)
-      → EffectIs P (outcome state.reservations j action scope_type list)
+      → EffectIs P (outcome (rules_for state) state.reservations j action scope_type list)
   out-leaves action scope_type list =
       let rs = state.reservations.registrations in
       let is : alone_in rs h.kind i state.reservations ≡ state.reservations =
       λ d. record state.reservations { reservation = sym h.reservation_is d } in
-      subst (λ (r : ReservationState). EffectIs P (outcome r j action scope_type list)) is
-      (outcome_leaves rs h.kind state.reservations i j action scope_type list h.registered
+      subst (λ (r : ReservationState). EffectIs P (outcome (rules_for state) r j action scope_type list))
+      is
+      (outcome_leaves (rules_for state) rs h.kind state.reservations i j action scope_type list h.registered
       (ne_eqb j i other))
 
   reserving-keeps : (action : OutAction) (scope_type : ℕ) (list : OutList)
@@ -184,7 +186,7 @@ module _ (state : State) (i j : ℕ) (other : j ≡ i → ⊥) (h : HoldsAlone s
       (changing_reservations state j))
   unfolding reservation_change
   reserving-keeps action scope_type list =
-      changing-keeps (outcome state.reservations j action scope_type list)
+      changing-keeps (outcome (rules_for state) state.reservations j action scope_type list)
       (out-leaves action scope_type list)
 
 -- a command of another, after which i still holds

@@ -27,7 +27,7 @@ use Rattle.sg_target.specs.ReservationCommands.{changing_reservations, out_refus
 use Rattle.sg_target.specs.ReservationCommands.{reservation_change}
 use Rattle.sg_target.specs.State.{IsWithinLimits, State}
 use Rattle.sg_target.specs.Step.{step}
-use Rattle.sg_fencing.specs.Registrants.{excludes_reading, is_fenced_off, is_registering}
+use Rattle.sg_fencing.specs.Registrants.{excludes_reading, is_fenced_off, is_registering, rules_for}
 use Rattle.sg_fencing.proofs.OthersLemmas.{EffectKeeps, Keeps, changed-keeps, step-keeps}
 use Rattle.sg_fencing.proofs.OperationLemmas.{is_of_kind}
 use Rattle.sg_fencing.proofs.RegistrationLemmas.{IsUnknown, Leaves, outcome-leaves, outcome-unknown}
@@ -82,7 +82,7 @@ module _ (refuses : OthersAreRefused) (classes : CommandsHaveTheirClass) (state 
   Always after = Unit {0}
 
   abbrev L : ReservationChange → Type 0
-  L = Leaves state.reservations i j (ne_eqb j i other) h.unknown
+  L = Leaves (rules_for state) state.reservations i j (ne_eqb j i other) h.unknown
 
   changing-keeps : (o : Outcome) → EffectIs L o
       → EffectKeeps Always state i j other
@@ -97,8 +97,9 @@ module _ (refuses : OthersAreRefused) (classes : CommandsHaveTheirClass) (state 
       (when_sound (reservation_change state j action scope_type list) (changing_reservations state j))
   unfolding reservation_change
   reserving-keeps action scope_type list =
-      changing-keeps (outcome state.reservations j action scope_type list)
-      (outcome-leaves state.reservations i j (ne_eqb j i other) h.unknown action scope_type list)
+      changing-keeps (outcome (rules_for state) state.reservations j action scope_type list)
+      (outcome-leaves (rules_for state) state.reservations i j (ne_eqb j i other) h.unknown action
+      scope_type list)
 
   pub outsider-keeps : (cdb data_out : List ℕ) → Keeps state (step state j cdb data_out).state i
   outsider-keeps cdb data_out =
@@ -118,7 +119,7 @@ module _ (state : State) (i j : ℕ)
   Stays after = is_registered after.registrations i ≡ false
 
   abbrev U : ReservationChange → Type 0
-  U = IsUnknown state.reservations i j unknown
+  U = IsUnknown (rules_for state) state.reservations i j unknown
 
   -- it does not register i
   abbrev spares : OutAction → Bool
@@ -139,8 +140,8 @@ module _ (state : State) (i j : ℕ)
       (when_sound (reservation_change state j action scope_type list) (changing_reservations state j))
   unfolding reservation_change
   reserving-stands action scope_type list h =
-      changing-stands (outcome state.reservations j action scope_type list)
-      (outcome-unknown state.reservations i j unknown action scope_type list
+      changing-stands (outcome (rules_for state) state.reservations j action scope_type list)
+      (outcome-unknown (rules_for state) state.reservations i j unknown action scope_type list
       (apart (is_registering action) (j == i) h))
 
   spared : (a b : Bool) → (b ≡ true → a ≡ false) → not (a && b) ≡ true

@@ -32,6 +32,7 @@ use Rattle.sg_fencing.proofs.AlikeLemmas.{StepsAgree, checks-same, operation-agr
 use Rattle.sg_fencing.proofs.AlikeLemmas.{refused-agree, reporting-agree, with_others}
 use Rattle.sg_fencing.proofs.HolderLemmas.{HoldsAlone, alone, raised-none, raised-others, same-view}
 use Rattle.sg_fencing.proofs.OperationLemmas.{asked-suits, shows as shows_of}
+use Rattle.sg_fencing.specs.Registrants.{rules_for}
 
 -- Two steps end with equal views of i and equal identities, and with equal answers unless the
 -- command shows others.
@@ -104,11 +105,11 @@ module _ (state : State) (i : ℕ) (w : IsWithinLimits state) where
   out-becomes : (action : OutAction) (scope_type : ℕ) (list : OutList)
       → Becomes state i
       (left_of (state_after state.reservations
-      (outcome state.reservations i action scope_type list)) i)
+      (outcome (rules_for state) state.reservations i action scope_type list)) i)
       (step_by state i (ChangeReservations action scope_type list)).state
   unfolding reservation_change
   out-becomes action scope_type list =
-      becomes (outcome state.reservations i action scope_type list)
+      becomes (outcome (rules_for state) state.reservations i action scope_type list)
 
 record HasKey (all : List Registration) (i : ℕ) : Type 0 where
   key : ℕ
@@ -132,8 +133,8 @@ module _ (one : OneKeyEach) (s : State) (a : Pending) (r : ReservationState) (i 
 
   own-left : (action : OutAction) (scope_type : ℕ) (list : OutList)
       → left_of (state_after s.reservations
-      (outcome s.reservations i action scope_type list)) i
-      ≡ left_of (state_after r (outcome r i action scope_type list)) i
+      (outcome (rules_for s) s.reservations i action scope_type list)) i
+      ≡ left_of (state_after r (outcome (rules_for s) r i action scope_type list)) i
   own-left action scope_type list =
       let rs = s.reservations.registrations in
       let k = has-key rs i (key_of rs i) refl (sym (is_registered-key_of rs i) ∙ h.registered) in
@@ -144,9 +145,9 @@ module _ (one : OneKeyEach) (s : State) (a : Pending) (r : ReservationState) (i 
       let second : r ≡ alone_in r.registrations h.kind i r =
       λ d. record r { reservation = held' d } in
       let left = λ (x : ReservationState).
-      left_of (state_after x (outcome x i action scope_type list)) i in
+      left_of (state_after x (outcome (rules_for s) x i action scope_type list)) i in
       ap left first
-      ∙ (own_agrees rs r.registrations h.kind s.reservations r i k.key action scope_type list
+      ∙ (own_agrees (rules_for s) rs r.registrations h.kind s.reservations r i k.key action scope_type list
       (under-alone one s.reservations i k.key w.registered k.key_is) k.key_is
       (under-alone one r i k.key w'.registered key') key'
       ∙ sym (ap left second))
@@ -159,8 +160,9 @@ module _ (one : OneKeyEach) (s : State) (a : Pending) (r : ReservationState) (i 
       let second = out-becomes other i w' action scope_type list in
       let left = own-left action scope_type list in
       let middle : view_with s i (left_of (state_after s.reservations
-      (outcome s.reservations i action scope_type list)) i)
-      ≡ view_with other i (left_of (state_after r (outcome r i action scope_type list)) i) =
+      (outcome (rules_for s) s.reservations i action scope_type list)) i)
+      ≡ view_with other i
+      (left_of (state_after r (outcome (rules_for s) r i action scope_type list)) i) =
       λ d. record {
         disk = s.disk;
         modes = s.modes;

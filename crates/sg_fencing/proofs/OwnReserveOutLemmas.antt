@@ -27,6 +27,7 @@ use Rattle.sg_units.specs.ReserveOut.{preempt_cases, preempted, register_cases, 
 use Rattle.sg_units.specs.ReserveOut.{reserve_cases, state_after, with_type}
 use Rattle.sg_units.specs.declared.out_fault.OutFault.{OutFault}
 use Rattle.sg_wire.specs.declared.out_list.OutList.{OutList}
+use Rattle.sg_wire.specs.declared.profile.Rules.{Rules}
 use Rattle.sg_units.specs.declared.registrations.Registration.{Registration}
 use Rattle.sg_units.specs.declared.reservation.Reservation.{Reservation}
 use Rattle.sg_units.specs.declared.reservation_change.ReservationChange.{ReservationChange}
@@ -108,9 +109,21 @@ not_known : (known b : Bool) → known ≡ true → (not known && b) ≡ true �
 not_known true b e h = false≢true h
 not_known false b e h = false≢true e
 
+not_counted : (counts known b : Bool) → known ≡ true → (counts && (not known && b)) ≡ true → ⊥
+not_counted true known b e h = not_known known b e h
+not_counted false known b e h = false≢true h
+
+not_none : (needs zero : Bool) → (needs && false && zero) ≡ true → ⊥
+not_none true zero h = false≢true h
+not_none false zero h = false≢true h
+
 not_true : (b : Bool) → b ≡ true → not b ≡ true → ⊥
 not_true true e h = false≢true h
 not_true false e h = false≢true e
+
+not_released : (any holds : Bool) → holds ≡ true → (any && not holds) ≡ true → ⊥
+not_released true holds e h = not_true holds e h
+not_released false holds e h = false≢true h
 
 or_not_known : (a known b : Bool) → known ≡ true → (a || (not known && b)) ≡ a
 or_not_known true known b e = refl
@@ -118,7 +131,8 @@ or_not_known false true b e = refl
 or_not_known false false b e = absurd (false≢true e)
 
 -- i is registered under k, and the one holder of a reservation
-module _ (all : List Registration) (kind : ReservationType) (before : ReservationState) (i k : ℕ) where
+module _ (rules : Rules) (all : List Registration) (kind : ReservationType) (before : ReservationState)
+    (i k : ℕ) where
   abbrev state : ReservationState
   state = alone_in all kind i before
 
@@ -152,13 +166,15 @@ module _ (all : List Registration) (kind : ReservationType) (before : Reservatio
       ap (λ b. if b then held else None) gone
 
   register_leaves : (sark : ℕ) (aptpl : Bool) → key_of all i ≡ Some k
-      → FirstIs (Leaves state i (register_left sark)) (register_cases state i sark aptpl)
+      → FirstIs (Leaves state i (register_left sark)) (register_cases rules state i sark aptpl)
   unfolding register_cases
   register_leaves sark aptpl key =
       let v = register_left sark in
       let known = is_registered all i in
       let is = here key in
-      case_or (Leaves state i v) _ _ (λ h. absurd (not_known known (sark == 0) is h))
+      case_or (Leaves state i v) _ _
+      (λ h. absurd (not_counted rules.counts_each_register known (sark == 0) is h))
+      (λ _. case_or (Leaves state i v) _ _ (λ h. absurd (not_known known (sark == 0) is h))
       (λ _. case_or (Leaves state i v) _ _ (λ h. absurd (not_known known (length all == 6) is h))
       (λ _. case_or (Leaves state i v) _ _ (λ h. absurd (not_true known is h))
       (λ _. case_or (Leaves state i v) _ _
@@ -166,7 +182,7 @@ module _ (all : List Registration) (kind : ReservationType) (before : Reservatio
       (leaves _ (Some sark, held) (key_of-own_replaced all i sark is) refl))
       (λ zero. last_case (Leaves state i v) _ _ refl
       (at state i v (None, None) _ (ap (λ b. register_or b sark) (not-false _ zero))
-      (leaves _ (None, None) (key_of-unregistered all i) ended))))))
+      (leaves _ (None, None) (key_of-unregistered all i) ended)))))))
 
   reserve_leaves : (new : ReservationType) → key_of all i ≡ Some k
       → FirstIs (Leaves state i as_before) (reserve_cases state i new)
@@ -207,7 +223,7 @@ module _ (all : List Registration) (kind : ReservationType) (before : Reservatio
   preempt_leaves : (type : Option ReservationType) (sark : ℕ) → IsUnderAlone all i k
       → key_of all i ≡ Some k
       → FirstIs (Leaves state i (preempt_or (sark == 0) (k == sark) type))
-      (preempt_cases state i type sark)
+      (preempt_cases rules state i type sark)
   unfolding preempt_cases
   preempt_leaves type sark one key =
       let v = preempt_or (sark == 0) (k == sark) type in
@@ -216,6 +232,8 @@ module _ (all : List Registration) (kind : ReservationType) (before : Reservatio
       case_or (Leaves state i v) _ _
       (λ zero. at state i v as_before _ (ap (λ b. preempt_or b (k == sark) type) zero) (refuses _ key))
       (λ no. case_or (Leaves state i v) _ _
+      (λ none. absurd (not_none rules.preempts_some_key (sark == 0) none))
+      (λ _. case_or (Leaves state i v) _ _
       (λ own. at state i v (taken_left type) _
       (ap (λ b. preempt_or b (k == sark) type) no
       ∙ ap (λ b. preempt_or false b type) (sym under ∙ own))
@@ -231,7 +249,7 @@ module _ (all : List Registration) (kind : ReservationType) (before : Reservatio
       (let gone = key_of-without_key all i sark other in
       let left = stays_registered all (without_key all sark) i gone (here key) in
       at state i v as_before _ before
-      (leaves _ as_before (gone ∙ key) (while_held-alone kind i _ left)))))))
+      (leaves _ as_before (gone ∙ key) (while_held-alone kind i _ left))))))))
 
   abbrev typed_left : Option ReservationType → (ReservationType → Left) → Left
   typed_left None left = as_before
@@ -255,12 +273,18 @@ module _ (all : List Registration) (kind : ReservationType) (before : Reservatio
 
   action_leaves : (action : OutAction) (type : Option ReservationType) (sark : ℕ) (aptpl : Bool)
       → IsUnderAlone all i k → key_of all i ≡ Some k
-      → Leaves state i (action_left action type sark) (action_outcome state i action type sark aptpl)
+      → Leaves state i (action_left action type sark)
+      (action_outcome rules state i action type sark aptpl)
   action_leaves Register type sark aptpl one key = (register_leaves sark aptpl key).first
   action_leaves Reserve type sark aptpl one key =
       typed type _ (λ new. as_before) key (λ new. (reserve_leaves new key).first)
   action_leaves Release type sark aptpl one key =
-      typed type _ (λ new. release_or (has_type held new)) key (λ new. (release_leaves new key).first)
+      let v = typed_left type (λ new. release_or (has_type held new)) in
+      let holds : is_holder state i ≡ true = and_from _ (i == i) (here key) (eq-eqb i i refl) in
+      choice (Leaves state i v) (rules.releases_nothing_by_any_type && not (is_holder state i)) _ _
+      (λ h. absurd (not_released rules.releases_nothing_by_any_type (is_holder state i) holds h))
+      (λ _. typed type _ (λ new. release_or (has_type held new)) key
+      (λ new. (release_leaves new key).first))
   action_leaves Clear type sark aptpl one key = leaves _ (None, None) refl refl
   action_leaves Preempt type sark aptpl one key = (preempt_leaves type sark one key).first
   action_leaves PreemptAndAbort type sark aptpl one key = (preempt_leaves type sark one key).first
@@ -293,7 +317,8 @@ module _ (all : List Registration) (kind : ReservationType) (before : Reservatio
 
   outcome_leaves_own : (action : OutAction) (scope_type : ℕ) (list : OutList)
       → IsUnderAlone all i k → key_of all i ≡ Some k
-      → Leaves state i (left_after action scope_type list) (outcome state i action scope_type list)
+      → Leaves state i (left_after action scope_type list)
+      (outcome rules state i action scope_type list)
   unfolding outcome
   outcome_leaves_own action scope_type list one key =
       let v = left_after action scope_type list in
@@ -312,17 +337,17 @@ module _ (all : List Registration) (kind : ReservationType) (before : Reservatio
       (action_leaves action (type_of scope_type) list.service_action_key list.aptpl one key)))
 
 -- So its effect on two tables that have the same key for i is the same.
-pub own_agrees : (all rest : List Registration) (kind : ReservationType)
+pub own_agrees : (rules : Rules) (all rest : List Registration) (kind : ReservationType)
     (first second : ReservationState) (i k : ℕ) (action : OutAction) (scope_type : ℕ) (list : OutList)
     → IsUnderAlone all i k → key_of all i ≡ Some k
     → IsUnderAlone rest i k → key_of rest i ≡ Some k →
     (let a = alone_in all kind i first in
     let b = alone_in rest kind i second in
-    left_of (state_after a (outcome a i action scope_type list)) i
-    ≡ left_of (state_after b (outcome b i action scope_type list)) i)
-own_agrees all rest kind first second i k action scope_type list one key one' key' =
-    (outcome_leaves_own all kind first i k action scope_type list one key).left_is
-    ∙ sym (outcome_leaves_own rest kind second i k action scope_type list one' key').left_is
+    left_of (state_after a (outcome rules a i action scope_type list)) i
+    ≡ left_of (state_after b (outcome rules b i action scope_type list)) i)
+own_agrees rules all rest kind first second i k action scope_type list one key one' key' =
+    (outcome_leaves_own rules all kind first i k action scope_type list one key).left_is
+    ∙ sym (outcome_leaves_own rules rest kind second i k action scope_type list one' key').left_is
 
 -- ---- Access
 

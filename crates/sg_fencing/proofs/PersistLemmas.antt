@@ -15,6 +15,7 @@ use Rattle.sg_wire.specs.declared.command.out_action.OutAction.TheVariants.{Rele
 use Rattle.sg_wire.specs.declared.command.out_action.OutAction.TheVariants.{PreemptAndAbort}
 use Rattle.sg_wire.specs.declared.command.out_action.OutAction.TheVariants.{RegisterAndIgnoreExistingKey}
 use Rattle.sg_wire.specs.declared.out_list.OutList.{OutList}
+use Rattle.sg_wire.specs.declared.profile.Rules.{Rules}
 use Rattle.sg_units.specs.Registrations.{is_registered}
 use Rattle.sg_units.specs.ReservationType.{type_of}
 use Rattle.sg_units.specs.ReserveOut.{Outcome, action_outcome, outcome, preempt_cases, register_cases}
@@ -23,7 +24,7 @@ use Rattle.sg_units.specs.declared.reservation_change.ReservationChange.{Reserva
 use Rattle.sg_units.specs.declared.reservation_state.ReservationState.{ReservationState}
 use Rattle.sg_units.specs.declared.types.ReservationType.{ReservationType}
 use Rattle.sg_units.proofs.OutcomeLemmas.{EffectIs, FirstIs, case_or, effective, if-accepted, last_case}
-use Rattle.sg_units.proofs.OutcomeLemmas.{refused, taking, typed}
+use Rattle.sg_units.proofs.OutcomeLemmas.{refused, releasing, taking, typed}
 use Rattle.sg_target.specs.Happenings.{after_happening}
 use Rattle.sg_target.specs.PowerCycle.{after_power_cycle}
 use Rattle.sg_target.specs.declared.happening.Happening.{Happening}
@@ -47,7 +48,7 @@ use Rattle.sg_target.specs.declared.reply.Status.TheVariants.{Good}
 use Rattle.sg_target.proofs.LiftLemmas.{not_good}
 use Rattle.sg_fencing.specs.Laws.{RefusedChangesNothing}
 use Rattle.sg_fencing.specs.PowerCycles.{Counts, NoneCountsFrom, TheLastRegisterDecides, persists}
-use Rattle.sg_fencing.specs.Registrants.{is_registering, registering_list}
+use Rattle.sg_fencing.specs.Registrants.{is_registering, registering_list, rules_for}
 use Rattle.sg_fencing.proofs.OperationLemmas.{is_of_kind}
 use Rattle.sg_fencing.proofs.NewcomerLemmas.{with-list}
 use Rattle.sg_fencing.proofs.PowerLemmas.{drops, keeps}
@@ -62,22 +63,29 @@ Leaves change = change.aptpl ≡ None
 abbrev Sets : Bool → ReservationChange → Type 0
 Sets aptpl change = change.aptpl ≡ Some aptpl
 
-not-idle : (known zero_key : Bool) → (known || not zero_key) ≡ true → (not known && zero_key) ≡ true → ⊥
-not-idle true zero_key a b = false≢true b
-not-idle false true a b = false≢true a
-not-idle false false a b = false≢true b
+not-idle : (counts known zero_key : Bool) → (counts || (known || not zero_key)) ≡ true
+    → (counts && (not known && zero_key)) ≡ false → (not known && zero_key) ≡ true → ⊥
+not-idle true known zero_key a b c = false≢true (sym b ∙ c)
+not-idle false true zero_key a b c = false≢true c
+not-idle false false true a b c = false≢true a
+not-idle false false false a b c = false≢true c
 
-not-acting : (known zero_key : Bool) → (known || not zero_key) ≡ false → (not known && zero_key) ≡ false
-    → ⊥
-not-acting true zero_key a b = false≢true (sym a)
-not-acting false true a b = false≢true (sym b)
-not-acting false false a b = false≢true (sym a)
+not-counting : (counts acts idle : Bool) → (counts || acts) ≡ false → (counts && idle) ≡ true → ⊥
+not-counting true acts idle a b = false≢true (sym a)
+not-counting false acts idle a b = false≢true b
+
+not-acting : (counts known zero_key : Bool) → (counts || (known || not zero_key)) ≡ false
+    → (not known && zero_key) ≡ false → ⊥
+not-acting true known zero_key a b = false≢true (sym a)
+not-acting false true zero_key a b = false≢true (sym a)
+not-acting false false true a b = false≢true (sym b)
+not-acting false false false a b = false≢true (sym a)
 
 -- another action than those that register
-abbrev is_other : OutAction → Bool
+abbrev pub is_other : OutAction → Bool
 is_other action = not (is_registering action)
 
-module _ (state : ReservationState) (j : ℕ) where
+module _ (rules : Rules) (state : ReservationState) (j : ℕ) where
   reserving : (type : ReservationType) → FirstIs (EffectIs Leaves) (reserve_cases state j type)
   unfolding reserve_cases
   reserving type =
@@ -85,75 +93,93 @@ module _ (state : ReservationState) (j : ℕ) where
       (λ _. case_or (EffectIs Leaves) _ _ (λ _. effective Leaves _ refl)
       (λ _. last_case (EffectIs Leaves) _ _ refl (refused Leaves _)))
 
-  releasing : (type : ReservationType) → FirstIs (EffectIs Leaves) (release_cases state j type)
+  unreleased : (type : ReservationType) → FirstIs (EffectIs Leaves) (release_cases state j type)
   unfolding release_cases
-  releasing type =
+  unreleased type =
       case_or (EffectIs Leaves) _ _ (λ _. effective Leaves _ refl)
       (λ _. case_or (EffectIs Leaves) _ _ (λ _. refused Leaves _)
       (λ _. last_case (EffectIs Leaves) _ _ refl (effective Leaves _ refl)))
 
   preempting : (type : Option ReservationType) (sark : ℕ)
-      → FirstIs (EffectIs Leaves) (preempt_cases state j type sark)
+      → FirstIs (EffectIs Leaves) (preempt_cases rules state j type sark)
   unfolding preempt_cases
   preempting type sark =
       case_or (EffectIs Leaves) _ _ (λ _. refused Leaves _)
+      (λ _. case_or (EffectIs Leaves) _ _ (λ _. refused Leaves _)
       (λ _. case_or (EffectIs Leaves) _ _
       (λ _. taking Leaves state.reservation j type _ (λ type. effective Leaves _ refl))
       (λ _. case_or (EffectIs Leaves) _ _
       (λ _. taking Leaves state.reservation j type _ (λ type. effective Leaves _ refl))
       (λ _. case_or (EffectIs Leaves) _ _ (λ _. refused Leaves _)
-      (λ _. last_case (EffectIs Leaves) _ _ refl (effective Leaves _ refl)))))
+      (λ _. last_case (EffectIs Leaves) _ _ refl (effective Leaves _ refl))))))
 
   action-leaves : (action : OutAction) (type : Option ReservationType) (sark : ℕ) (aptpl : Bool)
-      → is_other action ≡ true → EffectIs Leaves (action_outcome state j action type sark aptpl)
+      → is_other action ≡ true → EffectIs Leaves (action_outcome rules state j action type sark aptpl)
   action-leaves Register type sark aptpl h = absurd (false≢true h)
   action-leaves RegisterAndIgnoreExistingKey type sark aptpl h = absurd (false≢true h)
   action-leaves Reserve type sark aptpl h = typed Leaves type _ (λ type. (reserving type).first)
-  action-leaves Release type sark aptpl h = typed Leaves type _ (λ type. (releasing type).first)
+  action-leaves Release type sark aptpl h = releasing Leaves rules state j type refl unreleased
   action-leaves Clear type sark aptpl h = effective Leaves _ refl
   action-leaves Preempt type sark aptpl h = (preempting type sark).first
   action-leaves PreemptAndAbort type sark aptpl h = (preempting type sark).first
 
   outcome-leaves : (action : OutAction) (scope_type : ℕ) (list : OutList) → is_other action ≡ true
-      → EffectIs Leaves (outcome state j action scope_type list)
+      → EffectIs Leaves (outcome rules state j action scope_type list)
   outcome-leaves action scope_type list h =
-      if-accepted Leaves state j action scope_type list
+      if-accepted Leaves rules state j action scope_type list
       (λ _. action-leaves action (type_of scope_type) list.service_action_key list.aptpl h)
 
   -- those that register
   abbrev acts : (sark : ℕ) → Bool
-  acts sark = is_registered state.registrations j || not (sark == 0)
+  acts sark =
+      rules.counts_each_register || (is_registered state.registrations j || not (sark == 0))
 
   register-sets : (sark : ℕ) (aptpl : Bool) → acts sark ≡ true
-      → FirstIs (EffectIs (Sets aptpl)) (register_cases state j sark aptpl)
+      → FirstIs (EffectIs (Sets aptpl)) (register_cases rules state j sark aptpl)
   unfolding register_cases
   register-sets sark aptpl h =
       let known = is_registered state.registrations j in
-      case_or (EffectIs (Sets aptpl)) _ _ (λ idle. absurd (not-idle known (sark == 0) h idle))
+      case_or (EffectIs (Sets aptpl)) _ _ (λ _. effective (Sets aptpl) _ refl)
+      (λ uncounted. case_or (EffectIs (Sets aptpl)) _ _
+      (λ idle. absurd (not-idle rules.counts_each_register known (sark == 0) h uncounted idle))
       (λ _. case_or (EffectIs (Sets aptpl)) _ _ (λ _. refused (Sets aptpl) _)
       (λ _. case_or (EffectIs (Sets aptpl)) _ _ (λ _. effective (Sets aptpl) _ refl)
       (λ _. case_or (EffectIs (Sets aptpl)) _ _ (λ _. effective (Sets aptpl) _ refl)
-      (λ _. last_case (EffectIs (Sets aptpl)) _ _ refl (effective (Sets aptpl) _ refl)))))
+      (λ _. last_case (EffectIs (Sets aptpl)) _ _ refl (effective (Sets aptpl) _ refl))))))
 
   register-leaves : (sark : ℕ) (aptpl : Bool) → acts sark ≡ false
-      → FirstIs (EffectIs Leaves) (register_cases state j sark aptpl)
+      → FirstIs (EffectIs Leaves) (register_cases rules state j sark aptpl)
   unfolding register_cases
   register-leaves sark aptpl h =
       let known = is_registered state.registrations j in
-      case_or (EffectIs Leaves) _ _ (λ _. effective Leaves _ refl)
-      (λ acting. absurd (not-acting known (sark == 0) h acting))
+      case_or (EffectIs Leaves) _ _
+      (λ counted. absurd (not-counting rules.counts_each_register _ _ h counted))
+      (λ _. case_or (EffectIs Leaves) _ _ (λ _. effective Leaves _ refl)
+      (λ acting. absurd (not-acting rules.counts_each_register known (sark == 0) h acting)))
 
   by-register : (P : ReservationChange → Type 0) (action : OutAction) (scope_type : ℕ) (list : OutList)
       → is_registering action ≡ true
-      → FirstIs (EffectIs P) (register_cases state j list.service_action_key list.aptpl)
-      → EffectIs P (outcome state j action scope_type list)
+      → FirstIs (EffectIs P) (register_cases rules state j list.service_action_key list.aptpl)
+      → EffectIs P (outcome rules state j action scope_type list)
   by-register P Register scope_type list h f =
-      if-accepted P state j Register scope_type list (λ _. f.first)
+      if-accepted P rules state j Register scope_type list (λ _. f.first)
   by-register P RegisterAndIgnoreExistingKey scope_type list h f =
-      if-accepted P state j RegisterAndIgnoreExistingKey scope_type list (λ _. f.first)
+      if-accepted P rules state j RegisterAndIgnoreExistingKey scope_type list (λ _. f.first)
   by-register P _ scope_type list h f = absurd (false≢true h)
 
 -- ---- The command
+
+pub of-kind : (parsed : Result Command CdbFault) (data_out : List ℕ)
+    → registering_list parsed data_out ≡ None
+    → is_of_kind is_other parsed ≡ true
+of-kind (Ok (PersistentReserveOut c)) data_out h = by-action (is_registering c.action) _ h
+  where
+    by-action : (b : Bool) (list : OutList) → cond {A = Option OutList} b (Some list) None ≡ None
+        → not b ≡ true
+    by-action true list e = cc
+    by-action false list e = refl
+of-kind (Ok _) data_out h = refl
+of-kind (Err fault) data_out h = refl
 
 module _ (state : State) (j : ℕ) where
   abbrev Same : ReservationState → Type 0
@@ -169,20 +195,8 @@ module _ (state : State) (j : ℕ) where
       (when_sound (reservation_change state j action scope_type list) (changing_reservations state j))
   unfolding reservation_change
   reserving-leaves action scope_type list h =
-      changing-leaves (outcome state.reservations j action scope_type list)
-      (outcome-leaves state.reservations j action scope_type list h)
-
-  of-kind : (parsed : Result Command CdbFault) (data_out : List ℕ)
-      → registering_list parsed data_out ≡ None
-      → is_of_kind is_other parsed ≡ true
-  of-kind (Ok (PersistentReserveOut c)) data_out h = by-action (is_registering c.action) _ h
-    where
-      by-action : (b : Bool) (list : OutList) → cond {A = Option OutList} b (Some list) None ≡ None
-          → not b ≡ true
-      by-action true list e = cc
-      by-action false list e = refl
-  of-kind (Ok _) data_out h = refl
-  of-kind (Err fault) data_out h = refl
+      changing-leaves (outcome (rules_for state) state.reservations j action scope_type list)
+      (outcome-leaves (rules_for state) state.reservations j action scope_type list h)
 
   other-leaves : (cdb data_out : List ℕ) → registering_list (command_of cdb) data_out ≡ None
       → persists (step state j cdb data_out).state ≡ persists state
@@ -222,29 +236,32 @@ module _ (state : State) (j : ℕ) where
         → After (step_outcome state j (when_sound (result_map_both (λ change. change) out_refusal o)
         (changing_reservations state j))))
         (cases : FirstIs (EffectIs P)
-        (register_cases state.reservations j list.service_action_key list.aptpl)) where
+        (register_cases (rules_for state) state.reservations j list.service_action_key list.aptpl)) where
       after-action : (action : OutAction) (scope_type : ℕ) → is_registering action ≡ true
           → After (step_by state j (ChangeReservations action scope_type list))
       unfolding reservation_change
       after-action action scope_type h =
-          following (outcome state.reservations j action scope_type list)
-          (by-register state.reservations j P action scope_type list h cases)
+          following (outcome (rules_for state) state.reservations j action scope_type list)
+          (by-register (rules_for state) state.reservations j P action scope_type list h cases)
 
       after-command : (cdb data_out : List ℕ) → registering_list (command_of cdb) data_out ≡ Some list
           → After (step state j cdb data_out)
       after-command = with-list state j list After refusing after-action
 
-    sets : acts state.reservations j list.service_action_key ≡ true → (cdb data_out : List ℕ)
-        → registering_list (command_of cdb) data_out ≡ Some list → Set (step state j cdb data_out)
+    sets : acts (rules_for state) state.reservations j list.service_action_key ≡ true
+        → (cdb data_out : List ℕ) → registering_list (command_of cdb) data_out ≡ Some list
+        → Set (step state j cdb data_out)
     sets a =
         after-command (Sets list.aptpl) Set (λ refusal good. absurd (not_good state j refusal good))
-        set-outcome (register-sets state.reservations j list.service_action_key list.aptpl a)
+        set-outcome
+        (register-sets (rules_for state) state.reservations j list.service_action_key list.aptpl a)
 
-    leaves : acts state.reservations j list.service_action_key ≡ false → (cdb data_out : List ℕ)
-        → registering_list (command_of cdb) data_out ≡ Some list → Left (step state j cdb data_out)
+    leaves : acts (rules_for state) state.reservations j list.service_action_key ≡ false
+        → (cdb data_out : List ℕ) → registering_list (command_of cdb) data_out ≡ Some list
+        → Left (step state j cdb data_out)
     leaves a =
         after-command Leaves Left refused-left left-outcome
-        (register-leaves state.reservations j list.service_action_key list.aptpl a)
+        (register-leaves (rules_for state) state.reservations j list.service_action_key list.aptpl a)
 
 counted-sets : (state : State) (call : Call) (list : OutList) → Counts state call list
     → persists (step_of state call).state ≡ list.aptpl
@@ -255,7 +272,7 @@ module _ (keeps_refused : RefusedChangesNothing) where
   by-acts : (state : State) (call : Call) (list : OutList)
       → registering_list (command_of call.cdb.now) call.data_out.now ≡ Some list
       → (Counts state call list → ⊥)
-      → (a : Bool) → acts state.reservations call.initiator list.service_action_key ≡ a
+      → (a : Bool) → acts (rules_for state) state.reservations call.initiator list.service_action_key ≡ a
       → persists (step_of state call).state ≡ persists state
   by-acts state call list e none true a =
       let kept = keeps_refused state call.initiator call.cdb.now call.data_out.now
@@ -272,7 +289,7 @@ module _ (keeps_refused : RefusedChangesNothing) where
       other-leaves state call.initiator call.cdb.now call.data_out.now e
   by-list state call (Some list) e none =
       by-acts state call list e (none list)
-      (acts state.reservations call.initiator list.service_action_key) refl
+      (acts (rules_for state) state.reservations call.initiator list.service_action_key) refl
 
   -- ---- Lists of events
 

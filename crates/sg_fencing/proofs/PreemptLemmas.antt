@@ -23,6 +23,7 @@ use Rattle.sg_units.specs.Reservations.{IsConsistent, has_holder, is_held_if_any
 use Rattle.sg_units.specs.ReservationType.{type_of}
 use Rattle.sg_units.specs.ReserveOut.{Outcome, accepts_key, action_outcome, outcome, preempt_cases}
 use Rattle.sg_wire.specs.declared.out_list.OutList.{OutList}
+use Rattle.sg_wire.specs.declared.profile.Rules.{Rules}
 use Rattle.sg_units.specs.declared.registrations.Registration.{Registration}
 use Rattle.sg_units.specs.declared.reservation.Reservation.{Reservation}
 use Rattle.sg_units.specs.declared.reservation_change.ReservationChange.{ReservationChange}
@@ -49,6 +50,7 @@ use Rattle.sg_target.specs.declared.refusal.Refusal.TheVariants.{CheckCondition}
 use Rattle.sg_target.specs.declared.reply.Status.TheVariants.{Good}
 use Rattle.sg_target.proofs.LiftLemmas.{lifted, not_good, outcome-by}
 use Rattle.sg_fencing.proofs.OperationLemmas.{listed}
+use Rattle.sg_fencing.specs.Registrants.{rules_for}
 use Rattle.sg_fencing.specs.Registrants.{PreemptedAreUnregistered, PreemptionKeepsAReservation}
 use Rattle.sg_fencing.specs.Registrants.{PreemptingSendersStayRegistered}
 use Rattle.sg_fencing.specs.Registrants.{is_preempting, preempted_key}
@@ -89,7 +91,8 @@ module _ (keep : Registration → Bool) (i key : ℕ)
 not-of : (r : Registration) (i j : ℕ) → (j == i) ≡ false → is_of i r ≡ true → is_of j r ≡ false
 not-of r i j other is = grind (arith, nat_tests)
 
-module _ (state : ReservationState) (i j : ℕ) (other : (j == i) ≡ false) (list : OutList)
+module _ (rules : Rules) (state : ReservationState) (i j : ℕ) (other : (j == i) ≡ false)
+    (list : OutList)
     (only : (key : ℕ) → is_registered_under state.registrations i key ≡ true
     → list.service_action_key ≡ key) where
   abbrev key : ℕ
@@ -104,7 +107,7 @@ module _ (state : ReservationState) (i j : ℕ) (other : (j == i) ≡ false) (li
   gone keep drops = removed keep i key drops state.registrations only
 
   preempt-removes : (type : Option ReservationType)
-      → FirstIs (EffectIs IsRemoved) (preempt_cases state j type key)
+      → FirstIs (EffectIs IsRemoved) (preempt_cases rules state j type key)
   unfolding preempt_cases
   preempt-removes type =
       let unless_own =
@@ -114,24 +117,25 @@ module _ (state : ReservationState) (i j : ℕ) (other : (j == i) ≡ false) (li
       let own = gone (is_of j) (λ r is under. not-of r i j other is) in
       let under_key = gone (λ r. not (is_under key r)) (λ r is under. ap not under) in
       case_or (EffectIs IsRemoved) _ _ (λ _. refused IsRemoved _)
+      (λ _. case_or (EffectIs IsRemoved) _ _ (λ _. refused IsRemoved _)
       (λ _. case_or (EffectIs IsRemoved) _ _
       (λ _. taking IsRemoved state.reservation j type _ (λ type. effective IsRemoved _ unless_own))
       (λ _. case_or (EffectIs IsRemoved) _ _
       (λ _. taking IsRemoved state.reservation j type _ (λ type. effective IsRemoved _ own))
       (λ _. case_or (EffectIs IsRemoved) _ _ (λ _. refused IsRemoved _)
-      (λ _. last_case (EffectIs IsRemoved) _ _ refl (effective IsRemoved _ under_key)))))
+      (λ _. last_case (EffectIs IsRemoved) _ _ refl (effective IsRemoved _ under_key))))))
 
   action-removes : (action : OutAction) (type : Option ReservationType) (aptpl : Bool)
       → is_preempting action ≡ true
-      → EffectIs IsRemoved (action_outcome state j action type key aptpl)
+      → EffectIs IsRemoved (action_outcome rules state j action type key aptpl)
   action-removes Preempt type aptpl h = (preempt-removes type).first
   action-removes PreemptAndAbort type aptpl h = (preempt-removes type).first
   action-removes _ type aptpl h = absurd (false≢true h)
 
   outcome-removes : (action : OutAction) (scope_type : ℕ) → is_preempting action ≡ true
-      → EffectIs IsRemoved (outcome state j action scope_type list)
+      → EffectIs IsRemoved (outcome rules state j action scope_type list)
   outcome-removes action scope_type h =
-      if-accepted IsRemoved state j action scope_type list
+      if-accepted IsRemoved rules state j action scope_type list
       (λ _. action-removes action (type_of scope_type) list.aptpl h)
 
 -- ---- The reservation that somebody is left to hold
@@ -167,17 +171,19 @@ held-while (Some reservation) all sark r some held absent here =
     some-if (has_holder reservation (without_key all sark)) reservation
     (still-held reservation.kind reservation.holder all sark r held absent here)
 
-module _ (state : ReservationState) (j r : ℕ) (some : is_some state.reservation ≡ true)
+module _ (rules : Rules) (state : ReservationState) (j r : ℕ)
+    (some : is_some state.reservation ≡ true)
     (held : is_held_if_any state.reservation state.registrations ≡ true) where
   abbrev pub IsHeldStill : ReservationChange → Type 0
   IsHeldStill change =
       is_registered change.registrations r ≡ true → is_some change.reservation ≡ true
 
   preempt-holds : (type : Option ReservationType) (sark : ℕ)
-      → FirstIs (EffectIs IsHeldStill) (preempt_cases state j type sark)
+      → FirstIs (EffectIs IsHeldStill) (preempt_cases rules state j type sark)
   unfolding preempt_cases
   preempt-holds type sark =
       case_or (EffectIs IsHeldStill) _ _ (λ _. refused IsHeldStill _)
+      (λ _. case_or (EffectIs IsHeldStill) _ _ (λ _. refused IsHeldStill _)
       (λ _. case_or (EffectIs IsHeldStill) _ _
       (λ _. taking IsHeldStill state.reservation j type _
       (λ type. effective IsHeldStill _ (λ here. refl)))
@@ -187,25 +193,25 @@ module _ (state : ReservationState) (j r : ℕ) (some : is_some state.reservatio
       (λ _. case_or (EffectIs IsHeldStill) _ _ (λ _. refused IsHeldStill _)
       (λ _. last_case (EffectIs IsHeldStill) _ _ refl
       (effective IsHeldStill _
-      (held-while state.reservation state.registrations sark r some held absent))))))
+      (held-while state.reservation state.registrations sark r some held absent)))))))
 
   action-holds : (action : OutAction) (type : Option ReservationType) (sark : ℕ) (aptpl : Bool)
       → is_preempting action ≡ true
-      → EffectIs IsHeldStill (action_outcome state j action type sark aptpl)
+      → EffectIs IsHeldStill (action_outcome rules state j action type sark aptpl)
   action-holds Preempt type sark aptpl h = (preempt-holds type sark).first
   action-holds PreemptAndAbort type sark aptpl h = (preempt-holds type sark).first
   action-holds _ type sark aptpl h = absurd (false≢true h)
 
   outcome-holds : (action : OutAction) (scope_type : ℕ) (list : OutList)
       → is_preempting action ≡ true
-      → EffectIs IsHeldStill (outcome state j action scope_type list)
+      → EffectIs IsHeldStill (outcome rules state j action scope_type list)
   outcome-holds action scope_type list h =
-      if-accepted IsHeldStill state j action scope_type list
+      if-accepted IsHeldStill rules state j action scope_type list
       (λ _. action-holds action (type_of scope_type) list.service_action_key list.aptpl h)
 
 -- ---- The sender, if it is registered under another key
 
-module _ (state : ReservationState) (j : ℕ) (list : OutList)
+module _ (rules : Rules) (state : ReservationState) (j : ℕ) (list : OutList)
     (absent : is_registered_under state.registrations j list.service_action_key ≡ false) where
   abbrev all : List Registration
   all = state.registrations
@@ -218,11 +224,12 @@ module _ (state : ReservationState) (j : ℕ) (list : OutList)
   kept keep stays here = stays_registered all (filter keep all) j (key_of-filter keep j stays all) here
 
   preempt-stays : (type : Option ReservationType) → is_registered all j ≡ true
-      → FirstIs (EffectIs IsHere) (preempt_cases state j type list.service_action_key)
+      → FirstIs (EffectIs IsHere) (preempt_cases rules state j type list.service_action_key)
   unfolding preempt_cases
   preempt-stays type here =
       let sark = list.service_action_key in
       case_or (EffectIs IsHere) _ _ (λ _. refused IsHere _)
+      (λ _. case_or (EffectIs IsHere) _ _ (λ _. refused IsHere _)
       (λ _. case_or (EffectIs IsHere) _ _
       (λ _. taking IsHere state.reservation j type _
       (λ type. effective IsHere _
@@ -234,12 +241,12 @@ module _ (state : ReservationState) (j : ℕ) (list : OutList)
       (λ _. case_or (EffectIs IsHere) _ _ (λ _. refused IsHere _)
       (λ _. last_case (EffectIs IsHere) _ _ refl
       (effective IsHere _
-      (stays_registered all (without_key all sark) j (key_of-without_key all j sark absent) here))))))
+      (stays_registered all (without_key all sark) j (key_of-without_key all j sark absent) here)))))))
 
   action-stays : (action : OutAction) (type : Option ReservationType) (aptpl : Bool)
       → is_preempting action ≡ true
       → accepts_key all j action list.reservation_key ≡ true
-      → EffectIs IsHere (action_outcome state j action type list.service_action_key aptpl)
+      → EffectIs IsHere (action_outcome rules state j action type list.service_action_key aptpl)
   action-stays Preempt type aptpl h accepted =
       (preempt-stays type (is_registered-under all j list.reservation_key accepted)).first
   action-stays PreemptAndAbort type aptpl h accepted =
@@ -247,9 +254,9 @@ module _ (state : ReservationState) (j : ℕ) (list : OutList)
   action-stays _ type aptpl h accepted = absurd (false≢true h)
 
   outcome-stays : (action : OutAction) (scope_type : ℕ) → is_preempting action ≡ true
-      → EffectIs IsHere (outcome state j action scope_type list)
+      → EffectIs IsHere (outcome rules state j action scope_type list)
   outcome-stays action scope_type h =
-      if-accepted IsHere state j action scope_type list
+      if-accepted IsHere rules state j action scope_type list
       (λ accepted. action-stays action (type_of scope_type) list.aptpl h accepted)
 
 -- ---- The command
@@ -280,11 +287,11 @@ module _ (state : State) (j : ℕ) (P : List Registration → Option Reservation
   changing-leaves (Err fault) k = tt
 
   reserving-leaves : (action : OutAction) (scope_type : ℕ) (list : OutList)
-      → EffectIs Changes (outcome state.reservations j action scope_type list)
+      → EffectIs Changes (outcome (rules_for state) state.reservations j action scope_type list)
       → EffectLeaves (effect_of state j (ChangeReservations action scope_type list))
   unfolding reservation_change
   reserving-leaves action scope_type list h =
-      changing-leaves (outcome state.reservations j action scope_type list) h
+      changing-leaves (outcome (rules_for state) state.reservations j action scope_type list) h
 
   key-sent : (preempts : Bool) (list : OutList) (key : ℕ)
       → option_map (λ (l : OutList). l.service_action_key) (cond preempts (Some list) None) ≡ Some key
@@ -295,7 +302,7 @@ module _ (state : State) (j : ℕ) (P : List Registration → Option Reservation
   module _ (key : ℕ)
       (leaves : (action : OutAction) (scope_type : ℕ) (list : OutList) → is_preempting action ≡ true
       → list.service_action_key ≡ key
-      → EffectIs Changes (outcome state.reservations j action scope_type list)) where
+      → EffectIs Changes (outcome (rules_for state) state.reservations j action scope_type list)) where
     command-leaves : (command : Command) (data_out : List ℕ) (operation : Operation)
         → (demands (config_of state) command data_out).operation ≡ Ok operation
         → preempted_key (Ok command) data_out ≡ Some key
@@ -323,7 +330,7 @@ pub preempt-unregisters : OneKeyEach → PreemptedAreUnregistered
 preempt-unregisters one state i j key cdb data_out w other is here =
     preempt-leaves state j (λ registrations reservation. is_registered registrations i ≡ false) key
     (λ action scope_type list h under.
-    outcome-removes state.reservations i j (ne_eqb j i other) list
+    outcome-removes (rules_for state) state.reservations i j (ne_eqb j i other) list
     (only-key_of one state.reservations i list.service_action_key w.registered
     (here ∙ ap Some (sym under)))
     action scope_type h)
@@ -335,7 +342,7 @@ preempt-keeps state j r key cdb data_out w some is good here =
     (λ registrations reservation. is_registered registrations r ≡ true → is_some reservation ≡ true)
     key
     (λ action scope_type list h under.
-    outcome-holds state.reservations j r some w.registered.held action scope_type list h)
+    outcome-holds (rules_for state) state.reservations j r some w.registered.held action scope_type list h)
     cdb data_out is good here
 
 -- an initiator is not registered under a key that is not its own
@@ -355,7 +362,7 @@ pub sender-stays : OneKeyEach → PreemptingSendersStayRegistered
 sender-stays one state j key cdb data_out w is other =
     preempt-leaves state j (λ registrations reservation. is_registered registrations j ≡ true) key
     (λ action scope_type list h under.
-    outcome-stays state.reservations j list
+    outcome-stays (rules_for state) state.reservations j list
     (not-under one state.reservations j list.service_action_key w.registered
     (λ e. other (e ∙ ap Some under)) _ refl)
     action scope_type h)

@@ -16,6 +16,7 @@ use Rattle.sg_units.specs.ReserveOut.{accepts_key, action_outcome, outcome, pree
 use Rattle.sg_units.specs.ReserveOut.{state_after}
 use Rattle.sg_units.specs.ReserveOut.{register_cases, release_cases, reserve_cases}
 use Rattle.sg_wire.specs.declared.out_list.OutList.{OutList}
+use Rattle.sg_wire.specs.declared.profile.Rules.{Rules}
 use Rattle.sg_units.specs.declared.registrations.Registration.{Registration}
 use Rattle.sg_units.specs.declared.reservation_change.ReservationChange.{ReservationChange}
 use Rattle.sg_units.specs.declared.reservation_state.ReservationState.{ReservationState}
@@ -24,7 +25,7 @@ use Rattle.sg_units.specs.declared.unit_attention.UnitAttention.{UnitAttention}
 use Rattle.sg_fencing.proofs.ReserveOutLemmas.{IsLeft, is_registered-key_of, key_of-push, key_of-replaced}
 use Rattle.sg_fencing.proofs.ReserveOutLemmas.{key_of-without}
 use Rattle.sg_units.proofs.OutcomeLemmas.{EffectIs, FirstIs, case_or, if-accepted, effective, last_case}
-use Rattle.sg_units.proofs.OutcomeLemmas.{refused, taking, typed}
+use Rattle.sg_units.proofs.OutcomeLemmas.{refused, releasing, taking, typed}
 use Rattle.sg_fencing.specs.Registrants.{is_registering}
 
 -- ---- Registrations of an initiator that has none
@@ -67,30 +68,36 @@ not_so true h e = false≢true (sym h)
 not_so false h e = false≢true (sym e)
 
 -- It has the outcome of one that registers, or is refused.
-module _ (state : ReservationState) (j : ℕ) (unknown : is_registered state.registrations j ≡ false)
-    (P : ReservationChange → Type 0)
-    (registering : (sark : ℕ) (aptpl : Bool) → FirstIs (EffectIs P) (register_cases state j sark aptpl)) where
+module _ (rules : Rules) (state : ReservationState) (j : ℕ)
+    (unknown : is_registered state.registrations j ≡ false) (P : ReservationChange → Type 0)
+    (list : OutList) where
   not-own : (key : ℕ) → is_registered_under state.registrations j key ≡ true → ⊥
   not-own key h = false≢true (sym (not-under state.registrations j key unknown) ∙ h)
 
-  by-action : (action : OutAction) (type : Option ReservationType) (sark : ℕ) (aptpl : Bool) (key : ℕ)
+  abbrev Registering : Type 0
+  Registering =
+      FirstIs (EffectIs P) (register_cases rules state j list.service_action_key list.aptpl)
+
+  by-action : (action : OutAction) (type : Option ReservationType) (key : ℕ)
+      → (is_registering action ≡ true → Registering)
       → accepts_key state.registrations j action key ≡ true
-      → EffectIs P (action_outcome state j action type sark aptpl)
-  by-action Register type sark aptpl key h = (registering sark aptpl).first
-  by-action RegisterAndIgnoreExistingKey type sark aptpl key h = (registering sark aptpl).first
-  by-action Reserve type sark aptpl key h = absurd (not-own key h)
-  by-action Release type sark aptpl key h = absurd (not-own key h)
-  by-action Clear type sark aptpl key h = absurd (not-own key h)
-  by-action Preempt type sark aptpl key h = absurd (not-own key h)
-  by-action PreemptAndAbort type sark aptpl key h = absurd (not-own key h)
+      → EffectIs P (action_outcome rules state j action type list.service_action_key list.aptpl)
+  by-action Register type key registering h = (registering refl).first
+  by-action RegisterAndIgnoreExistingKey type key registering h = (registering refl).first
+  by-action Reserve type key registering h = absurd (not-own key h)
+  by-action Release type key registering h = absurd (not-own key h)
+  by-action Clear type key registering h = absurd (not-own key h)
+  by-action Preempt type key registering h = absurd (not-own key h)
+  by-action PreemptAndAbort type key registering h = absurd (not-own key h)
 
-  by-registering : (action : OutAction) (scope_type : ℕ) (list : OutList)
-      → EffectIs P (outcome state j action scope_type list)
-  by-registering action scope_type list =
-      if-accepted P state j action scope_type list
-      (by-action action (type_of scope_type) list.service_action_key list.aptpl list.reservation_key)
+  by-registering : (action : OutAction) (scope_type : ℕ)
+      → (is_registering action ≡ true → Registering)
+      → EffectIs P (outcome rules state j action scope_type list)
+  by-registering action scope_type registering =
+      if-accepted P rules state j action scope_type list
+      (by-action action (type_of scope_type) list.reservation_key registering)
 
-module _ (state : ReservationState) (i j : ℕ) (other : (j == i) ≡ false)
+module _ (rules : Rules) (state : ReservationState) (i j : ℕ) (other : (j == i) ≡ false)
     (unknown : is_registered state.registrations j ≡ false) where
   abbrev pub Leaves : ReservationChange → Type 0
   Leaves = IsLeft state.registrations state.reservation i j
@@ -106,18 +113,22 @@ module _ (state : ReservationState) (i j : ℕ) (other : (j == i) ≡ false)
         (is_registered change.registrations i) change.for_remaining change.for_removed remaining removed;
   })
 
-  register-leaves : (sark : ℕ) (aptpl : Bool) → FirstIs (EffectIs Leaves) (register_cases state j sark aptpl)
+  register-leaves : (sark : ℕ) (aptpl : Bool)
+      → FirstIs (EffectIs Leaves) (register_cases rules state j sark aptpl)
   unfolding register_cases
   register-leaves sark aptpl =
       case_or (EffectIs Leaves) _ _ (λ _. left _ refl refl refl refl)
+      (λ _. case_or (EffectIs Leaves) _ _ (λ _. left _ refl refl refl refl)
       (λ _. case_or (EffectIs Leaves) _ _ (λ _. refused Leaves _)
       (λ _. case_or (EffectIs Leaves) _ _
       (λ _. left _ (key_of-push state.registrations i j sark other) refl refl refl)
-      (λ known. absurd (not_so (is_registered state.registrations j) unknown known))))
+      (λ known. absurd (not_so (is_registered state.registrations j) unknown known)))))
 
   pub outcome-leaves : (action : OutAction) (scope_type : ℕ) (list : OutList)
-      → EffectIs Leaves (outcome state j action scope_type list)
-  outcome-leaves = by-registering state j unknown Leaves register-leaves
+      → EffectIs Leaves (outcome rules state j action scope_type list)
+  outcome-leaves action scope_type list =
+      by-registering rules state j unknown Leaves list action scope_type
+      (λ _. register-leaves list.service_action_key list.aptpl)
 
 -- ---- Whether it is registered afterwards
 
@@ -126,29 +137,47 @@ pub pushed-known : (rs : List Registration) (j key : ℕ)
 pushed-known [] j key = ap (λ b. b || false) (eq-eqb j j refl)
 pushed-known (r ∷ rs) j key = or_right (is_of j r) _ (pushed-known rs j key)
 
-module _ (state : ReservationState) (j : ℕ) (unknown : is_registered state.registrations j ≡ false) where
+-- what counts though nothing is registered or unregistered
+counted-if : (counts unknown zero : Bool) → (counts && zero) ≡ false
+    → (counts && (unknown && zero)) ≡ true → ⊥
+counted-if true true zero a b = false≢true (sym a ∙ b)
+counted-if true false zero a b = false≢true b
+counted-if false unknown zero a b = false≢true b
+
+module _ (rules : Rules) (state : ReservationState) (j : ℕ)
+    (unknown : is_registered state.registrations j ≡ false) where
   -- all is as it was, unless j is registered afterwards
   abbrev pub IsIdle : ReservationChange → Type 0
   IsIdle change = is_registered change.registrations j ≡ false → state_after state (Ok change) ≡ state
 
-  register-idle : (sark : ℕ) (aptpl : Bool) → FirstIs (EffectIs IsIdle) (register_cases state j sark aptpl)
+  register-idle : (sark : ℕ) (aptpl : Bool) → (rules.counts_each_register && sark == 0) ≡ false
+      → FirstIs (EffectIs IsIdle) (register_cases rules state j sark aptpl)
   unfolding register_cases
-  register-idle sark aptpl =
-      case_or (EffectIs IsIdle) _ _ (λ _. effective IsIdle _ (λ _. refl))
+  register-idle sark aptpl uncounted =
+      let new = not (is_registered state.registrations j) in
+      case_or (EffectIs IsIdle) _ _
+      (λ counted. absurd (counted-if rules.counts_each_register new (sark == 0) uncounted counted))
+      (λ _. case_or (EffectIs IsIdle) _ _ (λ _. effective IsIdle _ (λ _. refl))
       (λ _. case_or (EffectIs IsIdle) _ _ (λ _. refused IsIdle _)
       (λ _. case_or (EffectIs IsIdle) _ _
       (λ _. effective IsIdle _ (λ gone. absurd (false≢true
       (sym gone ∙ pushed-known state.registrations j sark))))
-      (λ known. absurd (not_so (is_registered state.registrations j) unknown known))))
+      (λ known. absurd (not_so (is_registered state.registrations j) unknown known)))))
 
+  -- this holds of a command that does not register, and of one that does not count
   pub outcome-idle : (action : OutAction) (scope_type : ℕ) (list : OutList)
-      → EffectIs IsIdle (outcome state j action scope_type list)
-  outcome-idle = by-registering state j unknown IsIdle register-idle
+      → (is_registering action ≡ true
+      → (rules.counts_each_register && list.service_action_key == 0) ≡ false)
+      → EffectIs IsIdle (outcome rules state j action scope_type list)
+  outcome-idle action scope_type list uncounted =
+      by-registering rules state j unknown IsIdle list action scope_type
+      (λ is. register-idle list.service_action_key list.aptpl (uncounted is))
 
 -- ---- An initiator stays unregistered
 
 -- i is not registered, and the command of j does not register i.
-module _ (state : ReservationState) (i j : ℕ) (unknown : is_registered state.registrations i ≡ false) where
+module _ (rules : Rules) (state : ReservationState) (i j : ℕ)
+    (unknown : is_registered state.registrations i ≡ false) where
   abbrev pub IsUnknown : ReservationChange → Type 0
   IsUnknown change = is_registered change.registrations i ≡ false
 
@@ -162,7 +191,7 @@ module _ (state : ReservationState) (i j : ℕ) (unknown : is_registered state.r
   stays change h = effective IsUnknown change h
 
   registering-other : (sark : ℕ) (aptpl : Bool) → (j == i) ≡ false
-      → FirstIs (EffectIs IsUnknown) (register_cases state j sark aptpl)
+      → FirstIs (EffectIs IsUnknown) (register_cases rules state j sark aptpl)
   unfolding register_cases
   registering-other sark aptpl other =
       let all = state.registrations in
@@ -170,10 +199,11 @@ module _ (state : ReservationState) (i j : ℕ) (unknown : is_registered state.r
       let pushed = by-key (with_registration all j sark) (key_of-push all i j sark other) in
       let replaced = by-key (with_key_replaced all j sark) (key_of-replaced all i j sark other) in
       case_or (EffectIs IsUnknown) _ _ (λ _. stays _ unknown)
+      (λ _. case_or (EffectIs IsUnknown) _ _ (λ _. stays _ unknown)
       (λ _. case_or (EffectIs IsUnknown) _ _ (λ _. refused IsUnknown _)
       (λ _. case_or (EffectIs IsUnknown) _ _ (λ _. stays _ pushed)
       (λ _. case_or (EffectIs IsUnknown) _ _ (λ _. stays _ replaced)
-      (λ _. last_case (EffectIs IsUnknown) _ _ refl (stays _ gone)))))
+      (λ _. last_case (EffectIs IsUnknown) _ _ refl (stays _ gone))))))
 
   reserving : (type : ReservationType) → FirstIs (EffectIs IsUnknown) (reserve_cases state j type)
   unfolding reserve_cases
@@ -182,41 +212,42 @@ module _ (state : ReservationState) (i j : ℕ) (unknown : is_registered state.r
       (λ _. case_or (EffectIs IsUnknown) _ _ (λ _. stays _ unknown)
       (λ _. last_case (EffectIs IsUnknown) _ _ refl (refused IsUnknown _)))
 
-  releasing : (type : ReservationType) → FirstIs (EffectIs IsUnknown) (release_cases state j type)
+  unreleased : (type : ReservationType) → FirstIs (EffectIs IsUnknown) (release_cases state j type)
   unfolding release_cases
-  releasing type =
+  unreleased type =
       case_or (EffectIs IsUnknown) _ _ (λ _. stays _ unknown)
       (λ _. case_or (EffectIs IsUnknown) _ _ (λ _. refused IsUnknown _)
       (λ _. last_case (EffectIs IsUnknown) _ _ refl (stays _ unknown)))
 
   preempting : (type : Option ReservationType) (sark : ℕ)
-      → FirstIs (EffectIs IsUnknown) (preempt_cases state j type sark)
+      → FirstIs (EffectIs IsUnknown) (preempt_cases rules state j type sark)
   unfolding preempt_cases
   preempting type sark =
       let gone = λ (p : Registration → Bool). not-in-filter p state.registrations i unknown in
       case_or (EffectIs IsUnknown) _ _ (λ _. refused IsUnknown _)
+      (λ _. case_or (EffectIs IsUnknown) _ _ (λ _. refused IsUnknown _)
       (λ _. case_or (EffectIs IsUnknown) _ _
       (λ _. taking IsUnknown state.reservation j type _ (λ type. stays _ (gone _)))
       (λ _. case_or (EffectIs IsUnknown) _ _
       (λ _. taking IsUnknown state.reservation j type _ (λ type. stays _ (gone _)))
       (λ _. case_or (EffectIs IsUnknown) _ _ (λ _. refused IsUnknown _)
-      (λ _. last_case (EffectIs IsUnknown) _ _ refl (stays _ (gone _))))))
+      (λ _. last_case (EffectIs IsUnknown) _ _ refl (stays _ (gone _)))))))
 
   action-unknown : (action : OutAction) (type : Option ReservationType) (sark : ℕ) (aptpl : Bool)
       → (is_registering action ≡ true → (j == i) ≡ false)
-      → EffectIs IsUnknown (action_outcome state j action type sark aptpl)
+      → EffectIs IsUnknown (action_outcome rules state j action type sark aptpl)
   action-unknown Register type sark aptpl h = (registering-other sark aptpl (h refl)).first
   action-unknown RegisterAndIgnoreExistingKey type sark aptpl h =
       (registering-other sark aptpl (h refl)).first
   action-unknown Reserve type sark aptpl h = typed IsUnknown type _ (λ type. (reserving type).first)
-  action-unknown Release type sark aptpl h = typed IsUnknown type _ (λ type. (releasing type).first)
+  action-unknown Release type sark aptpl h = releasing IsUnknown rules state j type unknown unreleased
   action-unknown Clear type sark aptpl h = stays _ refl
   action-unknown Preempt type sark aptpl h = (preempting type sark).first
   action-unknown PreemptAndAbort type sark aptpl h = (preempting type sark).first
 
   pub outcome-unknown : (action : OutAction) (scope_type : ℕ) (list : OutList)
       → (is_registering action ≡ true → (j == i) ≡ false)
-      → EffectIs IsUnknown (outcome state j action scope_type list)
+      → EffectIs IsUnknown (outcome rules state j action scope_type list)
   outcome-unknown action scope_type list h =
-      if-accepted IsUnknown state j action scope_type list
+      if-accepted IsUnknown rules state j action scope_type list
       (λ _. action-unknown action (type_of scope_type) list.service_action_key list.aptpl h)

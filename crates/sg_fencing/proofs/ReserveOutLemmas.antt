@@ -23,6 +23,7 @@ use Rattle.sg_units.specs.ReserveOut.{preempted}
 use Rattle.sg_units.specs.ReserveOut.{raised_for, register_cases, release_cases, released}
 use Rattle.sg_units.specs.ReserveOut.{released_unless_held, reserve_cases}
 use Rattle.sg_wire.specs.declared.out_list.OutList.{OutList}
+use Rattle.sg_wire.specs.declared.profile.Rules.{Rules}
 use Rattle.sg_units.specs.declared.registrations.Registration.{Registration}
 use Rattle.sg_units.specs.declared.reservation.Reservation.{Reservation}
 use Rattle.sg_units.specs.declared.reservation_change.ReservationChange.{ReservationChange}
@@ -30,7 +31,7 @@ use Rattle.sg_units.specs.declared.reservation_state.ReservationState.{Reservati
 use Rattle.sg_units.specs.declared.types.ReservationType.{ReservationType}
 use Rattle.sg_units.specs.declared.unit_attention.UnitAttention.{UnitAttention}
 use Rattle.sg_units.proofs.OutcomeLemmas.{EffectIs, FirstIs, case_or, if-accepted, effective}
-use Rattle.sg_units.proofs.OutcomeLemmas.{last_case, refused, taking, typed}
+use Rattle.sg_units.proofs.OutcomeLemmas.{last_case, refused, releasing, taking, typed}
 
 -- ---- The key of an initiator
 
@@ -234,25 +235,27 @@ took all held i j type rest h =
     (λ type. ends all held i j _ (taken_if type (is_all_registrants type) i j h))
 
 -- The caller j is another initiator than i, which is registered and the one holder.
-module _ (all : List Registration) (kind : ReservationType) (before : ReservationState) (i j : ℕ) where
+module _ (rules : Rules) (all : List Registration) (kind : ReservationType) (before : ReservationState)
+    (i j : ℕ) where
   abbrev P : ReservationChange → Type 0
   P = IsLeftIfHolder all (held_alone kind i) i j
 
   register_leaves : (sark : ℕ) (aptpl : Bool) → is_registered all i ≡ true → (j == i) ≡ false
-      → FirstIs (EffectIs P) (register_cases (alone_in all kind i before) j sark aptpl)
+      → FirstIs (EffectIs P) (register_cases rules (alone_in all kind i before) j sark aptpl)
   unfolding register_cases
   register_leaves sark aptpl here other =
       let held = held_alone kind i in
       let gone = key_of-without all i j other in
       let left = stays_registered all (without_initiator all j) i gone here in
       case_or (EffectIs P) _ _ (λ _. stays all held i j _ here refl refl refl)
+      (λ _. case_or (EffectIs P) _ _ (λ _. stays all held i j _ here refl refl refl)
       (λ _. case_or (EffectIs P) _ _ (λ _. refused P _)
       (λ _. case_or (EffectIs P) _ _
       (λ _. stays all held i j _ here (key_of-push all i j sark other) refl refl)
       (λ _. case_or (EffectIs P) _ _
       (λ _. stays all held i j _ here (key_of-replaced all i j sark other) refl refl)
       (λ _. last_case (EffectIs P) _ _ refl
-      (stays all held i j _ here gone (while_held-alone kind i _ left) (released-alone kind i _ left))))))
+      (stays all held i j _ here gone (while_held-alone kind i _ left) (released-alone kind i _ left)))))))
 
   reserve_leaves : (new : ReservationType) → is_registered all i ≡ true
       → FirstIs (EffectIs P) (reserve_cases (alone_in all kind i before) j new)
@@ -271,11 +274,13 @@ module _ (all : List Registration) (kind : ReservationType) (before : Reservatio
       (λ _. last_case (EffectIs P) _ _ refl (ends all (held_alone kind i) i j _ refl)))
 
   preempt_leaves : (type : Option ReservationType) (sark : ℕ) → is_registered all i ≡ true
-      → (j == i) ≡ false → FirstIs (EffectIs P) (preempt_cases (alone_in all kind i before) j type sark)
+      → (j == i) ≡ false
+      → FirstIs (EffectIs P) (preempt_cases rules (alone_in all kind i before) j type sark)
   unfolding preempt_cases
   preempt_leaves type sark here other =
       let held = held_alone kind i in
       case_or (EffectIs P) _ _ (λ _. refused P _)
+      (λ _. case_or (EffectIs P) _ _ (λ _. refused P _)
       (λ _. case_or (EffectIs P) _ _ (λ _. took all held i j type _ other)
       (λ absent. case_or (EffectIs P) _ _ (λ no. absurd (false≢true no))
       (λ _. case_or (EffectIs P) _ _ (λ _. refused P _)
@@ -283,16 +288,18 @@ module _ (all : List Registration) (kind : ReservationType) (before : Reservatio
       let gone = key_of-without_key all i sark absent in
       let left = stays_registered all (without_key all sark) i gone here in
       last_case (EffectIs P) _ _ refl
-      (stays all held i j _ here gone (while_held-alone kind i _ left) refl)))))
+      (stays all held i j _ here gone (while_held-alone kind i _ left) refl))))))
 
   action_leaves : (action : OutAction) (type : Option ReservationType) (sark : ℕ) (aptpl : Bool)
       → is_registered all i ≡ true → (j == i) ≡ false
-      → EffectIs P (action_outcome (alone_in all kind i before) j action type sark aptpl)
+      → EffectIs P (action_outcome rules (alone_in all kind i before) j action type sark aptpl)
   action_leaves Register type sark aptpl here other = (register_leaves sark aptpl here other).first
   action_leaves Reserve type sark aptpl here other =
       typed P type _ (λ new. (reserve_leaves new here).first)
   action_leaves Release type sark aptpl here other =
-      typed P type _ (λ new. (release_leaves new here).first)
+      releasing P rules (alone_in all kind i before) j type
+      ((stays all (held_alone kind i) i j _ here refl refl refl).shown _ refl)
+      (λ new. release_leaves new here)
   action_leaves Clear type sark aptpl here other = ends all (held_alone kind i) i j _ refl
   action_leaves Preempt type sark aptpl here other = (preempt_leaves type sark here other).first
   action_leaves PreemptAndAbort type sark aptpl here other = (preempt_leaves type sark here other).first
@@ -301,9 +308,9 @@ module _ (all : List Registration) (kind : ReservationType) (before : Reservatio
 
   pub outcome_leaves : (action : OutAction) (scope_type : ℕ) (list : OutList)
       → is_registered all i ≡ true → (j == i) ≡ false
-      → EffectIs P (outcome (alone_in all kind i before) j action scope_type list)
+      → EffectIs P (outcome rules (alone_in all kind i before) j action scope_type list)
   outcome_leaves action scope_type list here other =
-      if-accepted P (alone_in all kind i before) j action scope_type list
+      if-accepted P rules (alone_in all kind i before) j action scope_type list
       (λ _. action_leaves action (type_of scope_type) list.service_action_key list.aptpl here other)
 
 -- ---- The command of another initiator that can't end the reservation
@@ -323,12 +330,13 @@ no_holder : (known b : Bool) → b ≡ false → not (known && b) ≡ false → 
 no_holder true b h e = false≢true (sym e ∙ ap not h)
 no_holder false b h e = false≢true (sym e)
 
-module _ (all : List Registration) (kind : ReservationType) (before : ReservationState) (i j : ℕ) where
+module _ (rules : Rules) (all : List Registration) (kind : ReservationType) (before : ReservationState)
+    (i j : ℕ) where
   abbrev H : ReservationChange → Type 0
   H = IsHeld (held_alone kind i) i
 
   register_holds : (sark : ℕ) (aptpl : Bool) → is_registered all i ≡ true → (j == i) ≡ false
-      → FirstIs (EffectIs H) (register_cases (alone_in all kind i before) j sark aptpl)
+      → FirstIs (EffectIs H) (register_cases rules (alone_in all kind i before) j sark aptpl)
   unfolding register_cases
   register_holds sark aptpl here other =
       let held = held_alone kind i in
@@ -339,10 +347,11 @@ module _ (all : List Registration) (kind : ReservationType) (before : Reservatio
       let replaced = stays_registered all (with_key_replaced all j sark) i
       (key_of-replaced all i j sark other) here in
       case_or (EffectIs H) _ _ (λ _. stands held i _ here refl)
+      (λ _. case_or (EffectIs H) _ _ (λ _. stands held i _ here refl)
       (λ _. case_or (EffectIs H) _ _ (λ _. refused H _)
       (λ _. case_or (EffectIs H) _ _ (λ _. stands held i _ pushed refl)
       (λ _. case_or (EffectIs H) _ _ (λ _. stands held i _ replaced refl)
-      (λ _. last_case (EffectIs H) _ _ refl (stands held i _ left (while_held-alone kind i _ left))))))
+      (λ _. last_case (EffectIs H) _ _ refl (stands held i _ left (while_held-alone kind i _ left)))))))
 
   reserve_holds : (new : ReservationType) → is_registered all i ≡ true
       → FirstIs (EffectIs H) (reserve_cases (alone_in all kind i before) j new)
@@ -361,12 +370,13 @@ module _ (all : List Registration) (kind : ReservationType) (before : Reservatio
 
   action_holds : (action : OutAction) (type : Option ReservationType) (sark : ℕ) (aptpl : Bool)
       → ends_for_others action ≡ false → is_registered all i ≡ true → (j == i) ≡ false
-      → EffectIs H (action_outcome (alone_in all kind i before) j action type sark aptpl)
+      → EffectIs H (action_outcome rules (alone_in all kind i before) j action type sark aptpl)
   action_holds Register type sark aptpl mild here other = (register_holds sark aptpl here other).first
   action_holds Reserve type sark aptpl mild here other =
       typed H type _ (λ new. (reserve_holds new here).first)
   action_holds Release type sark aptpl mild here other =
-      typed H type _ (λ new. (release_holds new here other).first)
+      releasing H rules (alone_in all kind i before) j type (record { here = here; reservation = refl })
+      (λ new. release_holds new here other)
   action_holds RegisterAndIgnoreExistingKey type sark aptpl mild here other =
       (register_holds sark aptpl here other).first
   action_holds Clear type sark aptpl mild here other = absurd (false≢true (sym mild))
@@ -375,7 +385,7 @@ module _ (all : List Registration) (kind : ReservationType) (before : Reservatio
 
   pub outcome_holds : (action : OutAction) (scope_type : ℕ) (list : OutList)
       → ends_for_others action ≡ false → is_registered all i ≡ true → (j == i) ≡ false
-      → EffectIs H (outcome (alone_in all kind i before) j action scope_type list)
+      → EffectIs H (outcome rules (alone_in all kind i before) j action scope_type list)
   outcome_holds action scope_type list mild here other =
-      if-accepted H (alone_in all kind i before) j action scope_type list
+      if-accepted H rules (alone_in all kind i before) j action scope_type list
       (λ _. action_holds action (type_of scope_type) list.service_action_key list.aptpl mild here other)

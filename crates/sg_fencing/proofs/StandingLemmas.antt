@@ -39,6 +39,7 @@ use Rattle.sg_target.proofs.LiftLemmas.{lifted, outcome-by}
 use Rattle.sg_fencing.specs.Fencing.{can_end_for_others, holds_alone}
 use Rattle.sg_fencing.proofs.HolderLemmas.{HoldsAlone}
 use Rattle.sg_fencing.proofs.OperationLemmas.{asked-suits, fits, is_of_kind}
+use Rattle.sg_fencing.specs.Registrants.{rules_for}
 
 -- Suppose that a fact holds of the reservations, and of them after each PERSISTENT RESERVE OUT of
 -- some kind. Then it holds after each command, except PERSISTENT RESERVE OUT of another kind.
@@ -118,14 +119,15 @@ module _ (state : State) (i j : ℕ) (other : j ≡ i → ⊥) (h : HoldsAlone s
 
   out-holds : (action : OutAction) (scope_type : ℕ) (list : OutList)
       → ends_for_others action ≡ false
-      → EffectIs H (outcome state.reservations j action scope_type list)
+      → EffectIs H (outcome (rules_for state) state.reservations j action scope_type list)
   out-holds action scope_type list mild =
       let rs = state.reservations.registrations in
       let is : alone_in rs h.kind i state.reservations ≡ state.reservations =
       λ d. record state.reservations { reservation = sym h.reservation_is d } in
-      subst (λ (r : ReservationState). EffectIs H (outcome r j action scope_type list)) is
-      (outcome_holds rs h.kind state.reservations i j action scope_type list mild h.registered
-      (ne_eqb j i other))
+      subst (λ (r : ReservationState). EffectIs H (outcome (rules_for state) r j action scope_type list))
+      is
+      (outcome_holds (rules_for state) rs h.kind state.reservations i j action scope_type list mild
+      h.registered (ne_eqb j i other))
 
   reserving-stands : (action : OutAction) (scope_type : ℕ) (list : OutList)
       → not (ends_for_others action) ≡ true
@@ -133,7 +135,7 @@ module _ (state : State) (i j : ℕ) (other : j ≡ i → ⊥) (h : HoldsAlone s
       (changing_reservations state j))
   unfolding reservation_change
   reserving-stands action scope_type list mild =
-      changing-stands (outcome state.reservations j action scope_type list)
+      changing-stands (outcome (rules_for state) state.reservations j action scope_type list)
       (out-holds action scope_type list (not-true (ends_for_others action) mild))
 
   abbrev leaves_others : OutAction → Bool

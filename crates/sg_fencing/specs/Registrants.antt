@@ -19,13 +19,15 @@ use Rattle.sg_wire.specs.declared.command.out_action.OutAction.TheVariants.{Pree
 use Rattle.sg_wire.specs.declared.command.out_action.OutAction.TheVariants.{RegisterAndIgnoreExistingKey}
 use Rattle.sg_store.specs.Disk.{Contents}
 use Rattle.sg_wire.specs.OutList.{out_list}
+use Rattle.sg_wire.specs.Profile.{rules_of}
+use Rattle.sg_wire.specs.declared.profile.Rules.{Rules}
 use Rattle.sg_wire.specs.declared.out_list.OutList.{OutList}
 use Rattle.sg_units.specs.Registrations.{is_registered, key_of}
 use Rattle.sg_units.specs.Laws.{is_exclusive_access}
 use Rattle.sg_units.specs.declared.reservation.Reservation.{Reservation}
 use Rattle.sg_target.specs.Effect.{with_contents}
 use Rattle.sg_target.specs.Runs.{all_calls, answers, state_after_all, state_after_events, step_of}
-use Rattle.sg_target.specs.State.{IsWithinLimits, State}
+use Rattle.sg_target.specs.State.{IsWithinLimits, State, profile_of}
 use Rattle.sg_target.specs.Step.{Answer, step}
 use Rattle.sg_target.specs.declared.call.Call.{Call}
 use Rattle.sg_target.specs.declared.event.Event.{Event}
@@ -35,6 +37,10 @@ use Rattle.sg_fencing.specs.ChosenAnswers.{answers_where}
 use Rattle.sg_fencing.specs.Fencing.{is_from, view_of}
 
 -- ---- Words
+
+-- The rules of the disk's profile.
+abbrev pub rules_for : State → Rules
+rules_for state = rules_of (profile_of state)
 
 -- A reservation is held, of whichever type.
 abbrev pub is_reserved : State → Bool
@@ -74,6 +80,11 @@ registering_list command data_out = list_of is_registering command data_out
 abbrev pub asks_to_register : Result Command CdbFault → (data_out : List ℕ) → Bool
 asks_to_register command data_out =
     option_map_or (λ (list : OutList). not (list.service_action_key == 0))
+    (registering_list command data_out) false
+
+abbrev pub asks_to_unregister : Result Command CdbFault → (data_out : List ℕ) → Bool
+asks_to_unregister command data_out =
+    option_map_or (λ (list : OutList). list.service_action_key == 0)
     (registering_list command data_out) false
 
 -- The key of the registrations that a PREEMPT or a PREEMPT AND ABORT is to remove.

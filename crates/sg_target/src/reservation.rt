@@ -109,11 +109,7 @@ fn always_needs_type(rules: Rules, action: OutAction) -> bool
     match action {
         OutAction::Reserve => true,
         OutAction::Release => !rules.releases_nothing_by_any_type,
-        OutAction::Register
-        | OutAction::Clear
-        | OutAction::Preempt
-        | OutAction::PreemptAndAbort
-        | OutAction::RegisterAndIgnoreExistingKey => false,
+        _ => false,
     }
 }
 
@@ -167,7 +163,10 @@ impl<S: Store> Target<S> {
             [] self.old self.new result buf.now buf.now }
     {
         let rules = self.config.rules();
-        match self.reservations.out(rules, initiator, action, scope_type, list) {
+        match self
+            .reservations
+            .out(rules, initiator, action, scope_type, list)
+        {
             Ok(raised) => {
                 self.attentions.raise_for_each(&raised);
                 Reply::without_blocks(0)
