@@ -15,7 +15,7 @@ pub record Seen : Type 0 where
   pub code : Option ℕ
   -- the blocks that it reads or writes; none if a check refuses it
   pub extents : List Extent
-  -- whether it writes to the medium
+  -- whether it writes them, and does not read them first
   pub writes : Bool
 
 -- ---- Blocks

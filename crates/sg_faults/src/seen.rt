@@ -15,7 +15,7 @@ pub struct SeenCommand<'a> {
     pub code: Option<u8>,
     /// The blocks that it reads or writes. There are none if a check refuses it.
     pub extents: &'a [Extent],
-    /// Whether it writes to the medium.
+    /// Whether it writes them, and does not read them first.
     pub writes: bool,
 }
 

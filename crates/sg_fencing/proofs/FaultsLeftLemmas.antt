@@ -25,7 +25,7 @@ use Rattle.sg_units.specs.Access.{allows}
 use Rattle.sg_target.specs.Armed.{Armed, Attempt, afterwards_step, armed_step, arrival_attempt}
 use Rattle.sg_target.specs.Armed.{attempt, attempt_of, checked_attempt, fault_by, finished_if_good}
 use Rattle.sg_target.specs.Armed.{first_blocks, lacks_room, marked_by, medium_attempt, medium_of, seen}
-use Rattle.sg_target.specs.Armed.{step_of_checked}
+use Rattle.sg_target.specs.Armed.{only_writes, step_of_checked}
 use Rattle.sg_target.specs.Checks.{checked_cdb}
 use Rattle.sg_target.specs.Semantics.{medium_use}
 use Rattle.sg_target.specs.Step.{Step}
@@ -180,8 +180,8 @@ no-writes (operation.AnchorExtent extent) h = absurd (h refl)
 no-writes _ h = refl
 
 seen-writes : (result : Result Operation Refusal) → Holds WritesNothing first-writes-nothing result
-    → (medium_of result).writes ≡ false
-seen-writes (Ok o) h = no-writes o h
+    → only_writes (medium_of result) ≡ false
+seen-writes (Ok o) h = ap (λ (b : Bool). b && not (medium_use o).reads) (no-writes o h)
 seen-writes (Err refusal) h = refl
 
 -- and marks no block as bad

@@ -1,7 +1,7 @@
 -- The facts about a command that its operation shows. Of the laws' modules only this one knows
 -- commands. A command has a case only if its operation looks at more than its fields.
 use Rattle.std.proofs.Common.{◌≡◌, ℕ, Bool, true, false, List, Option, Some, None, Result, Ok, Err}
-use Rattle.std.proofs.Common.{refl, subst, cond, sym, ◌∙◌}
+use Rattle.std.proofs.Common.{◌==◌, refl, subst, cond, sym, ◌∙◌}
 use Rattle.std.proofs.lemmas.Bool.{false≢true}
 use Rattle.std.specs.Prelude.{if◌then◌else◌, ok_or}
 use Rattle.sg_wire.specs.FirstBytes.{first_bytes}
@@ -236,6 +236,22 @@ sound-reads : {A : Type 0} (command : Command) (sound : Result A Refusal) (becom
 sound-reads command (Ok value) becomes h = record { reads = λ no. h value }
 sound-reads command (Err refusal) becomes h = tt
 
+-- VERIFY changes no block
+module _ (command : Command) (config : ConfigFields) (extent : Extent) (byte : ℕ) where
+  each-reads : (block : List ℕ) (none : Bool)
+      → ReadsIfAsked command (cond none (verify_only config extent byte)
+      (takes config logical_block_length (too_long config extent.count byte)
+      (Ok (CompareEach extent block)))).operation
+  each-reads block true = record { reads = λ no. refl }
+  each-reads block false = record { reads = λ no. refl }
+
+  verify-reads : (check : ByteCheck) (data_out : List ℕ)
+      → ReadsIfAsked command (verify config check extent byte data_out).operation
+  verify-reads check.Nothing data_out = record { reads = λ no. refl }
+  verify-reads check.Reserved data_out = record { reads = λ no. refl }
+  verify-reads check.DataOut data_out = record { reads = λ no. refl }
+  verify-reads check.OneBlock data_out = each-reads (block_out data_out) (extent.count == 0)
+
 reads-if : (config : ConfigFields) (command : Command) (data_out : List ℕ)
     → ReadsIfAsked command (demands config command data_out).operation
 reads-if config (command.Write6 c) data_out =
@@ -255,6 +271,15 @@ reads-if config (command.WriteAndVerify12 c) data_out =
 reads-if config (command.WriteAndVerify16 c) data_out =
     changing-reads (command.WriteAndVerify16 c)
     (demands config (command.WriteAndVerify16 c) data_out).operation refl
+reads-if config (command.CompareAndWrite c) data_out =
+    changing-reads (command.CompareAndWrite c)
+    (demands config (command.CompareAndWrite c) data_out).operation refl
+reads-if config (command.Verify10 c) data_out =
+    verify-reads (command.Verify10 c) config (extent c.extent.lba c.extent.count) 7 c.byte_check data_out
+reads-if config (command.Verify12 c) data_out =
+    verify-reads (command.Verify12 c) config (extent c.extent.lba c.extent.count) 6 c.byte_check data_out
+reads-if config (command.Verify16 c) data_out =
+    verify-reads (command.Verify16 c) config (extent c.extent.lba c.extent.count) 10 c.byte_check data_out
 reads-if config (command.LogSense c) data_out =
     sound-reads (command.LogSense c)
     (or_refused (λ byte. CheckCondition (InvalidFieldInCdb byte))

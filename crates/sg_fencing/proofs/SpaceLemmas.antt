@@ -16,7 +16,8 @@ use Rattle.sg_wire.specs.declared.command.Command.TheVariants as command
 use Rattle.sg_wire.specs.declared.extent.Extent.{Extent}
 use Rattle.sg_wire.specs.declared.sense.Format.{Format}
 use Rattle.sg_wire.specs.declared.sense.Format.TheVariants.{Fixed, Descriptor}
-use Rattle.sg_pages.specs.ModePage.{write_protected}
+use Rattle.sg_wire.specs.declared.profile.Rules.{Rules}
+use Rattle.sg_pages.specs.ModePage.{ModeState, write_protected}
 use Rattle.sg_units.specs.Access.{allows}
 use Rattle.sg_units.specs.Attentions.{oldest}
 use Rattle.sg_target.specs.BlockCommands.{blocks_out, bytes_of}
@@ -215,11 +216,11 @@ protected-other : (only_writes : Bool)
 protected-other true = refl
 protected-other false = refl
 
-protection-other : (state : State) (medium : MediumUse) → IsOtherIfAny (write_protection state medium)
+protection-other : (rules : Rules) (modes : ModeState) (medium : MediumUse)
+    → IsOtherIfAny (write_protection rules modes medium)
 unfolding write_protection
-protection-other state medium =
-    let rules = rules_of (profile_of state) in
-    if-other (write_protected state.modes && writes_some rules medium) _
+protection-other rules modes medium =
+    if-other (write_protected modes && writes_some rules medium) _
     (protected-other rules.protects_only_writes)
 
 cdb-other : (state : State) (i : ℕ) (cdb : List ℕ) → IsOtherIfAny (first_some (cdb_checks state i cdb))
@@ -254,8 +255,10 @@ module _ (state : State) (i : ℕ) (data_out : List ℕ) where
       (first_some (medium_checks state (medium_use (operation.Write (blocks_out out data_out)))))
       (first-other (out_of_range state.disk.capacity (out ∷ [])) _
       (range-other state.disk.capacity out)
-      (first-other (write_protection state (medium_use (operation.Write (blocks_out out data_out)))) []
-      (protection-other state (medium_use (operation.Write (blocks_out out data_out)))) tt))
+      (first-other
+      (write_protection (rules_of (profile_of state)) state.modes
+      (medium_use (operation.Write (blocks_out out data_out)))) []
+      (protection-other _ state.modes (medium_use (operation.Write (blocks_out out data_out)))) tt))
   by-request out (Some refusal) h = h
 
   write-other : (out : Extent) (unsupported : Option ℕ)

@@ -16,7 +16,8 @@ use Rattle.sg_wire.specs.declared.command.Command.TheVariants as command
 use Rattle.sg_wire.specs.declared.command.verify.ByteCheck.{ByteCheck}
 use Rattle.sg_wire.specs.declared.extent.Extent.{Extent}
 use Rattle.sg_target.proofs.CommandLemmas.{its-blocks, its-comparison}
-use Rattle.sg_pages.specs.ModePage.{write_protected}
+use Rattle.sg_wire.specs.declared.profile.Rules.{Rules}
+use Rattle.sg_pages.specs.ModePage.{ModeState, write_protected}
 use Rattle.sg_units.specs.Access.{allows}
 use Rattle.sg_units.specs.Attentions.{oldest}
 use Rattle.sg_target.specs.BlockCommands.{blocks_out, bytes_of, writing}
@@ -93,12 +94,12 @@ range-none capacity out h =
     first-none (past_capacity capacity out) []
     (if-none (nat_lt capacity (out.lba + out.count)) _ (at-most (out.lba + out.count) capacity h)) refl
 
-protection-none : (state : State) (medium : MediumUse) → write_protected state.modes ≡ false
-    → write_protection state medium ≡ None
+protection-none : (rules : Rules) (modes : ModeState) (medium : MediumUse)
+    → write_protected modes ≡ false → write_protection rules modes medium ≡ None
 unfolding write_protection
-protection-none state medium h =
-    let writes = writes_some (rules_of (profile_of state)) medium in
-    if-none (write_protected state.modes && writes) _ (ap (λ b. b && writes) h)
+protection-none rules modes medium h =
+    let writes = writes_some rules medium in
+    if-none (write_protected modes && writes) _ (ap (λ b. b && writes) h)
 
 -- ---- The command
 
@@ -123,8 +124,8 @@ module _ (state : State) (i : ℕ) (data_out : List ℕ) (out : Extent)
       by-medium (first_some (medium_checks state (medium_use asked)))
       (first-none (out_of_range state.disk.capacity (out ∷ [])) _
       (range-none state.disk.capacity out free.on_disk)
-      (first-none (write_protection state (medium_use asked)) []
-      (protection-none state (medium_use asked) free.unprotected) refl))
+      (first-none (write_protection (rules_of (profile_of state)) state.modes (medium_use asked)) []
+      (protection-none _ state.modes (medium_use asked) free.unprotected) refl))
   by-request (Some refusal) h = cc
 
   write-effect : (unsupported : Option ℕ) → unsupported ≡ None

@@ -56,6 +56,7 @@ OnlyReadsReturnData =
 
 -- The commands that may change blocks: each WRITE, WRITE AND VERIFY and WRITE SAME, and UNMAP.
 abbrev pub may_change_blocks : Result Command CdbFault → Bool
+may_change_blocks (Ok (command.CompareAndWrite c)) = true
 may_change_blocks (Ok (command.Write6 c)) = true
 may_change_blocks (Ok (command.Write10 c)) = true
 may_change_blocks (Ok (command.Write12 c)) = true

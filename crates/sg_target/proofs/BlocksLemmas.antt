@@ -3,6 +3,7 @@ use Rattle.std.proofs.Common.{◌≡◌, ◌≤◌, ◌<◌, ℕ, ◌+◌, ◌*�
 use Rattle.std.proofs.Common.{Bool, true, false, cond, Option, Some, None, Result, Ok, Err, refl}
 use Rattle.std.proofs.Common.{◌==◌, arith, eqb-true, length-take, length-drop}
 use Rattle.std.specs.Prelude.{max, nat_lt, ok_or}
+use Rattle.sg_wire.specs.Profile.{rules_of}
 use Rattle.sg_wire.specs.FirstBytes.{first_bytes}
 use Rattle.sg_target.specs.PrimaryCommands.{inquiry_page}
 use Rattle.sg_target.specs.ReservationCommands.{fields_out}
@@ -255,7 +256,7 @@ operation-ready : (state : State) (o : Operation) → IsSound o → Ready state 
 operation-ready state o h =
     let medium = medium_use o in
     passes state o (out_of_range state.disk.capacity medium.extents)
-    (write_protection state medium)
+    (write_protection (rules_of (profile_of state)) state.modes medium)
     (λ e. record { sound = h; on_disk = on_disk state.disk.capacity medium.extents e })
 
 next-ready : (state : State) (asked : Result Operation Refusal) → Sound asked

@@ -50,13 +50,17 @@ medium_of (Err refusal) = uses_no_block
 abbrev pub accessed : MediumUse → List Extent
 accessed used = if used.reads || used.writes then used.extents else []
 
+-- It writes its blocks and does not read them first, as COMPARE AND WRITE does.
+abbrev pub only_writes : MediumUse → Bool
+only_writes used = used.writes && not used.reads
+
 -- The faults see these blocks of a command, and its operation code.
 abbrev pub seen : (initiator : ℕ) → (cdb : List ℕ) → Result Operation Refusal → Seen
 seen initiator cdb checked = record {
   initiator = initiator;
   code = slice_get cdb 0;
   extents = accessed (medium_of checked);
-  writes = (medium_of checked).writes;
+  writes = only_writes (medium_of checked);
 }
 
 -- ---- On arrival, and at the medium

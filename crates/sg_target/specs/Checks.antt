@@ -12,7 +12,7 @@ use Rattle.sg_wire.specs.declared.command.CdbFault.TheVariants.{Empty, Opcode, S
 use Rattle.sg_wire.specs.Profile.{rules_of}
 use Rattle.sg_wire.specs.declared.extent.Extent.{Extent}
 use Rattle.sg_wire.specs.declared.profile.Rules.{Rules}
-use Rattle.sg_pages.specs.ModePage.{write_protected}
+use Rattle.sg_pages.specs.ModePage.{ModeState, write_protected}
 use Rattle.sg_units.specs.Access.{allows}
 use Rattle.sg_units.specs.Attentions.{oldest}
 use Rattle.sg_target.specs.Effect.{Effect}
@@ -129,16 +129,16 @@ protection_reason rules =
     if rules.protects_only_writes then WriteProtected else SoftwareWriteProtected
 
 -- SWP of the Control mode page is set (SPC-4, 7.5), and the command writes to the medium.
-unfoldable pub write_protection : State → MediumUse → Option Refusal
-write_protection state medium =
-    let rules = rules_of (profile_of state) in
-    if write_protected state.modes && writes_some rules medium
+unfoldable pub write_protection : Rules → ModeState → MediumUse → Option Refusal
+write_protection rules modes medium =
+    if write_protected modes && writes_some rules medium
     then Some (CheckCondition (protection_reason rules))
     else None
 
 abbrev pub medium_checks : State → MediumUse → List (Option Refusal)
 medium_checks state medium =
-    out_of_range state.disk.capacity medium.extents ∷ write_protection state medium ∷ []
+    out_of_range state.disk.capacity medium.extents
+    ∷ write_protection (rules_of (profile_of state)) state.modes medium ∷ []
 
 abbrev pub checked_operation : State → Operation → Result Operation Refusal
 checked_operation state operation =

@@ -153,6 +153,7 @@ fn seen<'a>(
     ensures { result ≡ seen initiator cdb.now checked.now }
 {
     let writes = match checked {
+        Ok(Operation::CompareAndWrite(_)) => false,
         Ok(operation) => operation.medium_use(capacity).writes,
         Err(_) => false,
     };

@@ -1,6 +1,7 @@
 // The order of the checks that a command passes before it is executed.
 ghost use Rattle.std.specs.Prelude.{◌≡◌, Some, None, Ok, IfErr, IfOk, if◌then◌else◌, true};
 ghost use Rattle.sg_wire.specs.CdbDecoding.{command_in, is_blocked_in};
+ghost use Rattle.sg_wire.specs.Profile.{rules_of};
 ghost use Rattle.sg_units.specs.Attentions.{oldest};
 ghost use Rattle.sg_target.specs.Checks.{cdb_checks, checked_cdb, checked_operation};
 ghost use Rattle.sg_pages.specs.ModePage.{write_protected};
@@ -132,9 +133,11 @@ impl<S: Store> Target<S> {
         requires protected { write_protected self.now.state.modes ≡ true }
         requires writes { (medium_use operation.now).writes ≡ true }
         ensures refused { IfErr result (λ refusal.
-            write_protection self.now.state (medium_use operation.now) ≡ Some refusal) }
+            write_protection (rules_of (profile_of self.now.state))
+            self.now.state.modes (medium_use operation.now) ≡ Some refusal) }
         ensures passed { IfOk result (λ _.
-            write_protection self.now.state (medium_use operation.now) ≡ None) }
+            write_protection (rules_of (profile_of self.now.state))
+            self.now.state.modes (medium_use operation.now) ≡ None) }
     {
         if !self.config.rules().protects_only_writes {
             return Err(Refusal::CheckCondition(Reason::SoftwareWriteProtected));
