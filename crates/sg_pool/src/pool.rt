@@ -1,7 +1,7 @@
 // The slots of 512 bytes and the links between them. This file knows no address: the table says
 // which slot belongs to which address.
-ghost use Rattle.std.specs.Prelude.{◌≡◌, ◌<◌, ◌+◌, ◌-◌, ◌∷◌, ◌++◌, ◌≤◌, length, replicate, IfOk, IfSome, Some};
-ghost use Rattle.std.specs.Prelude.{option_map, slice_index, slice_index_or, slice_set};
+ghost use Rattle.std.specs.Prelude.{◌≡◌, ◌<◌, ◌+◌, ◌-◌, ◌∷◌, ◌++◌, ◌≤◌, length, replicate, Some};
+ghost use Rattle.std.specs.Prelude.{IfOk, IfSome, option_map, slice_index, slice_index_or, slice_set};
 ghost use Rattle.std.specs.List.{range_with_len};
 ghost use Rattle.sg_pool.specs.Chains.{chain, slot_after, AreBelow, IsChain};
 ghost use Rattle.sg_store.specs.Disk.{data_in, zero_block, HasBlockLength};
