@@ -2,6 +2,7 @@
 // blocks of a run are in a chain of slots. The other files say what its calls do to the runs.
 ghost use Rattle.std.specs.Prelude.{◌≡◌, ◌+◌, ◌*◌, ◌<◌, ◌≤◌, ◌↔◌, length, IsErr, OnOk, OnErr};
 ghost use Rattle.std.specs.FinMap.{len};
+ghost use Rattle.sg_store.specs.Comparison.{compared, repeated};
 ghost use Rattle.sg_store.specs.Disk.{IsWellFormed, IsOverfull, blocks};
 ghost use Rattle.sg_store.specs.Disk.{disk_written, disk_filled, disk_unmapped, disk_anchored};
 ghost use Rattle.sg_store.specs.Disk.{data_count, disk_remapped, need, outside_range};
@@ -20,6 +21,7 @@ ghost use Rattle.sg_table.specs.Draft.{empty_draft};
 ghost use Rattle.sg_store.specs.declared.store.TheConstants.{MAX_CAPACITY};
 ghost use Rattle.sg_pool.specs.declared.links.TheConstants.{MAX_SLOTS};
 
+use crate::compare::compare_runs;
 use crate::gather::{Gathered, gather, gather_between, used_between};
 use crate::read::read_runs;
 use crate::status::{cursor_over, write_descriptors};
@@ -28,7 +30,7 @@ use crate::write::write_runs;
 use sg_pool::{Content, MAX_SLOTS, Pool, Source};
 use sg_store::laws::disks_stay_well_formed;
 use sg_store::lba_status::status_header;
-use sg_store::{BLOCK_LENGTH, Counts, MAX_CAPACITY, Space, Store};
+use sg_store::{BLOCK_LENGTH, Counts, MAX_CAPACITY, Miscompare, Space, Store};
 use sg_table::RunTable;
 use sg_wire::Cut;
 use sg_wire::laws::{parts_are_put_in_turn, parts_are_replaced};
@@ -55,6 +57,7 @@ pub struct BlockMap {
 
 impl BlockMap {
     ghost use Rattle.sg_pool.specs.Content.{HasMappings, mapping_for};
+    ghost use Rattle.sg_pool.specs.Source.{HasBlocks, joined_blocks};
     ghost use Rattle.sg_block_map.specs.State.{disk_of, meter_of, records_of};
     ghost use Rattle.sg_block_map.specs.State.{slots_by_address, Keeps};
 
@@ -65,6 +68,31 @@ impl BlockMap {
         ensures count { result ≡ length (runs (disk_of self.now).contents) }
     {
         self.table.count()
+    }
+
+    /// Compares the blocks from an address on with the blocks of a source.
+    ///
+    /// # Errors
+    /// A byte differs.
+    fn compare_with(&mut self, lba: u64, count: u32, source: &Source) -> Result<(), Miscompare>
+        requires range { lba + count ≤ (disk_of self.old).capacity }
+        requires whole { HasBlocks source.now count }
+        requires headroom { HasHeadroom (meter_of self.old).counts }
+
+        // The result names the first byte that differs, and the disk stays as it is.
+        ensures value { result ≡ compared (blocks (disk_of self.old).contents lba count)
+            (joined_blocks source.now count) }
+        ensures disk { disk_of self.new ≡ disk_of self.old }
+        ensures keeps { slots_by_address self.new ≡ slots_by_address self.old }
+
+        // The cost of the call.
+        ensures costs { CostsRange (disk_of self.old) lba count
+            (meter_of self.old) (meter_of self.new) }
+    {
+        gather(&mut self.table, &mut self.gathered, lba, count);
+        let result = compare_runs(&mut self.pool, self.gathered.records(), lba, count, source);
+        self.gathered.clear();
+        result
     }
 
     /// Gives the addresses from one on their new content.
@@ -157,6 +185,46 @@ impl Store for BlockMap {
         gather(&mut self.table, &mut self.gathered, lba, count);
         read_runs(&mut self.pool, self.gathered.records(), lba, count, bytes);
         self.gathered.clear();
+    }
+
+    fn compare(&mut self, lba: u64, count: u32, bytes: &[u8]) -> Result<(), Miscompare>
+        requires range { lba + count ≤ (disk_of self.old).capacity }
+        requires byte_count { length bytes.now ≡ BLOCK_LENGTH * count }
+        requires headroom { HasHeadroom (meter_of self.old).counts }
+
+        // The result names the first byte that differs, and the disk stays as it is.
+        ensures value { result
+            ≡ compared (blocks (disk_of self.old).contents lba count) bytes.now }
+        ensures disk { disk_of self.new ≡ disk_of self.old }
+        ensures keeps { slots_by_address self.new ≡ slots_by_address self.old }
+
+        // The cost of the call.
+        ensures costs { CostsRange (disk_of self.old) lba count
+            (meter_of self.old) (meter_of self.new) }
+    {
+        self.compare_with(lba, count, &Source::Joined(bytes))
+    }
+
+    fn compare_each(
+        &mut self,
+        lba: u64,
+        count: u32,
+        block: &[u8; BLOCK_LENGTH],
+    ) -> Result<(), Miscompare>
+        requires range { lba + count ≤ (disk_of self.old).capacity }
+        requires headroom { HasHeadroom (meter_of self.old).counts }
+
+        // The result names the first byte that differs, and the disk stays as it is.
+        ensures value { result ≡ compared (blocks (disk_of self.old).contents lba count)
+            (repeated count block.now) }
+        ensures disk { disk_of self.new ≡ disk_of self.old }
+        ensures keeps { slots_by_address self.new ≡ slots_by_address self.old }
+
+        // The cost of the call.
+        ensures costs { CostsRange (disk_of self.old) lba count
+            (meter_of self.old) (meter_of self.new) }
+    {
+        self.compare_with(lba, count, &Source::Repeated(block))
     }
 
     fn write(&mut self, lba: u64, count: u32, bytes: &[u8]) -> Result<(), Space>

@@ -3,6 +3,7 @@
 #![tactic(auto)]
 
 mod block_map;
+mod compare;
 mod gather;
 pub mod laws;
 mod overwrite;

@@ -1,9 +1,10 @@
 // The store itself. Its table has a record for each extent. The other files say what its calls do
 // to the extents.
 ghost use Rattle.std.specs.Prelude.{◌≡◌, ◌+◌, ◌≤◌, ◌↔◌, length, IsErr, OnOk, OnErr};
-ghost use Rattle.sg_store.specs.Disk.{IsWellFormed, IsOverfull, disk_remapped};
+ghost use Rattle.sg_store.specs.Comparison.{compared};
+ghost use Rattle.sg_store.specs.Disk.{IsWellFormed, IsOverfull, blocks, disk_remapped};
 ghost use Rattle.sg_store.specs.DiskProps.{IsWellFormed-IsProp};
-ghost use Rattle.sg_store.specs.Meter.{HasHeadroom, ChargedOnOk};
+ghost use Rattle.sg_store.specs.Meter.{HasHeadroom, Charged, ChargedOnOk};
 ghost use Rattle.sg_extent_map.specs.ExtentCost.{extent_price, extent_price-within, extent_least};
 ghost use Rattle.sg_extent_map.specs.ExtentCost.{extent_least-positive, extent_price-joined};
 ghost use Rattle.sg_extent_map.specs.Extents.{AreExtents, AreMaximal, stored};
@@ -11,6 +12,7 @@ ghost use Rattle.sg_extent_map.specs.ExtentsProps.{AreExtents-IsProp};
 ghost use Rattle.sg_table.specs.Draft.{empty_draft};
 ghost use Rattle.sg_store.specs.declared.store.TheConstants.{MAX_CAPACITY, MAX_POOL};
 
+use crate::compare::compare_runs;
 use crate::gather::{Gathered, gather, used_between};
 use crate::read::read_runs;
 use crate::status::{cursor_over, write_descriptors};
@@ -19,7 +21,7 @@ use crate::write::{Range, put_range};
 use sg_pool::{Content, Source, UnlinkedPool};
 use sg_store::laws::disks_stay_well_formed;
 use sg_store::lba_status::status_header;
-use sg_store::{BLOCK_LENGTH, Counts, Space, Store};
+use sg_store::{BLOCK_LENGTH, Counts, Miscompare, Space, Store};
 use sg_table::{Draft, RunTable};
 use sg_wire::Cut;
 use sg_wire::laws::{parts_are_put_in_turn, parts_are_replaced};
@@ -49,6 +51,7 @@ pub struct ExtentMap {
 
 impl ExtentMap {
     ghost use Rattle.sg_pool.specs.Content.{HasMappings, mapping_for};
+    ghost use Rattle.sg_pool.specs.Source.{HasBlocks, joined_blocks};
     ghost use Rattle.sg_extent_map.specs.State.{disk_of, extents_of, meter_of};
 
     /// The number of extents. Each has one record, and the table has no others.
@@ -57,6 +60,37 @@ impl ExtentMap {
         ensures maximal { AreMaximal (extents_of self.now) }
     {
         self.table.count()
+    }
+
+    /// Compares the blocks from an address on with the blocks of a source.
+    ///
+    /// # Errors
+    /// A byte differs.
+    fn compare_with(&mut self, lba: u64, count: u32, source: &Source) -> Result<(), Miscompare>
+        requires range { lba + count ≤ (disk_of self.old).capacity }
+        requires whole { HasBlocks source.now count }
+        requires headroom { HasHeadroom (meter_of self.old).counts }
+
+        // The result names the first byte that differs, and the disk stays as it is.
+        ensures value { result ≡ compared (blocks (disk_of self.old).contents lba count)
+            (joined_blocks source.now count) }
+        ensures disk { disk_of self.new ≡ disk_of self.old }
+
+        // The cost of the call, and the bounds of its visits.
+        ensures costs { Charged (disk_of self.old).pool
+            (extent_price (disk_of self.old).contents lba count)
+            (extent_least (disk_of self.old).contents lba count)
+            (meter_of self.old) (meter_of self.new) }
+    {
+        gather(
+            &mut self.table,
+            &mut self.gathered,
+            lba,
+            lba + u64::from(count),
+        );
+        let result = compare_runs(&self.pool, self.gathered.records(), lba, count, source);
+        self.gathered.clear();
+        result
     }
 
     /// Gives the addresses from one on their new content.
@@ -134,6 +168,19 @@ impl Store for ExtentMap {
         );
         read_runs(&self.pool, self.gathered.records(), lba, count, bytes);
         self.gathered.clear();
+    }
+
+    fn compare(&mut self, lba: u64, count: u32, bytes: &[u8]) -> Result<(), Miscompare> {
+        self.compare_with(lba, count, &Source::Joined(bytes))
+    }
+
+    fn compare_each(
+        &mut self,
+        lba: u64,
+        count: u32,
+        block: &[u8; BLOCK_LENGTH],
+    ) -> Result<(), Miscompare> {
+        self.compare_with(lba, count, &Source::Repeated(block))
     }
 
     fn write(&mut self, lba: u64, count: u32, bytes: &[u8]) -> Result<(), Space> {

@@ -2,6 +2,7 @@
 //! whose slots are in a row, too.
 #![tactic(auto)]
 
+mod compare;
 mod draft;
 mod extent_map;
 mod gather;

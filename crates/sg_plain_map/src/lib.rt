@@ -1,6 +1,7 @@
 //! The reference store, for tests: each mapped or anchored address has a record of its own.
 #![tactic(auto)]
 
+mod compare;
 mod kind;
 mod need;
 mod plain_map;

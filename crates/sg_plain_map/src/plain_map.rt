@@ -1,7 +1,8 @@
 // The store itself: a record for each mapped or anchored address, in a table, and its block in a
 // slot of a pool. The other files say what its calls do to the records.
 ghost use Rattle.std.specs.Prelude.{◌≡◌, ◌+◌, ◌≤◌, ◌↔◌, IsErr, OnOk, OnErr};
-ghost use Rattle.sg_store.specs.Disk.{IsWellFormed, IsOverfull, disk_remapped};
+ghost use Rattle.sg_store.specs.Comparison.{compared};
+ghost use Rattle.sg_store.specs.Disk.{IsWellFormed, IsOverfull, blocks, disk_remapped};
 ghost use Rattle.sg_store.specs.DiskProps.{IsWellFormed-IsProp};
 ghost use Rattle.sg_store.specs.Meter.{HasHeadroom, ChargedOnOk};
 ghost use Rattle.sg_plain_map.specs.PlainCost.{plain_price, plain_price-within, plain_least};
@@ -11,6 +12,7 @@ ghost use Rattle.sg_pool.specs.MappedRecords.{IsConsistent};
 ghost use Rattle.sg_store.specs.declared.store.TheConstants.{MAX_CAPACITY};
 ghost use Rattle.sg_pool.specs.declared.links.TheConstants.{MAX_SLOTS};
 
+use crate::compare::compare_blocks;
 use crate::need::visit_records;
 use crate::read::read_blocks;
 use crate::search::lower_bound;
@@ -20,7 +22,7 @@ use crate::write::{Range, put_range};
 use sg_pool::{Content, MAX_SLOTS, Pool, Source};
 use sg_store::laws::disks_stay_well_formed;
 use sg_store::lba_status::status_header;
-use sg_store::{BLOCK_LENGTH, Counts, Space, Store};
+use sg_store::{BLOCK_LENGTH, Counts, Miscompare, Space, Store};
 use sg_table::{Draft, RunTable};
 use sg_wire::Cut;
 use sg_wire::laws::{parts_are_put_in_turn, parts_are_replaced};
@@ -45,7 +47,32 @@ pub struct PlainMap {
 
 impl PlainMap {
     ghost use Rattle.sg_pool.specs.Content.{HasMappings, mapping_for};
+    ghost use Rattle.sg_pool.specs.Source.{HasBlocks, joined_blocks};
     ghost use Rattle.sg_plain_map.specs.State.{disk_of, meter_of};
+
+    /// Compares the blocks from an address on with the blocks of a source.
+    ///
+    /// # Errors
+    /// A byte differs.
+    fn compare_with(&mut self, lba: u64, count: u32, source: &Source) -> Result<(), Miscompare>
+        requires range { lba + count ≤ (disk_of self.old).capacity }
+        requires whole { HasBlocks source.now count }
+        requires headroom { HasHeadroom (meter_of self.old).counts }
+
+        // The result names the first byte that differs, and the disk stays as it is.
+        ensures value { result ≡ compared (blocks (disk_of self.old).contents lba count)
+            (joined_blocks source.now count) }
+        ensures disk { disk_of self.new ≡ disk_of self.old }
+
+        // The cost of the call, and the bounds of its visits.
+        ensures costs { ChargedOnOk result (disk_of self.old).pool
+            (plain_price (disk_of self.old).contents lba count)
+            (plain_least (disk_of self.old).contents lba count)
+            (meter_of self.old) (meter_of self.new) }
+    {
+        let from = lower_bound(&mut self.table, lba);
+        compare_blocks(&mut self.table, &self.pool, from, lba, count, source)
+    }
 
     /// Gives the addresses from one on their new content.
     ///
@@ -117,6 +144,19 @@ impl Store for PlainMap {
     fn read(&mut self, lba: u64, count: u32, bytes: &mut [u8]) {
         let from = lower_bound(&mut self.table, lba);
         read_blocks(&mut self.table, &self.pool, from, lba, count, bytes);
+    }
+
+    fn compare(&mut self, lba: u64, count: u32, bytes: &[u8]) -> Result<(), Miscompare> {
+        self.compare_with(lba, count, &Source::Joined(bytes))
+    }
+
+    fn compare_each(
+        &mut self,
+        lba: u64,
+        count: u32,
+        block: &[u8; BLOCK_LENGTH],
+    ) -> Result<(), Miscompare> {
+        self.compare_with(lba, count, &Source::Repeated(block))
     }
 
     fn write(&mut self, lba: u64, count: u32, bytes: &[u8]) -> Result<(), Space> {

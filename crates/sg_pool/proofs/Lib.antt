@@ -1,6 +1,7 @@
 -- For stores: chains of slots, and what the records of a table map.
 pub mod LinkLemmas
 pub mod SourceLemmas
+pub mod ComparisonLemmas
 pub mod MappedLemmas
 pub mod EntryLemmas
 pub mod BlockLemmas

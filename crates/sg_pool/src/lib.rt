@@ -2,6 +2,7 @@
 #![tactic(auto)]
 
 mod bits;
+mod compare;
 mod content;
 mod jumps;
 mod kind;

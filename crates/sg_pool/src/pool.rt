@@ -1,17 +1,18 @@
 // The slots of 512 bytes and the links between them. This file knows no address: the table says
 // which slot belongs to which address.
-ghost use Rattle.std.specs.Prelude.{◌≡◌, ◌<◌, ◌+◌, ◌-◌, ◌∷◌, ◌++◌, ◌≤◌, length, replicate, IfOk, Some};
-ghost use Rattle.std.specs.Prelude.{slice_index, slice_index_or, slice_set};
+ghost use Rattle.std.specs.Prelude.{◌≡◌, ◌<◌, ◌+◌, ◌-◌, ◌∷◌, ◌++◌, ◌≤◌, length, replicate, Some};
+ghost use Rattle.std.specs.Prelude.{IfOk, IfSome, option_map, slice_index, slice_index_or, slice_set};
 ghost use Rattle.std.specs.List.{range_with_len};
 ghost use Rattle.sg_pool.specs.Chains.{chain, slot_after, AreBelow, IsChain};
 ghost use Rattle.sg_store.specs.Disk.{data_in, zero_block, HasBlockLength};
 ghost use Rattle.sg_table.specs.Occurrences.{IsEachOnce, occurrences};
 ghost use Rattle.sg_pool.specs.Content.{mapping_for};
 ghost use Rattle.sg_pool.specs.MappedRecords.{filled_slot, mapping_in};
+ghost use Rattle.sg_table.specs.declared.run.Run.{Run as RunModel};
 ghost use Rattle.sg_pool.specs.Slots.{followed};
 
 use crate::content::Content;
-use crate::kind::read_first;
+use crate::kind::{found_block, read_first};
 use crate::links::{Links, MAX_SLOTS};
 use crate::slot_blocks::SlotBlocks;
 use sg_store::BLOCK_LENGTH;
@@ -124,6 +125,17 @@ impl Pool {
         ensures { bytes.new ≡ data_in (Some (mapping_in self.now.blocks run.first run.kind)) }
     {
         read_first(&self.blocks, run, bytes);
+    }
+
+    /// The block of an address by the record that begins there: the block of the record's slot. It
+    /// is zeros if the record is anchored, and if there is none.
+    pub fn found_block(&self, found: Option<Run>) -> &[u8]
+        requires slot { IfSome found (λ run. run.first < length self.now.blocks) }
+        ensures block { result.now ≡ data_in (option_map (λ (run : RunModel).
+            mapping_in self.now.blocks run.first run.kind) found) }
+        ensures byte_count { length result.now ≡ BLOCK_LENGTH }
+    {
+        found_block(&self.blocks, found)
     }
 
     /// Takes a free slot. The pool does not count the link that it follows to the next free slot.

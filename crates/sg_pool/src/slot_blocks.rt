@@ -8,7 +8,8 @@ use sg_store::BLOCK_LENGTH;
 use std::alloc::{AllocError, Global};
 use std::marker::Model;
 
-const ZERO_BLOCK: [u8; BLOCK_LENGTH] = [0; BLOCK_LENGTH];
+/// The block of an address without data.
+pub(crate) const ZERO_BLOCK: [u8; BLOCK_LENGTH] = [0; BLOCK_LENGTH];
 
 /// The number of bytes before the first block. The C library puts a large vector 16 bytes after the
 /// beginning of a page, so with these bytes each block begins at a multiple of 512. A block that lies

@@ -5,7 +5,7 @@ ghost use Rattle.target_tests.specs.declared.stores.disk.TheConstants.{CAPACITY}
 use sg_block_map::BlockMap;
 use sg_extent_map::ExtentMap;
 use sg_plain_map::PlainMap;
-use sg_store::{BLOCK_LENGTH, Counts, MAX_POOL, Store};
+use sg_store::{BLOCK_LENGTH, Counts, MAX_POOL, Miscompare, Store};
 use sg_wire::Cut;
 use std::alloc::{AllocError, Global};
 
@@ -20,6 +20,10 @@ pub(super) enum Call {
     Fill(u8),
     /// Reads blocks. Each byte of them has to be this one.
     Read(u8),
+    /// Compares with blocks of one byte, in which the byte at an offset is another one.
+    Compare(u8, usize),
+    /// Compares each block with one block of one byte, in which the byte at an offset is another one.
+    CompareEach(u8, usize),
     Unmap,
     Anchor,
     /// The number of addresses that have no block.
@@ -33,6 +37,13 @@ pub(super) enum Call {
 pub(super) const DONE: u64 = 1;
 
 pub(super) const NOT_DONE: u64 = 0;
+
+/// The result of a comparison that finds no difference. Otherwise it is the offset of the first byte
+/// that differs.
+pub(super) const SAME: u64 = u64::MAX;
+
+/// No byte is another one.
+pub(super) const NOWHERE: usize = usize::MAX;
 
 /// A call over addresses: the call, the first address and the number of addresses, and the call's
 /// result. Then come the numbers of addresses that have a block, of mapped addresses and of
@@ -62,6 +73,14 @@ impl Records for PlainMap {
     }
 }
 
+/// The result of a comparison as a number.
+fn offset_of(compared: Result<(), Miscompare>) -> u64 {
+    match compared {
+        Ok(()) => SAME,
+        Err(miscompare) => miscompare.offset,
+    }
+}
+
 #[derive(Drop)]
 pub(super) struct Disk<S: Store> {
     alloc: Global,
@@ -82,6 +101,8 @@ impl<S: Store> Disk<S> {
             Call::Write(byte) => self.write(lba, count, *byte),
             Call::Fill(byte) => self.fill(lba, count, *byte),
             Call::Read(byte) => self.read(lba, count, *byte),
+            Call::Compare(byte, at) => self.compare(lba, count, *byte, *at),
+            Call::CompareEach(byte, at) => Ok(self.compare_each(lba, count, *byte, *at)),
             Call::Unmap => Ok(self.unmap(lba, count)),
             Call::Anchor => Ok(self.anchor(lba, count)),
             Call::Need => Ok(self.need(lba, count)),
@@ -117,6 +138,28 @@ impl<S: Store> Disk<S> {
             is_same = is_same && *it == byte;
         }
         Ok(u64::from(is_same))
+    }
+
+    fn compare(&mut self, lba: u64, count: u32, byte: u8, at: usize) -> Result<u64, AllocError>
+        requires { lba + count ≤ CAPACITY }
+    {
+        let mut bytes = vec![in self.alloc; byte; BLOCK_LENGTH * count as usize]?;
+        if let Some(other) = bytes.get_mut(at) {
+            *other = !byte;
+        }
+        self.store.restart_counts();
+        Ok(offset_of(self.store.compare(lba, count, &bytes)))
+    }
+
+    fn compare_each(&mut self, lba: u64, count: u32, byte: u8, at: usize) -> u64
+        requires { lba + count ≤ CAPACITY }
+    {
+        let mut block = [byte; BLOCK_LENGTH];
+        if let Some(other) = block.get_mut(at) {
+            *other = !byte;
+        }
+        self.store.restart_counts();
+        offset_of(self.store.compare_each(lba, count, &block))
     }
 
     fn unmap(&mut self, lba: u64, count: u32) -> u64
