@@ -1,7 +1,8 @@
 """The commands that read and write logical blocks, and the commands of provisioning (SBC-3, 5).
 
-The lines of each command are in the order of checks 7 to 12 of docs/PROFILE.md. These are
-unsupported values, data-out, the parameter list, addresses, write protection, and room in the pool.
+The lines of each command are in the order of checks 7 to 14 of docs/PROFILE.md. These are
+unsupported values, data-out, the parameter list, addresses, write protection, equal bytes, and room in
+the pool. Check 12 is in `faults`.
 """
 
 from provisioning import BLOCK_LENGTH, ZEROS

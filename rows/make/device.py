@@ -1,7 +1,7 @@
 """The device server: the order of checks, happenings, and the way to each command.
 
 docs/PROFILE.md, "The order of checks", numbers the checks; the numbers below are the same. Checks 1
-to 6 are here and in `layouts.Command`. Checks 7 to 12 are in `blocks`, `pages`, `modes`, `reports`
+to 6 are here and in `layouts.Command`. Checks 7 to 14 are in `blocks`, `pages`, `modes`, `reports`
 and `reservations`, in each command in the order of its lines.
 """
 
