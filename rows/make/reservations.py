@@ -26,8 +26,8 @@ TYPES = (WRITE_EXCLUSIVE, *SHARED, EXCLUSIVE_ACCESS)
 
 MOST_REGISTRANTS = 6
 LIST_LENGTH = 24
-# SCOPE and TYPE have to be valid, whoever holds the reservation. Those of a RELEASE matter only if the
-# caller holds it (SPC-4, 5.13, releasing).
+# SCOPE and TYPE have to be valid, whoever holds the reservation. On an extended disk those of a RELEASE
+# matter only if the caller holds it (SPC-4, 5.13, releasing).
 NEED_TYPE = {"base": ("RESERVE", "RELEASE"), "extended": ("RESERVE",)}
 # SPC-4, 6.15.4: none is told, or what a reservation of another initiator allows (011b)
 ALLOW_COMMANDS = {"base": 0, "extended": 3}
@@ -235,11 +235,12 @@ def reserve(request):
 
 
 def release(request):
-    """SPC-4, 5.13 (releasing): SCOPE and TYPE are those of the reservation, if the caller holds it"""
+    """SPC-4, 5.13 (releasing)"""
     state, kind = request.state, request.command["type"]
     if request.caller not in state.holders():
         return
-    if request.command["scope"] != 0 or kind != state.type:
+    check_scope_and_type(request.command)
+    if kind != state.type:
         raise CheckCondition(ILLEGAL_REQUEST, INVALID_RELEASE_OF_PERSISTENT_RESERVATION)
     state.end()
     if kind in SHARED:
