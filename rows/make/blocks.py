@@ -1,7 +1,8 @@
 """The commands that read and write logical blocks, and the commands of provisioning (SBC-3, 5).
 
-The lines of each command are in the order of checks 7 to 12 of docs/PROFILE.md. These are
-unsupported values, data-out, the parameter list, addresses, write protection, and room in the pool.
+The lines of each command are in the order of checks 7 to 14 of docs/PROFILE.md. These are
+unsupported values, data-out, the parameter list, addresses, write protection, equal bytes, and room in
+the pool. Check 12 is in `faults`.
 """
 
 from provisioning import BLOCK_LENGTH, ZEROS
@@ -10,16 +11,20 @@ from sense import (
     DATA_PHASE_ERROR,
     DATA_PROTECT,
     ILLEGAL_REQUEST,
+    INVALID_FIELD_IN_COMMAND_INFORMATION_UNIT,
     LOGICAL_BLOCK_ADDRESS_OUT_OF_RANGE,
     LOGICAL_UNIT_SOFTWARE_WRITE_PROTECTED,
     READ_ERROR_LBA_MARKED_BAD_BY_APPLICATION_CLIENT,
     UNRECOVERED_READ_ERROR,
+    WRITE_PROTECTED,
     CheckCondition,
     invalid_field_in_parameter_list,
     parameter_list_length_error,
 )
 
-MAXIMUM_TRANSFER_LENGTH = 256  # these three are in the block limits page, `pages.block_limits`
+# These four are in the block limits page, `pages.block_limits`.
+MAXIMUM_TRANSFER_LENGTH = {"base": 256, "extended": 2048}
+MAXIMUM_COMPARE_AND_WRITE_LENGTH = {"base": 0, "extended": 255}
 MAXIMUM_WRITE_SAME_LENGTH = {"base": 65536, "extended": 65535}
 MAXIMUM_UNMAP_BLOCK_DESCRIPTOR_COUNT = 64
 
@@ -27,21 +32,23 @@ MAXIMUM_UNMAP_BLOCK_DESCRIPTOR_COUNT = 64
 # --------------------------------------------------------------------------------- checks 7 to 11
 
 
-def transfer_length(command):
+def transfer_length(device, command):
     """In READ(6) and WRITE(6) 0 means 256 (SBC-2); the others are limited by page B0h."""
     count = command["count"]
     if command.name in ("READ(6)", "WRITE(6)"):
         return count or 256
-    if count > MAXIMUM_TRANSFER_LENGTH:
+    if count > MAXIMUM_TRANSFER_LENGTH[device.profile]:
         raise command.unsupported("count")
     return count
 
 
-def need_data_out(data_out, length):
+def need_data_out(device, data_out, length):
     """Returns as much data-out as the command needs. Less is an error, and more is ignored."""
-    if len(data_out) < length:
+    if len(data_out) >= length:
+        return data_out[:length]
+    if device.profile == "base":
         raise CheckCondition(ABORTED_COMMAND, DATA_PHASE_ERROR)
-    return data_out[:length]
+    raise CheckCondition(ILLEGAL_REQUEST, INVALID_FIELD_IN_COMMAND_INFORMATION_UNIT)
 
 
 def check_addresses(device, extents):
@@ -54,10 +61,13 @@ def check_addresses(device, extents):
                 information=max(address, capacity))
 
 
-def check_write_protection(device):
-    """SWP of the control mode page (SPC-4, 7.5; SBC-3, 4.12)."""
-    if device.modes.swp:
+def check_write_protection(device, extents):
+    """SWP of the control mode page (SPC-4, 7.5; SBC-3, 4.12): it refuses what writes a block. A base
+    disk departs from that: it refuses a command that names no block, too, with a code of its own."""
+    if device.modes.swp and device.profile == "base":
         raise CheckCondition(DATA_PROTECT, LOGICAL_UNIT_SOFTWARE_WRITE_PROTECTED)
+    if device.modes.swp and any(count for _, count in extents):
+        raise CheckCondition(DATA_PROTECT, WRITE_PROTECTED)
 
 
 # ------------------------------------------------------------------------------ commands of blocks
@@ -65,17 +75,17 @@ def check_write_protection(device):
 
 def read(device, _initiator, command, _data_out):
     """READ (SBC-2, READ(6); SBC-3, 5.11 to 5.13)"""
-    address, count = command["address"], transfer_length(command)
+    address, count = command["address"], transfer_length(device, command)
     check_addresses(device, [(address, count)])
     return device.provisioning.read(address, count)
 
 
 def write(device, _initiator, command, data_out):
     """WRITE (SBC-2, WRITE(6); SBC-3, 5.33 to 5.35)"""
-    address, count = command["address"], transfer_length(command)
-    data = need_data_out(data_out, BLOCK_LENGTH * count)
+    address, count = command["address"], transfer_length(device, command)
+    data = need_data_out(device, data_out, BLOCK_LENGTH * count)
     check_addresses(device, [(address, count)])
-    check_write_protection(device)
+    check_write_protection(device, [(address, count)])
     device.provisioning.write(
         address, count, lambda offset: data[BLOCK_LENGTH * offset:BLOCK_LENGTH * (offset + 1)])
     return b""
@@ -88,6 +98,33 @@ def write_and_verify(device, initiator, command, data_out):
     return write(device, initiator, command, data_out)
 
 
+# BYTCHK of VERIFY: nothing is compared, each block with its own, or each with the same one.
+NO_COMPARISON, OWN_BLOCKS, ONE_BLOCK = 0, 1, 3
+
+
+def verify(device, _initiator, command, data_out):
+    """VERIFY (SBC-3, 5.29 to 5.31)"""
+    if command["bytchk"] not in (NO_COMPARISON, OWN_BLOCKS, ONE_BLOCK):
+        raise command.unsupported("bytchk")
+    address, count = command["address"], transfer_length(device, command)
+    sent = {NO_COMPARISON: 0, OWN_BLOCKS: count, ONE_BLOCK: min(count, 1)}[command["bytchk"]]
+    data = need_data_out(device, data_out, BLOCK_LENGTH * sent)
+    check_addresses(device, [(address, count)])
+    device.provisioning.compare(address, count, data)
+    return b""
+
+
+def compare_and_write(device, _initiator, command, data_out):
+    """COMPARE AND WRITE (SBC-3, 5.2): data-out has the blocks to compare, then those to write"""
+    address, count = command["address"], command["count"]
+    if len(data_out) != 2 * BLOCK_LENGTH * count:
+        raise command.unsupported("count")
+    check_addresses(device, [(address, count)])
+    check_write_protection(device, [(address, count)])
+    device.provisioning.compare_and_write(address, count, data_out)
+    return b""
+
+
 def write_same(device, _initiator, command, data_out):
     """WRITE SAME (SBC-3, 5.43 and 5.44); with UNMAP 1 and a block of zeros 4.7 applies"""
     address, count = command["address"], command["count"]
@@ -95,10 +132,10 @@ def write_same(device, _initiator, command, data_out):
         raise command.unsupported("anchor")
     if not 1 <= count <= MAXIMUM_WRITE_SAME_LENGTH[device.profile]:
         raise command.unsupported("count")
-    block = need_data_out(data_out, BLOCK_LENGTH)
+    block = need_data_out(device, data_out, BLOCK_LENGTH)
     extents = [(address, count)]
     check_addresses(device, extents)
-    check_write_protection(device)
+    check_write_protection(device, extents)
     if not command["unmap"] or block != ZEROS:
         device.provisioning.write(address, count, lambda _offset: block)
     elif command["anchor"]:
@@ -127,8 +164,9 @@ def write_long(device, _initiator, command, _data_out):
         raise command.unsupported("wr_uncor")
     if command["transfer_length"]:
         raise command.unsupported("transfer_length")
-    check_addresses(device, [(command["address"], 1)])
-    check_write_protection(device)
+    marked = [(command["address"], 1)]
+    check_addresses(device, marked)
+    check_write_protection(device, marked)
     device.provisioning.mark(
         command["address"], READ_ERROR_LBA_MARKED_BAD_BY_APPLICATION_CLIENT
         if command["cor_dis"] else UNRECOVERED_READ_ERROR)
@@ -154,10 +192,14 @@ def read_capacity_16(device, _initiator, command, _data_out):
 
 
 def unmap(device, _initiator, command, data_out):
-    """UNMAP (SBC-3, 5.28): all extents are checked before the first is unmapped or anchored"""
-    extents = unmap_extents(need_data_out(data_out, command["list_length"]))
-    check_addresses(device, extents)
-    check_write_protection(device)
+    """UNMAP (SBC-3, 5.28): all extents are checked before the first is unmapped or anchored.
+
+    An extent of no block may be anywhere (5.28.2). A base disk departs from that.
+    """
+    extents = unmap_extents(need_data_out(device, data_out, command["list_length"]))
+    named = [it for it in extents if it[1] or device.profile == "base"]
+    check_addresses(device, named)
+    check_write_protection(device, extents)
     change = device.provisioning.anchor if command["anchor"] else device.provisioning.unmap
     change(extents)
     return b""

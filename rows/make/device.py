@@ -1,7 +1,7 @@
 """The device server: the order of checks, happenings, and the way to each command.
 
 docs/PROFILE.md, "The order of checks", numbers the checks; the numbers below are the same. Checks 1
-to 6 are here and in `layouts.Command`. Checks 7 to 12 are in `blocks`, `pages`, `modes`, `reports`
+to 6 are here and in `layouts.Command`. Checks 7 to 14 are in `blocks`, `pages`, `modes`, `reports`
 and `reservations`, in each command in the order of its lines.
 """
 
@@ -141,6 +141,7 @@ OPERATIONS = {
     "READ(10)": blocks.read,
     "WRITE(10)": blocks.write,
     "WRITE AND VERIFY(10)": blocks.write_and_verify,
+    "VERIFY(10)": blocks.verify,
     "PRE-FETCH(10)": blocks.check_cached_range,
     "SYNCHRONIZE CACHE(10)": blocks.check_cached_range,
     "READ DEFECT DATA(10)": reports.read_defect_data,
@@ -156,8 +157,10 @@ OPERATIONS = {
     "READ FULL STATUS": reservations.read_full_status,
     **dict.fromkeys(reservations.ACTIONS, reservations.persistent_reserve_out),
     "READ(16)": blocks.read,
+    "COMPARE AND WRITE": blocks.compare_and_write,
     "WRITE(16)": blocks.write,
     "WRITE AND VERIFY(16)": blocks.write_and_verify,
+    "VERIFY(16)": blocks.verify,
     "PRE-FETCH(16)": blocks.check_cached_range,
     "SYNCHRONIZE CACHE(16)": blocks.check_cached_range,
     "WRITE SAME(16)": blocks.write_same,
@@ -169,5 +172,6 @@ OPERATIONS = {
     "READ(12)": blocks.read,
     "WRITE(12)": blocks.write,
     "WRITE AND VERIFY(12)": blocks.write_and_verify,
+    "VERIFY(12)": blocks.verify,
     "READ DEFECT DATA(12)": reports.read_defect_data,
 }

@@ -77,7 +77,7 @@ class Seen:
 
     code: int | None
     extents: list = field(default_factory=list)
-    writes: bool = False
+    writes: bool = False  # it replaces its blocks, and reads none of them before
     moves: bool = False  # it is a READ, a WRITE or a WRITE SAME that writes
     marks: int | None = None  # it is a WRITE LONG: READs of its block end with this code then
 
@@ -101,6 +101,12 @@ class Probe:
 
     def read(self, address, count):
         raise Reached([(address, count)], False, True)
+
+    def compare(self, address, count, _data):
+        raise Reached([(address, count)], False)
+
+    def compare_and_write(self, address, count, _data):
+        raise Reached([(address, count)], False)  # a bad block can't be compared, so it stays bad
 
     def write(self, address, count, _block):
         raise Reached([(address, count)], True, True)

@@ -27,6 +27,7 @@ TABLE = """
 28    | READ(10)               | reads   | address 2-5, count 7-8                      | 1:1A, 6:1F
 2A    | WRITE(10)              | writes  | address 2-5, count 7-8                      | 1:1A, 6:1F
 2E    | WRITE AND VERIFY(10)   | writes  | bytchk 1:06, address 2-5, count 7-8         | 1:10, 6:1F
+2F    | VERIFY(10)             | reads   | bytchk 1:06, address 2-5, count 7-8         | 1:10, 6:1F
 34    | PRE-FETCH(10)          | reads   | address 2-5, count 7-8                      | 1:02, 6:1F
 35    | SYNCHRONIZE CACHE(10)  | writes  | address 2-5, count 7-8                      | 1:06, 6:1F
 37    | READ DEFECT DATA(10)   | reads   | req_plist 2:10, req_glist 2:08, format 2:07, \
@@ -46,8 +47,10 @@ TABLE = """
 5E    | PERSISTENT RESERVE IN  | allowed | allocation_length 7-8                       |
 5F    | PERSISTENT RESERVE OUT | allowed | scope 2:F0, type 2:0F, list_length 5-8      |
 88    | READ(16)               | reads   | address 2-9, count 10-13                    | 1:1A, 14:1F
+89    | COMPARE AND WRITE      | writes  | address 2-9, count 13                       | 1:1A, 14:1F
 8A    | WRITE(16)              | writes  | address 2-9, count 10-13                    | 1:1A, 14:1F
 8E    | WRITE AND VERIFY(16)   | writes  | bytchk 1:06, address 2-9, count 10-13       | 1:10, 14:1F
+8F    | VERIFY(16)             | reads   | bytchk 1:06, address 2-9, count 10-13       | 1:10, 14:1F
 90    | PRE-FETCH(16)          | reads   | address 2-9, count 10-13                    | 1:02, 14:1F
 91    | SYNCHRONIZE CACHE(16)  | writes  | address 2-9, count 10-13                    | 1:06, 14:1F
 93    | WRITE SAME(16)         | writes  | anchor 1:10, unmap 1:08, address 2-9, \
@@ -63,6 +66,7 @@ A3.0D | REPORT SUPPORTED TASK MANAGEMENT FUNCTIONS \
 A8    | READ(12)               | reads   | address 2-5, count 6-9                      | 1:1A, 10:1F
 AA    | WRITE(12)              | writes  | address 2-5, count 6-9                      | 1:1A, 10:1F
 AE    | WRITE AND VERIFY(12)   | writes  | bytchk 1:06, address 2-5, count 6-9         | 1:10, 10:1F
+AF    | VERIFY(12)             | reads   | bytchk 1:06, address 2-5, count 6-9         | 1:10, 10:1F
 B7    | READ DEFECT DATA(12)   | reads   | req_plist 1:10, req_glist 1:08, format 1:07, \
                                            index 2-5, allocation_length 6-9            |
 """
@@ -70,17 +74,18 @@ B7    | READ DEFECT DATA(12)   | reads   | req_plist 1:10, req_glist 1:08, forma
 # Ignored bits that REPORT SUPPORTED OPERATION CODES shows: DPO and FUA, IMMED, and PC. It shows each
 # field but a GROUP NUMBER (SPC-4, 6.35.3).
 SHOWN = {
-    **dict.fromkeys(("READ(10)", "READ(12)", "READ(16)", "WRITE(10)", "WRITE(12)", "WRITE(16)"),
-                    "1:18"),
-    **dict.fromkeys((f"WRITE AND VERIFY({length})" for length in (10, 12, 16)), "1:10"),
+    **dict.fromkeys(("READ(10)", "READ(12)", "READ(16)", "WRITE(10)", "WRITE(12)", "WRITE(16)",
+                     "COMPARE AND WRITE"), "1:18"),
+    **dict.fromkeys((f"{name}({length})" for name in ("VERIFY", "WRITE AND VERIFY")
+                     for length in (10, 12, 16)), "1:10"),
     **dict.fromkeys((f"{name}({length})" for name in ("SYNCHRONIZE CACHE", "PRE-FETCH")
                      for length in (10, 16)), "1:02"),
     "LOG SENSE": "2:C0",
 }
 
 # Operation codes that only a disk of the extended profile knows.
-OF_EXTENDED = {0x1D, 0x2E, 0x34, 0x37, 0x3F, 0x4D, 0x8E, 0x90, 0x91, 0xA0, 0xA3, 0xA8, 0xAA, 0xAE,
-               0xB7}
+OF_EXTENDED = {0x1D, 0x2E, 0x2F, 0x34, 0x37, 0x3F, 0x4D, 0x89, 0x8E, 0x8F, 0x90, 0x91, 0xA0, 0xA3,
+               0xA8, 0xAA, 0xAE, 0xAF, 0xB7}
 
 # These two have a name for each service action, from 00h on.
 SERVICE_ACTIONS = {

@@ -94,7 +94,7 @@ def mode_select(device, initiator, command, data_out):
     """SPC-4, 6.11 and 6.12: the list is applied whole, or its first fault refuses it"""
     if not command["pf"]:
         raise command.unsupported("pf")
-    parameters = need_data_out(data_out, command["list_length"])
+    parameters = need_data_out(device, data_out, command["list_length"])
     modes = device.modes
     selected = dict(modes.current)
     if parameters:

@@ -60,9 +60,10 @@ def block_limits(profile):
     """SBC-3, vital product data parameters; numbers of bytes are those of the page"""
     page = bytearray(64)
     page[4] = 0x01  # WSNZ
+    page[5] = blocks.MAXIMUM_COMPARE_AND_WRITE_LENGTH[profile]
     fields = {
         (6, 2): 1,  # OPTIMAL TRANSFER LENGTH GRANULARITY
-        (8, 4): blocks.MAXIMUM_TRANSFER_LENGTH,
+        (8, 4): blocks.MAXIMUM_TRANSFER_LENGTH[profile],
         (20, 4): 2**32 - 1,  # MAXIMUM UNMAP LBA COUNT
         (24, 4): blocks.MAXIMUM_UNMAP_BLOCK_DESCRIPTOR_COUNT,
         (28, 4): 1,  # OPTIMAL UNMAP GRANULARITY

@@ -4,7 +4,13 @@ An address is mapped, anchored or deallocated. Mapped and anchored ones have a b
 each. Deallocated and anchored ones read as zeros (LBPRZ 1).
 """
 
-from sense import DATA_PROTECT, SPACE_ALLOCATION_FAILED_WRITE_PROTECT, CheckCondition
+from sense import (
+    DATA_PROTECT,
+    MISCOMPARE,
+    MISCOMPARE_DURING_VERIFY_OPERATION,
+    SPACE_ALLOCATION_FAILED_WRITE_PROTECT,
+    CheckCondition,
+)
 
 BLOCK_LENGTH = 512
 ZEROS = bytes(BLOCK_LENGTH)
@@ -29,6 +35,26 @@ class Provisioning:
     def read(self, address, count):
         count = min(count, self.most_moved)
         return b"".join(self.contents.get(address + offset) or ZEROS for offset in range(count))
+
+    def compare(self, address, count, data):
+        """Compares each block with its own of data-out, or with the one that data-out has (SBC-3,
+        5.29). INFORMATION is the offset in data-out of the first byte that differs."""
+        for offset in range(count):
+            place = BLOCK_LENGTH * offset % (len(data) or 1)
+            kept = self.contents.get(address + offset) or ZEROS
+            for byte, pair in enumerate(zip(kept, data[place:place + BLOCK_LENGTH])):
+                if pair[0] != pair[1]:
+                    raise CheckCondition(
+                        MISCOMPARE, MISCOMPARE_DURING_VERIFY_OPERATION, information=place + byte)
+
+    def compare_and_write(self, address, count, data):
+        """The first half of the bytes is compared, and the second written if the first is equal."""
+        half = BLOCK_LENGTH * count
+        self.compare(address, count, data[:half])
+        self._need_room([(address, count)])
+        for offset in range(count):
+            place = half + BLOCK_LENGTH * offset
+            self.contents[address + offset] = data[place:place + BLOCK_LENGTH]
 
     def write(self, address, count, block):
         """Maps each address to `block(offset)`, or none if the pool lacks room (SBC-3, 4.7)."""

@@ -21,6 +21,8 @@ THEMES = (
     ("WRITE SAME(10)", "UNMAP", "WRITE SAME(16)", "GET LBA STATUS", "WRITE LONG(10)"),
     ("WRITE AND VERIFY(10)", "WRITE AND VERIFY(16)", "READ(12)", "WRITE(12)", "PRE-FETCH(16)",
      "SYNCHRONIZE CACHE(10)"),
+    (*3 * ("COMPARE AND WRITE",), "VERIFY(10)", "VERIFY(12)", "VERIFY(16)", "UNMAP",
+     "WRITE SAME(10)", "WRITE LONG(10)"),
     ("REPORT LUNS", "LOG SENSE", "READ DEFECT DATA(12)", "SEND DIAGNOSTIC",
      *2 * ("REPORT SUPPORTED OPERATION CODES",), "REPORT SUPPORTED TASK MANAGEMENT FUNCTIONS"),
     (),
@@ -101,6 +103,9 @@ class Script:
             f"raw {initiator} 3f40{address % 2**32:08x}00000000",
             f"raw {initiator} a800{address % 2**32:08x}{count:08x}0000",
             f"raw {initiator} 8e02{address:016x}{few:08x}0000 {'5a' * 512 * few or '-'}",
+            f"raw {initiator} 8f00{address:016x}{count:08x}0000",
+            f"raw {initiator} af06{address % 2**32:08x}{count:08x}0000 {'00' * 512}",
+            f"raw {initiator} 8900{address:016x}000000010000 {'00' * 512}{'5a' * 512}",
             f"raw {initiator} 9000{address:016x}{count:08x}0000",
             f"raw {initiator} 9100{address:016x}{count:08x}0000",
             f"{initiator} sg_unmap -l {address} -n 6",
@@ -155,7 +160,11 @@ class Script:
         if command == "LOG SENSE":
             pages = (0x00, 0x00, 0x2F)
         if field == "count" and self.is_rare(0.03):
-            return self.random.choice((256, 257, 65535, 65536))
+            return self.random.choice((256, 257, 2048, 2049, 65535, 65536))
+        if command == "COMPARE AND WRITE" and field == "count":
+            return self.random.choice((0, 1, 1, 1, 1, 1, 1, 2))  # a line has room for one block
+        if command.startswith("VERIFY(") and field == "bytchk":
+            return self.random.choice((0, 1, 1, 1, 2, 3, 3))
         usual = {
             "address": self.address(),
             "count": self.small(),
@@ -183,6 +192,12 @@ class Script:
     def data_out(self, command, values):
         if command.startswith(("WRITE(", "WRITE AND VERIFY(")):
             return bytes([self.small()]) * 512 * min(values["count"] or 256, 3)
+        if command.startswith("VERIFY("):
+            count = {1: min(values["count"], 3), 3: 1}.get(values["bytchk"], 0)
+            return self.nearly_equal(bytes([self.small()]) * 512 * count)
+        if command == "COMPARE AND WRITE":
+            halves = (self.nearly_equal(bytes([self.small()]) * 512), bytes([self.small()]) * 512)
+            return b"".join(halves) if values["count"] else b""
         if command.startswith("WRITE SAME"):
             return bytes([self.random.choice((0, 0, 7))]) * 512
         if command == "UNMAP":
@@ -195,6 +210,13 @@ class Script:
         if command.startswith("MODE SELECT"):
             return self.mode_list(4 if command.endswith("(6)") else 8)
         return self.reserve_list() if "list_length" in values else b""
+
+    def nearly_equal(self, data):
+        """Bytes to compare with blocks, which WRITE and `fill` fill with one byte each."""
+        data = bytearray(data)
+        if data and self.is_rare(0.2):
+            data[self.random.choice((0, 255, 511, len(data) - 1))] ^= 1
+        return bytes(data)
 
     def reserve_list(self):
         """The list of PERSISTENT RESERVE OUT: most keys are 0 or 1, so many are the right ones."""

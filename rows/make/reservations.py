@@ -26,6 +26,11 @@ TYPES = (WRITE_EXCLUSIVE, *SHARED, EXCLUSIVE_ACCESS)
 
 MOST_REGISTRANTS = 6
 LIST_LENGTH = 24
+# SCOPE and TYPE have to be valid, whoever holds the reservation. On an extended disk those of a RELEASE
+# matter only if the caller holds it (SPC-4, 5.13, releasing).
+NEED_TYPE = {"base": ("RESERVE", "RELEASE"), "extended": ("RESERVE",)}
+# SPC-4, 6.15.4: none is told, or what a reservation of another initiator allows (011b)
+ALLOW_COMMANDS = {"base": 0, "extended": 3}
 SPEC_I_PT, ALL_TG_PT, APTPL = 0x08, 0x04, 0x01  # of list byte 20
 
 
@@ -112,10 +117,12 @@ def read_reservation(device, _initiator, command, _data_out):
 
 
 def report_capabilities(device, _initiator, command, _data_out):
-    """SPC-4, 6.15.4: PTPL_C, then TMV and PTPL_A, then a mask with a bit for each type"""
+    """SPC-4, 6.15.4: PTPL_C, then TMV, ALLOW COMMANDS and PTPL_A, then a mask with a bit for each
+    type"""
     persists = 0x01 if device.reservations.aptpl else 0
     mask = sum(1 << kind for kind in TYPES).to_bytes(2, "little")
-    data = bytes([0, 8, 0x01, 0x80 | persists]) + mask + bytes(2)
+    flags = 0x80 | ALLOW_COMMANDS[device.profile] << 4 | persists
+    data = bytes([0, 8, 0x01, flags]) + mask + bytes(2)
     return data[:command["allocation_length"]]
 
 
@@ -165,9 +172,9 @@ class Request:
 
 def persistent_reserve_out(device, caller, command, data_out):
     """The faults in their order (docs/PROFILE.md, "PERSISTENT RESERVE OUT"), then the action"""
-    if command.name in ("RESERVE", "RELEASE"):
+    if command.name in NEED_TYPE[device.profile]:
         check_scope_and_type(command)
-    parameters = need_data_out(data_out, command["list_length"])
+    parameters = need_data_out(device, data_out, command["list_length"])
     if len(parameters) != LIST_LENGTH:
         raise parameter_list_length_error()
     registers = command.name in ("REGISTER", "REGISTER AND IGNORE EXISTING KEY")
@@ -200,16 +207,17 @@ def check_key(request):
 
 
 def register(request):
-    """SPC-4, 5.13 (registering; unregistering) and 6.16"""
+    """SPC-4, 5.13 (registering; unregistering) and 6.16. On an extended disk a REGISTER that leaves
+    an initiator unregistered counts as any other."""
     state, caller = request.state, request.caller
     if caller not in state.keys:
-        if request.action_key == 0:
+        if request.action_key == 0 and request.device.profile == "base":
             return
-        if len(state.keys) == MOST_REGISTRANTS:
+        if request.action_key and len(state.keys) == MOST_REGISTRANTS:
             raise CheckCondition(ILLEGAL_REQUEST, INSUFFICIENT_REGISTRATION_RESOURCES)
     if request.action_key:
         state.keys[caller] = request.action_key  # a known caller keeps its place
-    else:
+    elif caller in state.keys:
         ended = state.remove([caller])
         if ended in SHARED:
             request.notify(state.keys, RESERVATIONS_RELEASED)
@@ -231,6 +239,7 @@ def release(request):
     state, kind = request.state, request.command["type"]
     if request.caller not in state.holders():
         return
+    check_scope_and_type(request.command)
     if kind != state.type:
         raise CheckCondition(ILLEGAL_REQUEST, INVALID_RELEASE_OF_PERSISTENT_RESERVATION)
     state.end()
@@ -247,11 +256,13 @@ def clear(request):
 
 
 def preempt(request):
-    """SPC-4, 5.13 (preempting): the first of five cases that applies decides"""
+    """SPC-4, 5.13 (preempting): the first of five cases that applies decides. A base disk finds no
+    fault in a key of 0 while no reservation is held."""
     state, key = request.state, request.action_key
     has_one_holder = state.type is not None and state.type not in ALL_REGISTRANTS
+    needs_key = has_one_holder or state.type is None and request.device.profile == "extended"
     removed = request.under_action_key()
-    if has_one_holder and key == 0:
+    if needs_key and key == 0:
         raise invalid_field_in_parameter_list(8)
     if has_one_holder and key == state.keys[state.taker]:
         preempt_reservation(request, removed)
