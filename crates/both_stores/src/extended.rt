@@ -1,13 +1,21 @@
 // Commands of the extended profile from a fixed seed.
+use crate::LONGEST_LIST;
 use crate::random::Random;
 use sg_store::BLOCK_LENGTH;
 use sg_wire::{
-    ByteCheck, Command, Extent12, Extent16, LogSense, PageCode, ReadDefectData12, ReportLuns,
-    ReportSupportedTaskManagementFunctions, SendDiagnostic, ThreeBits, Verify12,
+    ByteCheck, Command, CompareAndWrite, Extent12, Extent16, LogSense, PageCode, ReadDefectData12,
+    ReportLuns, ReportSupportedTaskManagementFunctions, SendDiagnostic, ThreeBits, Verify12,
+    Verify16,
 };
 
-/// Makes a command of the next kind, and returns its data-out's length too.
-pub(crate) fn next_extended(random: &mut Random, lba: u32, count: u8) -> Option<(Command, usize)> {
+/// Makes a command of the next kind, and returns its data-out's length too. COMPARE AND WRITE also
+/// gets blocks to write.
+pub(crate) fn next_extended(
+    random: &mut Random,
+    lba: u32,
+    count: u8,
+    data_out: &mut [u8; LONGEST_LIST],
+) -> Option<(Command, usize)> {
     let twelve = Extent12 {
         lba,
         count: u32::from(count),
@@ -17,7 +25,7 @@ pub(crate) fn next_extended(random: &mut Random, lba: u32, count: u8) -> Option<
         count: u32::from(count),
     };
     let bytes = BLOCK_LENGTH * usize::from(count);
-    Some(match random.byte() % 12 {
+    Some(match random.byte() % 15 {
         0 | 1 => (Command::Read12(twelve), 0),
         2 | 3 => (Command::Write12(twelve), bytes),
         4 => (write_and_verify(random, twelve), bytes),
@@ -27,8 +35,38 @@ pub(crate) fn next_extended(random: &mut Random, lba: u32, count: u8) -> Option<
         8 => (log_sense(random)?, 0),
         9 => (read_defect_data(random)?, 0),
         10 => (send_diagnostic(random)?, 0),
+        11 => (verify(random, sixteen), bytes),
+        12 | 13 => compare_and_write(random, lba, count, data_out),
         _ => (task_management(random), 0),
     })
+}
+
+/// VERIFY. Its data-out repeats one byte, so often all blocks are equal to it.
+fn verify(random: &mut Random, extent: Extent16) -> Command {
+    let byte_check = match random.byte() % 4 {
+        0 => ByteCheck::OneBlock,
+        _ => ByteCheck::DataOut,
+    };
+    Command::Verify16(Verify16 { byte_check, extent })
+}
+
+/// COMPARE AND WRITE of at most half as many blocks as data-out has room for.
+fn compare_and_write(
+    random: &mut Random,
+    lba: u32,
+    count: u8,
+    data_out: &mut [u8; LONGEST_LIST],
+) -> (Command, usize) {
+    let count = count / 2;
+    let compared = BLOCK_LENGTH * usize::from(count);
+    if let Some(written) = data_out.get_mut(compared..) {
+        written.fill(random.byte() % 4);
+    }
+    let lba = u64::from(lba);
+    (
+        Command::CompareAndWrite(CompareAndWrite { lba, count }),
+        2 * compared,
+    )
 }
 
 fn write_and_verify(random: &mut Random, extent: Extent12) -> Command {

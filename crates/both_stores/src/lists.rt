@@ -6,8 +6,8 @@ use sg_units::{Initiators, UnitAttention};
 use sg_wire::{Extent, Initiator};
 use std::alloc::Global;
 
-/// The number of different events: 10 commands, 7 happenings and 13 faults.
-const EVENTS: u64 = 30;
+/// The number of different events: 12 commands, 7 happenings and 13 faults.
+const EVENTS: u64 = 32;
 
 /// The number of events in a list.
 const LENGTH: u64 = 3;
@@ -22,13 +22,13 @@ pub(crate) const LISTS: u64 = EVENTS * EVENTS * EVENTS;
 /// and one event takes all faults away. Such a fault is armed after a list if the last of these
 /// seven events in it arms one:
 ///
-/// - It is the third event of the list: 30 x 30 x 6 lists.
-/// - It is the second, with one of the 23 other events after it: 30 x 6 x 23 lists.
-/// - It is the first, with two of them after it: 6 x 23 x 23 lists.
+/// - It is the third event of the list: 32 x 32 x 6 lists.
+/// - It is the second, with one of the 25 other events after it: 32 x 6 x 25 lists.
+/// - It is the first, with two of them after it: 6 x 25 x 25 lists.
 ///
-/// These are 12,714 lists. The first such fault that is not taken away decides, and each of the six
+/// These are 14,694 lists. The first such fault that is not taken away decides, and each of the six
 /// does so in as many lists as another.
-pub(crate) const EACH_REFUSAL: u64 = 2_119;
+pub(crate) const EACH_REFUSAL: u64 = 2_449;
 
 /// A command: the number of its initiator, its CDB and its data-out.
 type Step = (u8, &'static [u8], &'static [u8]);
@@ -51,6 +51,13 @@ const WRITE_12: &[u8] = &[0xAA, 0, 0, 0, 0, 0, 0, 0, 0, 2, 0, 0];
 
 const WRITE_AND_VERIFY: &[u8] = &[0x2E, 2, 0, 0, 0, 0, 0, 0, 2, 0];
 
+/// VERIFY(10) of blocks 0 and 1, which compares them with data-out.
+const VERIFY: &[u8] = &[0x2F, 2, 0, 0, 0, 0, 0, 0, 2, 0];
+
+/// COMPARE AND WRITE of blocks 0 and 1. Its data-out has the blocks of an UNMAP, and writes them: so
+/// it maps both blocks if both are unmapped.
+const COMPARE_AND_WRITE: &[u8] = &[0x89, 0, 0, 0, 0, 0, 0, 0, 0, 0, 0, 0, 0, 2, 0, 0];
+
 /// PRE-FETCH(16) of block 1 and all blocks after it.
 const PRE_FETCH: &[u8] = &[0x90, 0, 0, 0, 0, 0, 0, 0, 0, 1, 0, 0, 0, 0, 0, 0];
 
@@ -60,10 +67,12 @@ const DATA: &[u8] = &[0xB2; 1_024];
 
 const OTHER_DATA: &[u8] = &[0xC3; 1_024];
 
+const ZEROS: &[u8] = &[0; 2_048];
+
 /// Before a list no unit attention is pending for initiators 0 and 1, and the blocks are written.
 const BEFORE: [Step; 3] = [(0, READY, &[]), (1, READY, &[]), (0, WRITE, &[0xA1; 1_024])];
 
-const COMMANDS: [Step; 10] = [
+const COMMANDS: [Step; 12] = [
     (0, READ, &[]),
     (1, READ, &[]),
     (0, WRITE, DATA),
@@ -74,6 +83,8 @@ const COMMANDS: [Step; 10] = [
     (0, WRITE_AND_VERIFY, DATA),
     (1, PRE_FETCH, &[]),
     (0, REPORT_LUNS, &[]),
+    (1, VERIFY, DATA),
+    (0, COMPARE_AND_WRITE, ZEROS),
 ];
 
 /// After a list at most three unit attentions are pending for each. The last READ reports none.

@@ -78,7 +78,7 @@ fn next_command(
             Some((reserve_out(random)?, KEY_LIST))
         }
         13..=15 => Some((read(lba, count), 0)),
-        _ => next_extended(random, lba, count),
+        _ => next_extended(random, lba, count, data_out),
     }
 }
 

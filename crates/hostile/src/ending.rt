@@ -10,6 +10,9 @@ pub(crate) enum Ending {
     /// INVALID FIELD IN CDB, with a field pointer to the byte.
     InvalidField(usize),
     DataPhaseError,
+    /// INVALID FIELD IN COMMAND INFORMATION UNIT: an extended disk reports it for data-out that is
+    /// too short.
+    InvalidInformationUnit,
     Busy,
     NoReply,
 }
@@ -29,9 +32,10 @@ impl Ending {
             Ending::Conflict => Status::ReservationConflict,
             Ending::Busy => Status::Busy,
             Ending::NoReply => Status::NoReply,
-            Ending::PowerOn | Ending::InvalidField(_) | Ending::DataPhaseError => {
-                Status::CheckCondition
-            }
+            Ending::PowerOn
+            | Ending::InvalidField(_)
+            | Ending::DataPhaseError
+            | Ending::InvalidInformationUnit => Status::CheckCondition,
         }
     }
 
@@ -45,6 +49,9 @@ impl Ending {
             Ending::InvalidField(byte) => Some(invalid_field(byte)),
             Ending::DataPhaseError => Some([
                 0x70, 0, 0x0B, 0, 0, 0, 0, 0x0A, 0, 0, 0, 0, 0x4B, 0x00, 0, 0, 0, 0,
+            ]),
+            Ending::InvalidInformationUnit => Some([
+                0x70, 0, 5, 0, 0, 0, 0, 0x0A, 0, 0, 0, 0, 0x0E, 0x03, 0, 0, 0, 0,
             ]),
         }
     }

@@ -8,7 +8,8 @@
 //! - The disk refuses each single bit that no field has and that is not ignored, with a pointer to
 //!   its byte. It refuses CONTROL 01h in the same way.
 //! - One byte of data-out less than the command announces is a DATA PHASE ERROR, and one more
-//!   changes nothing.
+//!   changes nothing. An extended disk reports INVALID FIELD IN COMMAND INFORMATION UNIT. COMPARE AND
+//!   WRITE needs its exact length: the disk points to NUMBER OF LOGICAL BLOCKS.
 //!
 //! The program prints a line with the numbers of tries for each command, and a line for each try
 //! that ends otherwise. Rows that are wrong on purpose show that such tries are found.
@@ -201,8 +202,26 @@ fn try_control(
     Ok(tally)
 }
 
+/// The endings with one byte of data-out less than the command announces, and with one more.
+fn ends_by_data_out(row: Row, profile: Profile) -> (Ending, Ending) {
+    // NUMBER OF LOGICAL BLOCKS of COMPARE AND WRITE.
+    if row.cdb.first() == Some(&0x89) {
+        return (Ending::InvalidField(13), Ending::InvalidField(13));
+    }
+    match profile {
+        Profile::Base => (Ending::DataPhaseError, row.ending),
+        Profile::Extended => (Ending::InvalidInformationUnit, row.ending),
+    }
+}
+
 /// Tries one byte of data-out less than the command announces, and one more, if it announces any.
-fn try_data_out(rt: &impl Print, disk: &mut TestDisk, row: Row, more: &[u8]) -> io::Result<Tally>
+fn try_data_out(
+    rt: &impl Print,
+    disk: &mut TestDisk,
+    row: Row,
+    more: &[u8],
+    profile: Profile,
+) -> io::Result<Tally>
     requires { row.data_out < length more.now }
 {
     let mut tally = Tally::default();
@@ -211,10 +230,11 @@ fn try_data_out(rt: &impl Print, disk: &mut TestDisk, row: Row, more: &[u8]) -> 
     }
     tally.data_out = 2;
     let less = row.data_out - 1;
-    if !disk.ends(row.cdb, &more[..less], Ending::DataPhaseError) {
+    let (with_less, with_more) = ends_by_data_out(row, profile);
+    if !disk.ends(row.cdb, &more[..less], with_less) {
         tally.wrong = wrong_after(rt, tally.wrong, row.name, "data-out of length", less)?;
     }
-    if !disk.ends(row.cdb, more, row.ending) {
+    if !disk.ends(row.cdb, more, with_more) {
         let length = more.len();
         tally.wrong = wrong_after(rt, tally.wrong, row.name, "data-out of length", length)?;
     }
@@ -249,7 +269,7 @@ fn try_row(rt: &HostRuntime, row: Row, profile: Profile, has_faults: bool) -> io
     tally = tally.plus(try_lengths(rt, &mut disk, row, data_out)?);
     tally = tally.plus(try_bits(rt, &mut disk, row, data_out)?);
     tally = tally.plus(try_control(rt, &mut disk, row, data_out)?);
-    tally = tally.plus(try_data_out(rt, &mut disk, row, &more)?);
+    tally = tally.plus(try_data_out(rt, &mut disk, row, &more, profile)?);
     if !has_faults {
         print_tally(rt, row.name, tally)?;
     }

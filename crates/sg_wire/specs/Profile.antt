@@ -48,13 +48,11 @@ maximum_transfer_length = extended_limits.transfer_length
 -- standards.
 -- Departure (SBC-3, 5.26): a count of 0 in SYNCHRONIZE CACHE(10) names no block on a base disk.
 -- Departure (SPC-4, sense keys): on a base disk, data-out that is too short is a DATA PHASE ERROR.
--- Departure (SBC-3, 4.12): SWP of a base disk also refuses a command that writes no block, and the
--- sense data names the software.
+-- Departure (SBC-3, 4.12): SWP of a base disk refuses what names no block, too, and is 27h/02h.
 -- Departure (SPC-4, 5.13.11.4): on a base disk, PREEMPT of key 0 may be a conflict.
--- Departure (SPC-4, 5.13.7): a REGISTER of a base disk that changes no key leaves PRGENERATION and
--- APTPL.
+-- Departure (SPC-4, 5.13.7): a REGISTER that changes no key counts for nothing on a base disk.
 -- Departure (SPC-4, 5.13.11.2): on a base disk, RELEASE of nothing may be refused for its TYPE.
--- Departure (SPC-4, 6.15.4): a base disk does not say which commands a reservation allows.
+-- Choice (SPC-4, 6.15.4): a base disk does not say which commands a reservation allows.
 abbrev pub rules_of : Profile → Rules
 rules_of Base = record {
   zero_reaches_last = false;

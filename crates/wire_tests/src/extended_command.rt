@@ -9,33 +9,33 @@ use sg_wire::{
 use std::test::Fail;
 
 // Each field from its first byte to its last.
-const EXTENT_10: Extent10 = Extent10 {
+pub(crate) const EXTENT_10: Extent10 = Extent10 {
     lba: 0x0102_0304,
     count: 0x0506,
 };
 
-const EXTENT_12: Extent12 = Extent12 {
+pub(crate) const EXTENT_12: Extent12 = Extent12 {
     lba: 0x0102_0304,
     count: 0x0506_0708,
 };
 
-const EXTENT_16: Extent16 = Extent16 {
+pub(crate) const EXTENT_16: Extent16 = Extent16 {
     lba: 0x0102_0304_0506_0708,
     count: 0x090A_0B0C,
 };
 
 // The largest values.
-const LARGEST_10: Extent10 = Extent10 {
+pub(crate) const LARGEST_10: Extent10 = Extent10 {
     lba: 0xFFFF_FFFF,
     count: 0xFFFF,
 };
 
-const LARGEST_12: Extent12 = Extent12 {
+pub(crate) const LARGEST_12: Extent12 = Extent12 {
     lba: 0xFFFF_FFFF,
     count: 0xFFFF_FFFF,
 };
 
-const LARGEST_16: Extent16 = Extent16 {
+pub(crate) const LARGEST_16: Extent16 = Extent16 {
     lba: 0xFFFF_FFFF_FFFF_FFFF,
     count: 0xFFFF_FFFF,
 };
@@ -181,13 +181,13 @@ const CDBS: [(&[u8], Command); 20] = [
     ),
 ];
 
-fn read(cdb: &[u8]) -> Result<Command, CdbFault> {
+pub(crate) fn read(cdb: &[u8]) -> Result<Command, CdbFault> {
     Command::read_in(Profile::Extended, cdb)
 }
 
 /// Whether an extended disk reads a CDB as a command, which is written as the CDB. A base disk has no
 /// such operation code.
-fn is_read_and_written(cdb: &[u8], command: Command) -> bool {
+pub(crate) fn is_read_and_written(cdb: &[u8], command: Command) -> bool {
     let is_read = read(cdb) == Ok(command) && command.write().as_slice() == cdb;
     is_read && Command::read(cdb) == Err(CdbFault::Opcode)
 }
@@ -458,7 +458,7 @@ fn faults_of_extended_commands_are_found(rt: HostRuntime) {
 }
 
 /// The class on an extended disk, and whether a pending unit attention blocks the command.
-const COLUMNS: [(&[u8], Class, bool); 18] = [
+const COLUMNS: [(&[u8], Class, bool); 22] = [
     (&[0xA0], Class::Always, false),
     (&[0x4D], Class::Always, true),
     (&[0xA3, 0x0C], Class::Reads, true),
@@ -474,6 +474,10 @@ const COLUMNS: [(&[u8], Class, bool); 18] = [
     (&[0x2E], Class::Writes, true),
     (&[0xAE], Class::Writes, true),
     (&[0x8E], Class::Writes, true),
+    (&[0x2F], Class::Reads, true),
+    (&[0xAF], Class::Reads, true),
+    (&[0x8F], Class::Reads, true),
+    (&[0x89], Class::Writes, true),
     (&[0x3F], Class::Writes, true),
     (&[0x12], Class::Always, false),
     (&[0x28], Class::Reads, true),

@@ -24,4 +24,6 @@ mod tools;
 #[cfg(test)]
 mod unmap_list;
 #[cfg(test)]
+mod verify;
+#[cfg(test)]
 mod watched;

@@ -29,6 +29,26 @@ const GET_LBA_STATUS: &[u8] = &[
     0xFF, 0xFF, 0x00, 0x00,
 ];
 
+// VERIFY shows DPO and BYTCHK, and no GROUP NUMBER.
+const VERIFY_10: &[u8] = &[
+    0x00, 0x03, 0x00, 0x0A, 0x2F, 0x16, 0xFF, 0xFF, 0xFF, 0xFF, 0x00, 0xFF, 0xFF, 0x00,
+];
+
+const VERIFY_12: &[u8] = &[
+    0x00, 0x03, 0x00, 0x0C, 0xAF, 0x16, 0xFF, 0xFF, 0xFF, 0xFF, 0xFF, 0xFF, 0xFF, 0xFF, 0x00, 0x00,
+];
+
+const VERIFY_16: &[u8] = &[
+    0x00, 0x03, 0x00, 0x10, 0x8F, 0x16, 0xFF, 0xFF, 0xFF, 0xFF, 0xFF, 0xFF, 0xFF, 0xFF, 0xFF, 0xFF,
+    0xFF, 0xFF, 0x00, 0x00,
+];
+
+// COMPARE AND WRITE has three reserved bytes before NUMBER OF LOGICAL BLOCKS.
+const COMPARE_AND_WRITE: &[u8] = &[
+    0x00, 0x03, 0x00, 0x10, 0x89, 0x18, 0xFF, 0xFF, 0xFF, 0xFF, 0xFF, 0xFF, 0xFF, 0xFF, 0x00, 0x00,
+    0x00, 0xFF, 0x00, 0x00,
+];
+
 // The last service action of PERSISTENT RESERVE OUT, REGISTER AND IGNORE EXISTING KEY.
 const REGISTER_AND_IGNORE: &[u8] = &[
     0x00, 0x03, 0x00, 0x0A, 0x5F, 0x06, 0xFF, 0x00, 0x00, 0xFF, 0xFF, 0xFF, 0xFF, 0x00,
@@ -36,11 +56,15 @@ const REGISTER_AND_IGNORE: &[u8] = &[
 
 /// REPORTING OPTIONS, REQUESTED OPERATION CODE and REQUESTED SERVICE ACTION, and the data-in on a
 /// disk of the extended profile. The data-in is None if the disk refuses the options.
-const ROWS: [(u8, u8, u16, Option<&[u8]>); 15] = [
+const ROWS: [(u8, u8, u16, Option<&[u8]>); 20] = [
     (0b001, 0x28, 0x0000, Some(READ_10)),
     (0b001, 0x28, 0x0012, Some(READ_10)),
     (0b001, 0x91, 0x0000, Some(SYNCHRONIZE_CACHE_16)),
     (0b001, 0x4D, 0x0000, Some(LOG_SENSE)),
+    (0b001, 0x2F, 0x0000, Some(VERIFY_10)),
+    (0b001, 0xAF, 0x0000, Some(VERIFY_12)),
+    (0b001, 0x8F, 0x0000, Some(VERIFY_16)),
+    (0b001, 0x89, 0x0000, Some(COMPARE_AND_WRITE)),
     (0b001, 0xC1, 0x0000, Some(NOT_SUPPORTED)),
     (0b001, 0x9E, 0x0012, None),
     (0b010, 0x9E, 0x0012, Some(GET_LBA_STATUS)),
@@ -50,6 +74,7 @@ const ROWS: [(u8, u8, u16, Option<&[u8]>); 15] = [
     (0b010, 0x28, 0x0000, None),
     (0b011, 0x9E, 0x0012, Some(GET_LBA_STATUS)),
     (0b011, 0x28, 0x0000, Some(READ_10)),
+    (0b011, 0x89, 0x0000, Some(COMPARE_AND_WRITE)),
     (0b011, 0x28, 0x0001, Some(NOT_SUPPORTED)),
     (0b100, 0x28, 0x0000, None),
 ];
@@ -118,12 +143,12 @@ fn the_base_commands_are_reported(rt: HostRuntime) {
 
 #[test]
 fn the_extended_commands_are_reported_with_timeouts(rt: HostRuntime) {
-    let mut buf = [0xEE; 1024];
-    let mut cut = Cut::new(&mut buf, 1024);
+    let mut buf = [0xEE; 1040];
+    let mut cut = Cut::new(&mut buf, 1040);
     let report = SupportReport::AllCommands { timeouts: true };
     report.write(Profile::Extended, &mut cut);
     let written = cut.written();
-    // 47 commands of 20 bytes
-    assert!(rt; written == 944 && buf[..4] == [0x00, 0x00, 0x03, 0xAC]);
+    // 51 commands of 20 bytes
+    assert!(rt; written == 1024 && buf[..4] == [0x00, 0x00, 0x03, 0xFC]);
     assert!(rt; buf[4..14] == [0x00, 0x00, 0x00, 0x00, 0x00, 0x02, 0x00, 0x06, 0x00, 0x0A]);
 }
