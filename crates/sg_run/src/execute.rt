@@ -15,10 +15,10 @@ ghost use Rattle.sg_run.specs.Outcome.{by_request, faults_outcome, fill_step, ha
 ghost use Rattle.sg_run.specs.Outcome.{happening_outcome, line_header, outcome, reply_outcome};
 ghost use Rattle.sg_tools.specs.declared.show.Show.TheVariants.{Nothing};
 ghost use Rattle.sg_run.specs.Printed.{ExecutesLine, HasOutcome, HasOutcomeUnlessOutOfMemory};
-ghost use Rattle.sg_run.specs.RequestLines.{line_request, tool_request};
+ghost use Rattle.sg_run.specs.RequestLines.{happening_line_request, line_request, tool_request};
 
 use crate::buffers::{Buffers, REPLY_LENGTH};
-use crate::request::{FilledBlocks, LineFault, Request, ToolLine, read_request};
+use crate::request::{FilledBlocks, HappeningLine, LineFault, Request, ToolLine, read_request};
 use crate::text::answer::put_answer;
 use crate::text::faults::put_faults;
 use crate::text::{put_line_header, put_reply};
@@ -89,7 +89,7 @@ fn execute_request<W: Write, S: Store>(
         Request::Send(call) => send(number, call, Show::Hex, buffer, target, out),
         Request::Fill(blocks) => fill_blocks(number, blocks, data_out, buffer, target, out),
         Request::Show(show, bytes) => put_shown(number, *show, bytes, buffer, out),
-        Request::Happen(happening) => happen(number, happening, target, out),
+        Request::Happen(line) => run_happening(number, line, target, out),
         Request::ListFaults => list_faults(number, target, out),
         Request::Tool(line) => run_tool(context, line, data_out, buffer, target, out),
     }
@@ -122,6 +122,25 @@ fn put_shown<W: Write>(
     put_line_header(number, b"SHOWN", out);
     put_answer(show, bytes, lines, out);
     0
+}
+
+/// Reads what a line lets happen to the disk, does it, and returns the exit status.
+// Not inlined: the stack frame of every line would have room for the happening.
+#[inline(never)]
+fn run_happening<W: Write, S: Store>(
+    number: u64,
+    line: &HappeningLine,
+    target: &mut Target<S>,
+    out: &mut Printer<'_, W>,
+) -> u8
+    ensures { HasOutcomeUnlessOutOfMemory W.contents out.old out.new (disk_of target.new) result
+        (λ out_of_memory.
+        by_request number out_of_memory (disk_of target.old) (happening_line_request line.now)) }
+{
+    match line.read() {
+        Some(happening) => happen(number, &happening, target, out),
+        None => put_fault(number, LineFault::Usage, out),
+    }
 }
 
 /// Lets something happen to the disk, and returns the exit status.

@@ -3,21 +3,20 @@ ghost use Rattle.std.specs.Prelude.{◌≡◌, ◌<◌, ◌≤◌, All, drop, le
 ghost use Rattle.std.specs.List.{list_all};
 ghost use Rattle.std.specs.Str.{IsAscii};
 ghost use Rattle.sg_run.specs.Limits.{word_limit};
-ghost use Rattle.sg_run.specs.Request.{happening_request, is_allowed};
-ghost use Rattle.sg_run.specs.RequestLines.{line_request};
+ghost use Rattle.sg_run.specs.Request.{is_allowed};
 ghost use Rattle.sg_run.specs.Verbs.{extended_verbs, happening_of, verb_named, verbs_of};
 ghost use Rattle.sg_run.specs.Words.{words};
 
 use super::fault::{read_fault, read_heal};
 use super::happening::{read_attention, read_grow, read_nexus, read_power, read_reset};
 use super::words::{Words, is_word};
-use super::{LineFault, Request, WORD_LIMIT};
+use super::{Request, WORD_LIMIT};
 use sg_target::Happening;
 use sg_wire::Profile;
 
 /// A verb for something that happens to a disk.
 #[derive(Clone, Copy)]
-pub(super) enum HappeningVerb {
+pub(crate) enum HappeningVerb {
     Power,
     Reset,
     Nexus,
@@ -77,20 +76,41 @@ impl HappeningVerb {
             HappeningVerb::Heal => read_heal(operands),
         }
     }
+}
+
+/// A line that begins with a verb for something that happens to a disk. Its operands are read when the
+/// line is executed: a happening is large, and every request would have room for it.
+#[derive(Clone, Copy)]
+pub(crate) struct HappeningLine<'a> {
+    verb: HappeningVerb,
+    /// The whole line.
+    text: &'a [u8],
+    ghost allowed: { list_all is_allowed text.now ≡ true },
+    ghost not_empty: { 0 < length (words text.now) },
+    ghost at_most_64: { length (words text.now) ≤ word_limit },
+}
+
+impl<'a> HappeningLine<'a> {
+    ghost use Rattle.sg_run.specs.Request.{happening_request};
+    ghost use Rattle.sg_run.specs.RequestLines.{line_request};
 
     /// The request of a text whose first word is the verb. All words after it are its operands.
-    #[inline(never)]
-    pub(super) fn request<'a>(self, text: &[u8]) -> Request<'a>
+    pub(super) fn request(verb: HappeningVerb, text: &'a [u8]) -> Request<'a>
         requires allowed { list_all is_allowed text.now ≡ true }
         requires not_empty { 0 < length (words text.now) }
         requires at_most_64 { length (words text.now) ≤ word_limit }
         ensures { line_request result
-            ≡ happening_request (happening_of self (drop 1 (words text.now))) }
+            ≡ happening_request (happening_of verb (drop 1 (words text.now))) }
     {
-        let words: Words<'_, WORD_LIMIT> = Words::of(text);
-        match self.read(&words.as_slice()[1..]) {
-            Some(happening) => Request::Happen(happening),
-            None => Request::Faulty(LineFault::Usage),
-        }
+        Request::Happen(HappeningLine { verb, text })
+    }
+
+    /// Reads what the line asks for. None if the operands are others than the verb takes.
+    #[inline(never)]
+    pub(crate) fn read(&self) -> Option<Happening>
+        ensures { result ≡ happening_of self.now.verb (drop 1 (words self.now.text.now)) }
+    {
+        let words: Words<'_, WORD_LIMIT> = Words::of(self.text);
+        self.verb.read(&words.as_slice()[1..])
     }
 }
