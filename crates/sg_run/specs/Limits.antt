@@ -20,3 +20,7 @@ word_limit = 64
 -- The largest byte.
 abbrev pub largest_byte : ℕ
 largest_byte = 255
+
+-- The most blocks that a line fills.
+abbrev pub most_filled : ℕ
+most_filled = 256

@@ -17,7 +17,7 @@ ghost use Rattle.sg_tools.specs.declared.show.Show.TheVariants.{Nothing};
 ghost use Rattle.sg_run.specs.Printed.{ExecutesLine, HasOutcome, HasOutcomeUnlessOutOfMemory};
 ghost use Rattle.sg_run.specs.RequestLines.{happening_line_request, line_request, tool_request};
 
-use crate::buffers::{Buffers, REPLY_LENGTH};
+use crate::buffers::{Buffers, DATA_OUT_LENGTH, REPLY_LENGTH};
 use crate::request::{FilledBlocks, HappeningLine, LineFault, Request, ToolLine, read_request};
 use crate::text::answer::put_answer;
 use crate::text::faults::put_faults;
@@ -76,7 +76,7 @@ fn execute_request<W: Write, S: Store>(
     target: &mut Target<S>,
     out: &mut Printer<'_, W>,
 ) -> u8
-    requires data_out { length data_out.old ≡ BUFFER_LENGTH }
+    requires data_out { length data_out.old ≡ DATA_OUT_LENGTH }
     requires buffer { length buffer.old ≡ REPLY_LENGTH }
     ensures { HasOutcomeUnlessOutOfMemory W.contents out.old out.new (disk_of target.new) result
         (λ out_of_memory.
@@ -193,7 +193,7 @@ fn fill_blocks<W: Write, S: Store>(
     target: &mut Target<S>,
     out: &mut Printer<'_, W>,
 ) -> u8
-    requires data_out { length data_out.old ≡ BUFFER_LENGTH }
+    requires data_out { length data_out.old ≡ DATA_OUT_LENGTH }
     requires buffer { length buffer.old ≡ REPLY_LENGTH }
     ensures { let b = blocks.now in HasOutcome W.contents out.old out.new (disk_of target.new) result
         (reply_outcome number Nothing
@@ -227,7 +227,7 @@ fn run_tool<W: Write, S: Store>(
     target: &mut Target<S>,
     out: &mut Printer<'_, W>,
 ) -> u8
-    requires data_out { length data_out.old ≡ BUFFER_LENGTH }
+    requires data_out { length data_out.old ≡ DATA_OUT_LENGTH }
     requires buffer { length buffer.old ≡ REPLY_LENGTH }
     ensures { HasOutcomeUnlessOutOfMemory W.contents out.old out.new (disk_of target.new) result
         (λ out_of_memory.

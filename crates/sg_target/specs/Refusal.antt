@@ -38,7 +38,6 @@ fault_sense code = plain_sense (key_code code.key) code.asc code.ascq
 -- An invalid field has a pointer to its byte in the CDB or in the parameter list (SPC-4,
 -- 4.5.2.4.2). A logical block address out of range is INFORMATION (SPC-4, 4.5.2.2).
 -- A difference has the offset of its byte as INFORMATION (SBC-3, 5.2).
--- Departure (SPC-4, 7.5): SoftwareWriteProtected, of a base disk, is 27h/00h, WRITE PROTECTED, there.
 -- Choice (SPC-4, 4.5.2.2): INFORMATION may be left out.
 abbrev pub sense_of : Reason → SenseFields
 sense_of (Attention condition) = plain_sense unit_attention (code_of condition).0 (code_of condition).1

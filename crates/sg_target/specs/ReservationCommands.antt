@@ -53,7 +53,7 @@ always_needs_type rules Reserve = true
 always_needs_type rules Release = not rules.releases_nothing_by_any_type
 always_needs_type rules _ = false
 
--- Departure (SPC-4, 5.13, releasing): on a base disk each RELEASE needs a valid SCOPE and TYPE.
+-- On a base disk each RELEASE needs a valid SCOPE and TYPE (SPC-4, 5.13, releasing).
 -- Choice (SPC-4, 5.13, reserving): a conflict may come before a bad SCOPE or TYPE.
 unfoldable pub bad_type : Rules → OutAction → (scope_type : ℕ) → Option ℕ
 bad_type rules action scope_type =

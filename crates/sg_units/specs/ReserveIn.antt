@@ -82,7 +82,7 @@ ptpl_a = 0x01
 abbrev allow_commands : Rules → ℕ
 allow_commands rules = rules.allow_commands % 2 ^ 3 * 2 ^ 4
 
--- Choice (SPC-4, 6.15.4): 0h of a base disk gives no information on these commands.
+-- 0h of a base disk gives no information on these commands (SPC-4, 6.15.4).
 abbrev activated_bits : Rules → ReservationState → Field
 activated_bits rules state =
     let flags = tmv + allow_commands rules in

@@ -105,7 +105,7 @@ released_unless_type held type = if has_type held type then None else Some Reser
 -- an initiator that is not registered sends key 0, then nothing is registered or unregistered. An
 -- extended disk counts this REGISTER, because PRGENERATION counts each REGISTER (SPC-4, 6.15.2). It
 -- takes APTPL, because the last REGISTER decides (SPC-4, 5.13).
--- Choice (SPC-4, 5.13, registering): a base disk leaves PRGENERATION and APTPL then.
+-- A base disk leaves PRGENERATION and APTPL then (SPC-4, 5.13, registering).
 unfoldable pub register_cases : Rules → ReservationState → (caller sark : ℕ) → (aptpl : Bool)
     → List Case
 register_cases rules state caller sark aptpl =
@@ -205,7 +205,7 @@ is_key_of_holder state key =
 
 -- PREEMPT and PREEMPT AND ABORT (SPC-4, 5.13, preempting). A SARK of 0 is an error of the list,
 -- unless an all registrants reservation is held.
--- Departure (SPC-4, 5.13, preempting): if none is held, a SARK of 0 is a conflict on a base disk.
+-- If none is held, a SARK of 0 is a conflict on a base disk (SPC-4, 5.13, preempting).
 unfoldable pub preempt_cases : Rules → ReservationState → (caller : ℕ) → Option ReservationType
     → (sark : ℕ) → List Case
 preempt_cases rules state caller type sark =
