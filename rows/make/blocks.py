@@ -192,13 +192,9 @@ def read_capacity_16(device, _initiator, command, _data_out):
 
 
 def unmap(device, _initiator, command, data_out):
-    """UNMAP (SBC-3, 5.28): all extents are checked before the first is unmapped or anchored.
-
-    An extent of no block may be anywhere (5.28.2). A base disk departs from that.
-    """
+    """UNMAP (SBC-3, 5.28): all extents are checked before the first is unmapped or anchored"""
     extents = unmap_extents(need_data_out(device, data_out, command["list_length"]))
-    named = [it for it in extents if it[1] or device.profile == "base"]
-    check_addresses(device, named)
+    check_addresses(device, extents)
     check_write_protection(device, extents)
     change = device.provisioning.anchor if command["anchor"] else device.provisioning.unmap
     change(extents)
