@@ -48,8 +48,8 @@ extern "C" {
 #define MDL_CDB_LENGTH 16u
 
 /* A buffer of this length is long enough for the data-in of every command: a READ returns at most
- * 256 blocks. */
-#define MDL_BUFFER_LENGTH 131072u
+ * 2,048 blocks, or 256 of a base disk. */
+#define MDL_BUFFER_LENGTH 1048576u
 
 /* The minimum length of the buffer for a tool's data-out. It has room for the longest list, an
  * UNMAP of 64 extents. */

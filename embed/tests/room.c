@@ -60,7 +60,7 @@ static const struct {
     { { 0x9E, 0x10, [13] = 12 }, 16, 12, MDL_GOOD },              /* READ CAPACITY(16) */
     { { 0x9E, 0x10, [12] = 1 }, 16, 32, MDL_GOOD },
     { { 0x08, 0, 0, 0, 2 }, 6, 1024, MDL_GOOD },                  /* READ(6) */
-    { { 0x08, 0, 0, 0, 0 }, 6, MDL_BUFFER_LENGTH, MDL_GOOD },     /* of 256 blocks */
+    { { 0x08, 0, 0, 0, 0 }, 6, 131072, MDL_GOOD },                /* of 256 blocks */
     { { 0x28, [8] = 0 }, 10, 0, MDL_GOOD },                       /* READ(10) of no block */
     { { 0x28, [8] = 3 }, 10, 1536, MDL_GOOD },
     { { 0x28, [7] = 1, 1 }, 10, 0, MDL_CHECK_CONDITION },         /* of 257 blocks */

@@ -42,7 +42,7 @@
  *     - 1: STATUS, the SCSI status.
  *     - 2: TAG, the request's.
  *     - 3: SENSE LENGTH, 0 to 20.
- *     - 4 to 7: DATA-IN LENGTH, 0 to 131,072.
+ *     - 4 to 7: DATA-IN LENGTH, 0 to 1,048,576.
  *     - 8 to 27: sense data, SENSE LENGTH bytes, and zeros after them.
  *     - 28 on: data-in, DATA-IN LENGTH bytes.
  *

@@ -131,12 +131,14 @@ module _ (state : State) (i : ℕ) (data_out : List ℕ) (out : Extent)
   write-effect : (unsupported : Option ℕ) → unsupported ≡ None
       → IsItsEffect
       (checked_next
-      (checked_next (requested (write (config_of state) out unsupported data_out) data_out) (checked_operation state))
+      (checked_next (requested (write (config_of state) out unsupported data_out) data_out)
+      (checked_operation state))
       (effect_of state i))
   write-effect unsupported h =
       by-request
       (first_some
-      (unsupported_value unsupported ∷ short_data_out (Some (need (config_of state) (bytes_of out))) data_out ∷ []))
+      (unsupported_value unsupported
+      ∷ short_data_out (Some (need (config_of state) (bytes_of out))) data_out ∷ []))
       (first-none (unsupported_value unsupported) _ (ap unsupported_value h)
       (first-none (short_data_out (Some (need (config_of state) (bytes_of out))) data_out) []
       (if-none (nat_lt (length data_out) (bytes_of out)) _
@@ -150,13 +152,15 @@ module _ (state : State) (i : ℕ) (data_out : List ℕ) (out : Extent)
   at-extent : (named : Extent) → named ≡ out → (unsupported : Option ℕ) → unsupported ≡ None
       → IsItsEffect
       (checked_next
-      (checked_next (requested (write (config_of state) named unsupported data_out) data_out) (checked_operation state))
+      (checked_next (requested (write (config_of state) named unsupported data_out) data_out)
+      (checked_operation state))
       (effect_of state i))
   at-extent named is unsupported h =
       subst
       (λ (e : Extent). IsItsEffect
       (checked_next
-      (checked_next (requested (write (config_of state) e unsupported data_out) data_out) (checked_operation state))
+      (checked_next (requested (write (config_of state) e unsupported data_out) data_out)
+      (checked_operation state))
       (effect_of state i)))
       (sym is) (write-effect unsupported h)
 
@@ -165,8 +169,8 @@ module _ (state : State) (i : ℕ) (data_out : List ℕ) (out : Extent)
       → IsItsEffect
       (checked_next
       (checked_next
-      (requested (write (config_of state) named (bad_comparison check (too_long (config_of state) named.count byte)) data_out)
-      data_out)
+      (requested (write (config_of state) named
+      (bad_comparison check (too_long (config_of state) named.count byte)) data_out) data_out)
       (checked_operation state))
       (effect_of state i))
   verifying check named is byte =

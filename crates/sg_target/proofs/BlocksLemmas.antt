@@ -96,8 +96,8 @@ write-sound : (config : ConfigFields) (extent : Extent) (unsupported : Option �
     (operation.Write (blocks_out extent data_out))))
     data_out)
 write-sound config extent unsupported data_out =
-    takes-sound config (bytes_of extent) unsupported (Ok (operation.Write (blocks_out extent data_out))) data_out
-    (whole (bytes_of extent) data_out)
+    takes-sound config (bytes_of extent) unsupported
+    (Ok (operation.Write (blocks_out extent data_out))) data_out (whole (bytes_of extent) data_out)
 
 fill-or-unmap : (anchor is_unmap : Bool) (extent : Extent) (block : List ℕ)
     → length block ≡ logical_block_length
@@ -112,7 +112,8 @@ write_same-sound : (config : ConfigFields) (anchor unmap : Bool) (extent : Exten
     (Ok (unmap_or_fill anchor unmap extent (block_out data_out)))) data_out)
 write_same-sound config anchor unmap extent unsupported data_out =
     let block = block_out data_out in
-    takes-sound config logical_block_length unsupported (Ok (unmap_or_fill anchor unmap extent block)) data_out
+    takes-sound config logical_block_length unsupported
+    (Ok (unmap_or_fill anchor unmap extent block)) data_out
     (λ h. fill-or-unmap anchor (unmaps unmap block) extent block (whole logical_block_length data_out h))
 
 extents-sound : (anchor : Bool) (extents : List Extent) → IsSound (unmap_extents anchor extents)

@@ -1,7 +1,7 @@
 -- Each command's demands on its fields and its data-out, and the operation that it asks for. The
 -- demands depend on the disk only by its configuration, which never changes.
-use Rattle.std.specs.Prelude.{ℕ, ◌+◌, ◌*◌, ◌==◌, length, List, Bool, true, false, ◌&&◌, not, Option, Some, None}
-use Rattle.std.specs.Prelude.{Result, Ok, nat_le, nat_lt, if◌then◌else◌, ok_or}
+use Rattle.std.specs.Prelude.{ℕ, ◌+◌, ◌*◌, ◌==◌, length, List, Bool, true, false, ◌&&◌, not}
+use Rattle.std.specs.Prelude.{Option, Some, None, Result, Ok, nat_le, nat_lt, if◌then◌else◌, ok_or}
 use Rattle.sg_wire.specs.declared.command.Command.{Command}
 use Rattle.sg_wire.specs.declared.command.Command.TheVariants as command
 use Rattle.sg_wire.specs.Profile.{rules_of}

@@ -10,7 +10,7 @@ from pathlib import Path
 from typing import NamedTuple
 
 INITIATORS = 8
-BUFFER_LENGTH = 131_072
+BUFFER_LENGTH = 1_048_576
 DATA_OUT_LENGTH = 1_032
 NO_TEXT = c_size_t(-1).value
 GOOD, CHECK_CONDITION, RESERVATION_CONFLICT = 0x00, 0x02, 0x18

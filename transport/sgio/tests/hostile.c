@@ -19,6 +19,9 @@
 enum { GUARD = 0xEE, MANY = 80, TIMEOUT = 10000, LONGEST = 120 };
 
 static const uint8_t test_unit_ready[6];
+/* The most data-out of a random command, in bytes: longer ones would take most of the time. */
+enum { MOST_RANDOM_DATA_OUT = 512 * MDL_BLOCK_LENGTH };
+
 static uint8_t request[MOST_REQUEST + 64], data_in[MDL_BUFFER_LENGTH], data[MOST_DATA_OUT + 64];
 static const char *server;
 static unsigned long goods, checks, conflicts, refusals;
@@ -103,7 +106,7 @@ static size_t put_request(uint64_t *seed, uint8_t *bytes)
     uint32_t list_length;
     uint8_t *at = bytes + REQUEST_HEADER_LENGTH;
 
-    put_random_command(seed, MOST_DATA_OUT, &command);
+    put_random_command(seed, MOST_RANDOM_DATA_OUT, &command);
     header.initiator = (uint8_t)(below(seed, 64) ? header.initiator : MDL_INITIATORS);
     header.tag = (uint8_t)below(seed, 256);
     header.cdb_length = command.cdb_length;
@@ -294,14 +297,14 @@ static void ask_and_read_late(int count)
         execute(other, 2, test_unit_ready, 6, &reply);
     for (at = 0; at < count; at++) {
         receive_reply(late, &reply);
-        WANT(reply.status == MDL_GOOD && reply.data_in_length == MDL_BUFFER_LENGTH);
+        WANT(reply.status == MDL_GOOD && reply.data_in_length == 256 * MDL_BLOCK_LENGTH);
     }
     WANT(recv(late, data_in, 1, MSG_DONTWAIT) < 0 && errno == EAGAIN);
     close(late);
     close(other);
 }
 
-/* The longest request: a WRITE(10) of 512 blocks in a CDB of 255 bytes, which the disk refuses for its
+/* The longest request: a WRITE(10) of 4,096 blocks in a CDB of 255 bytes, which the disk refuses for its
  * TRANSFER LENGTH. One byte more of data-out is no request. */
 static void send_longest(void)
 {
@@ -312,7 +315,7 @@ static void send_longest(void)
     execute(connection, 3, test_unit_ready, 6, &reply);
     memset(request, 0, sizeof request);
     put_request_header(request, &header);
-    memcpy(request + REQUEST_HEADER_LENGTH, "\x2A\0\0\0\0\0\0\2\0", 10);
+    memcpy(request + REQUEST_HEADER_LENGTH, "\x2A\0\0\0\0\0\0\x10\0", 10);
     send_bytes(connection, request, MOST_REQUEST);
     receive_reply(connection, &reply);
     WANT(reply.result == MDL_OK && reply.status == MDL_CHECK_CONDITION);
@@ -436,7 +439,7 @@ static void send_header(uint64_t *seed, int node)
     size_t guarded;
     int error, result;
 
-    put_random_command(seed, MOST_DATA_OUT, &command);
+    put_random_command(seed, MOST_RANDOM_DATA_OUT, &command);
     put_header(seed, &command, &header);
     error = spoil_header(seed, &header);
     header.sbp = sense;

@@ -3,7 +3,7 @@
 use std::ffi::{c_char, c_int, c_uint};
 use std::mem::size_of;
 
-pub const BUFFER_LENGTH: usize = 131_072;
+pub const BUFFER_LENGTH: usize = 1_048_576;
 pub const DATA_OUT_LENGTH: usize = 1_032;
 pub const NO_TEXT: usize = usize::MAX;
 
