@@ -52,7 +52,7 @@ changes-none _ h = h
 
 -- ---- A command
 
-refused-leaves : (state : State) (i : ℕ) (refusal : Refusal)
+pub refused-leaves : (state : State) (i : ℕ) (refusal : Refusal)
     → (refused state i refusal).state.disk ≡ state.disk
 refused-leaves state i (CheckCondition (Attention condition)) = refl
 refused-leaves state i _ = refl

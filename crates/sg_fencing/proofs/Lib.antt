@@ -8,6 +8,7 @@ mod OperationLemmas
 mod DiskLemmas
 mod SpaceLemmas
 mod WriteLemmas
+mod ExchangeLemmas
 -- Commands of others.
 mod AccessLemmas
 mod OthersLemmas

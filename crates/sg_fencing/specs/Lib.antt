@@ -1,6 +1,7 @@
 -- Modules that the laws cite. Read them in this order.
 pub mod Laws
 pub mod ChosenAnswers
+pub mod Exchanges
 pub mod Fencing
 pub mod Registrants
 pub mod Group

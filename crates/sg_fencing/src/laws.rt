@@ -1,5 +1,6 @@
 //! Laws of the definitions: each is the contract of a function that does nothing, or calls those
 //! whose laws it follows from.
+ghost use Rattle.sg_fencing.specs.Exchanges.{ExchangesReplaceWhatTheyExpect};
 ghost use Rattle.sg_fencing.specs.Fencing.{EqualViewsEndAlike, HolderIsAsIfAlone};
 ghost use Rattle.sg_fencing.specs.Fencing.{OthersAreShutOut, OthersLeaveTheView, OthersReadNothing};
 ghost use Rattle.sg_fencing.specs.Fencing.{OnlyPreemptionEnds, OthersSeeNoBlock};
@@ -28,7 +29,10 @@ ghost use Rattle.sg_fencing.specs.WithFaults.{FaultsLetNobodyPastTheHolder, Faul
 ghost use Rattle.sg_fencing.specs.WithFaults.{FaultsRegisterNobody, FencedOffThroughFaults};
 ghost use Rattle.sg_fencing.specs.WithFaults.{PreemptedStayFencedOut};
 
-use sg_store::laws::remapping_takes_what_is_needed;
+use sg_store::laws::{
+    a_write_maps_the_addresses_of_its_range, a_write_replaces_the_blocks_of_its_range,
+    remapping_takes_what_is_needed,
+};
 use sg_target::laws::{
     faults_only_drop_or_shorten, limits_are_kept, only_passed_commands_end_with_good,
     refused_commands_stay_refused, writes_over_used_addresses_have_space,
@@ -74,6 +78,16 @@ pub fn writes_that_nothing_forbids_end_with_good()
 {
     commands_have_their_class();
     writes_over_used_addresses_have_space();
+}
+
+/// A COMPARE AND WRITE that ends with GOOD has found the first half of its data-out in its blocks. Its
+/// second half is in them now, and nothing more has changed. If it does not end with GOOD, the disk
+/// is as it was.
+pub fn exchanges_replace_what_they_expect()
+    ensures { ExchangesReplaceWhatTheyExpect }
+{
+    a_write_maps_the_addresses_of_its_range();
+    a_write_replaces_the_blocks_of_its_range();
 }
 
 /// A command that does not end with GOOD changes no block, mode page, registration or reservation,
