@@ -31,6 +31,7 @@ mod AgreeLemmas
 mod GroupLemmas
 mod InsideLemmas
 -- Lists of commands.
+mod RaceLemmas
 mod OutsiderRunLemmas
 mod UnseenRunLemmas
 mod FencedRunLemmas

@@ -1,19 +1,26 @@
--- COMPARE AND WRITE (SBC-3, 5.2): what one of them finds in its blocks, and what it leaves there.
+-- COMPARE AND WRITE (SBC-3, 5.2): what one of them finds in its blocks and leaves there, and how many of
+-- those that compete for a block end with GOOD.
 use Rattle.std.specs.Prelude.{◌≡◌, ◌≢◌, ℕ, ◌*◌, ◌-◌, List, length, take, drop, Option, Some, None}
-use Rattle.std.specs.Prelude.{Result, Ok}
+use Rattle.std.specs.Prelude.{Result, Ok, All, ◌⊎◌, ◌≤◌, Bool, true, false, is_some, slice_get}
+use Rattle.std.specs.List.{count_by}
 use Rattle.sg_wire.specs.CdbDecoding.{command_of}
 use Rattle.sg_wire.specs.declared.command.CdbFault.{CdbFault}
 use Rattle.sg_wire.specs.declared.command.Command.{Command}
 use Rattle.sg_wire.specs.declared.command.Command.TheVariants as command
 use Rattle.sg_wire.specs.declared.extent.Extent.{Extent}
 use Rattle.sg_wire.specs.declared.lba_status.ProvisioningStatus.TheVariants.{Mapped}
-use Rattle.sg_store.specs.Disk.{block_at, lies_in}
+use Rattle.sg_store.specs.Disk.{block_at, block_length, lies_in}
 use Rattle.sg_target.specs.BlockCommands.{blocks_at, bytes_of}
 use Rattle.sg_target.specs.CommandLaws.{Changes}
 use Rattle.sg_target.specs.Demands.{extent}
+use Rattle.sg_target.specs.Runs.{answers, state_after_all}
 use Rattle.sg_target.specs.State.{IsWithinLimits, State}
-use Rattle.sg_target.specs.Step.{Step, step}
+use Rattle.sg_target.specs.Step.{Answer, Step, step}
+use Rattle.sg_target.specs.declared.call.Call.{Call}
+use Rattle.sg_target.specs.declared.reply.Status.{Status}
 use Rattle.sg_target.specs.declared.reply.Status.TheVariants.{Good}
+use Rattle.sg_fencing.specs.ChosenAnswers.{answers_where}
+use Rattle.sg_fencing.specs.Laws.{may_change_blocks}
 
 -- ---- One command
 
@@ -44,3 +51,46 @@ ExchangesReplaceWhatTheyExpect =
     (state : State) (initiator : ℕ) (cdb data_out : List ℕ) (named : Extent)
     → IsWithinLimits state → blocks_to_exchange (command_of cdb) ≡ Some named
     → ExchangesOrLeaves state (step state initiator cdb data_out) named data_out
+
+-- ---- A race for a block
+
+-- Initiators compete for a block, as the hosts of a cluster do for a lock. Each sends a COMPARE AND WRITE
+-- of that one block, which expects the old block and writes another.
+pub record Competes (lba : ℕ) (old : List ℕ) (call : Call) : Type 0 where
+  pub names : blocks_to_exchange (command_of call.cdb.now) ≡ Some (extent lba 1)
+  pub expects : take block_length call.data_out.now ≡ old
+  pub writes_another : drop block_length call.data_out.now ≢ old
+
+-- Each command of a list competes for the block, or is a command that may not change blocks.
+abbrev pub IsRace : (lba : ℕ) → (old : List ℕ) → List Call → Type 0
+IsRace lba old calls =
+    All (λ call. Competes lba old call ⊎ (may_change_blocks (command_of call.cdb.now) ≡ false)) calls
+
+abbrev pub is_compare_and_write : Call → Bool
+is_compare_and_write call = is_some (blocks_to_exchange (command_of call.cdb.now))
+
+abbrev pub is_good : Status → Bool
+is_good Good = true
+is_good _ = false
+
+-- A COMPARE AND WRITE wins if it ends with GOOD. This is the number of winners in a list.
+abbrev pub winners : State → List Call → ℕ
+winners state calls =
+    count_by (λ answer. is_good answer.status) (answers_where is_compare_and_write state calls)
+
+-- At most one wins. If none wins, the disk is as it was. If one wins, the block is the one that it wrote,
+-- up to the end of the list.
+pub record IsDecided (state : State) (lba : ℕ) (calls : List Call) : Type 0 where
+  pub at_most_one : winners state calls ≤ 1
+  pub none : winners state calls ≡ 0 → (state_after_all state calls).disk ≡ state.disk
+  pub one : (n : ℕ) (call : Call) (answer : Answer)
+      → slice_get calls n ≡ Some call → slice_get (answers state calls) n ≡ Some answer
+      → is_compare_and_write call ≡ true → answer.status ≡ Good
+      → blocks_at (state_after_all state calls) (extent lba 1)
+      ≡ drop block_length call.data_out.now
+
+-- This holds for each race, in whatever order the commands come.
+abbrev pub RacesHaveAtMostOneWinner : Type 0
+RacesHaveAtMostOneWinner =
+    (state : State) (lba : ℕ) (old : List ℕ) (calls : List Call)
+    → IsWithinLimits state → IsRace lba old calls → IsDecided state lba calls
