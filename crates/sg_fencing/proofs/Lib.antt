@@ -9,6 +9,7 @@ mod DiskLemmas
 mod SpaceLemmas
 mod WriteLemmas
 mod ExchangeLemmas
+mod FreeExchangeLemmas
 -- Commands of others.
 mod AccessLemmas
 mod OthersLemmas

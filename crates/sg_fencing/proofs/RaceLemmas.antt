@@ -16,16 +16,18 @@ use Rattle.sg_target.specs.BlockCommands.{blocks_at}
 use Rattle.sg_target.specs.Demands.{extent}
 use Rattle.sg_target.specs.Laws.{LimitsAreKept}
 use Rattle.sg_target.specs.Runs.{answers, state_after_all, step_of}
-use Rattle.sg_target.specs.State.{IsWithinLimits, State}
+use Rattle.sg_target.specs.State.{IsWithinLimits, State, profile_of}
 use Rattle.sg_target.specs.Step.{Answer}
 use Rattle.sg_target.specs.declared.call.Call.{Call}
 use Rattle.sg_target.specs.declared.reply.Status.{Status}
 use Rattle.sg_target.specs.declared.reply.Status.TheVariants.{Good, CheckCondition, ReservationConflict}
 use Rattle.sg_target.specs.declared.reply.Status.TheVariants.{Busy, TaskSetFull, NoReply}
+use Rattle.sg_fencing.specs.Exchanges.{ExchangesThatNothingForbidsEndWithGood, IsRace, TheFirstOfARaceWins}
 use Rattle.sg_fencing.specs.Exchanges.{Competes, ExchangesReplaceWhatTheyExpect}
 use Rattle.sg_fencing.specs.Exchanges.{RacesHaveAtMostOneWinner, blocks_to_exchange}
 use Rattle.sg_fencing.specs.Exchanges.{is_compare_and_write, is_good, winners}
 use Rattle.sg_fencing.specs.Laws.{OnlyThreeCommandsChangeTheDisk, may_change_blocks}
+use Rattle.sg_fencing.proofs.FreeExchangeLemmas.{read-exchange}
 use Rattle.sg_fencing.proofs.FencedRunLemmas.{answers_in}
 
 -- ---- Winners
@@ -234,4 +236,29 @@ decided limits exchange leaves state lba old calls w race =
       at_most_one = at-most-one limits exchange leaves lba old state calls w each;
       none = none-wins limits exchange leaves lba old state calls w each;
       one = one-wins limits exchange leaves lba old state calls w each;
+    }
+
+-- if the first wins, nobody else does
+first-won : LimitsAreKept → ExchangesReplaceWhatTheyExpect → OnlyThreeCommandsChangeTheDisk
+    → (state : State) (lba : ℕ) (old : List ℕ) (first : Call) (others : List Call)
+    → IsWithinLimits state → IsRace lba old (first ∷ others)
+    → wins state first ≡ true → winners state (first ∷ others) ≡ 1
+first-won limits exchange leaves state lba old first others w race wins_it =
+    let each = recursion_from_All (Takes limits exchange leaves lba old) (first ∷ others) race in
+    let most = at-most-one limits exchange leaves lba old state (first ∷ others) w each in
+    omega (arith, most, winning limits exchange leaves lba old state first others wins_it)
+
+pub first-wins-race : LimitsAreKept → ExchangesReplaceWhatTheyExpect → OnlyThreeCommandsChangeTheDisk
+    → ExchangesThatNothingForbidsEndWithGood → TheFirstOfARaceWins
+first-wins-race limits exchange leaves free state lba old first others w race is nothing =
+    let i = first.initiator in
+    let cdb = first.cdb.now in
+    let good = free state i cdb first.data_out.now (extent lba 1) w is nothing in
+    let answered = is-good (step_of state first).answer.status good in
+    let its : is_compare_and_write first ≡ true =
+    ap (λ o. is_some o) (read-exchange (profile_of state) cdb (extent lba 1) is) in
+    record {
+      good = good;
+      only_one = first-won limits exchange leaves state lba old first others w race
+          (ap (λ b. b && is_good (step_of state first).answer.status) its ∙ answered);
     }

@@ -1,9 +1,9 @@
 -- COMPARE AND WRITE (SBC-3, 5.2): what one of them finds in its blocks and leaves there, and how many of
 -- those that compete for a block end with GOOD.
 use Rattle.std.specs.Prelude.{◌≡◌, ◌≢◌, ℕ, ◌*◌, ◌-◌, List, length, take, drop, Option, Some, None}
-use Rattle.std.specs.Prelude.{Result, Ok, All, ◌⊎◌, ◌≤◌, Bool, true, false, is_some, slice_get}
+use Rattle.std.specs.Prelude.{Result, Ok, ◌∷◌, All, ◌⊎◌, ◌≤◌, Bool, true, false, is_some, slice_get}
 use Rattle.std.specs.List.{count_by}
-use Rattle.sg_wire.specs.CdbDecoding.{command_of}
+use Rattle.sg_wire.specs.CdbDecoding.{command_in, command_of}
 use Rattle.sg_wire.specs.declared.command.CdbFault.{CdbFault}
 use Rattle.sg_wire.specs.declared.command.Command.{Command}
 use Rattle.sg_wire.specs.declared.command.Command.TheVariants as command
@@ -13,14 +13,14 @@ use Rattle.sg_store.specs.Disk.{block_at, block_length, lies_in}
 use Rattle.sg_target.specs.BlockCommands.{blocks_at, bytes_of}
 use Rattle.sg_target.specs.CommandLaws.{Changes}
 use Rattle.sg_target.specs.Demands.{extent}
-use Rattle.sg_target.specs.Runs.{answers, state_after_all}
-use Rattle.sg_target.specs.State.{IsWithinLimits, State}
+use Rattle.sg_target.specs.Runs.{answers, state_after_all, step_of}
+use Rattle.sg_target.specs.State.{IsWithinLimits, State, profile_of}
 use Rattle.sg_target.specs.Step.{Answer, Step, step}
 use Rattle.sg_target.specs.declared.call.Call.{Call}
 use Rattle.sg_target.specs.declared.reply.Status.{Status}
 use Rattle.sg_target.specs.declared.reply.Status.TheVariants.{Good}
 use Rattle.sg_fencing.specs.ChosenAnswers.{answers_where}
-use Rattle.sg_fencing.specs.Laws.{may_change_blocks}
+use Rattle.sg_fencing.specs.Laws.{NothingForbids, may_change_blocks}
 
 -- ---- One command
 
@@ -51,6 +51,22 @@ ExchangesReplaceWhatTheyExpect =
     (state : State) (initiator : ℕ) (cdb data_out : List ℕ) (named : Extent)
     → IsWithinLimits state → blocks_to_exchange (command_of cdb) ≡ Some named
     → ExchangesOrLeaves state (step state initiator cdb data_out) named data_out
+
+-- Nothing forbids an initiator a COMPARE AND WRITE of some blocks: nothing forbids it a WRITE of them, the
+-- data-out has two halves of their length, and the blocks are as its first half expects.
+pub record NothingForbidsExchange (state : State) (initiator : ℕ) (data_out : List ℕ) (named : Extent)
+    : Type 0 where
+  pub write : NothingForbids state initiator data_out named
+  pub two_halves : length data_out ≡ 2 * bytes_of named
+  pub found : blocks_at state named ≡ take (bytes_of named) data_out
+
+-- Such a COMPARE AND WRITE ends with GOOD, if it is a command of the disk's profile.
+abbrev pub ExchangesThatNothingForbidsEndWithGood : Type 0
+ExchangesThatNothingForbidsEndWithGood =
+    (state : State) (initiator : ℕ) (cdb data_out : List ℕ) (named : Extent)
+    → IsWithinLimits state → blocks_to_exchange (command_in (profile_of state) cdb) ≡ Some named
+    → NothingForbidsExchange state initiator data_out named
+    → (step state initiator cdb data_out).answer.status ≡ Good
 
 -- ---- A race for a block
 
@@ -94,3 +110,16 @@ abbrev pub RacesHaveAtMostOneWinner : Type 0
 RacesHaveAtMostOneWinner =
     (state : State) (lba : ℕ) (old : List ℕ) (calls : List Call)
     → IsWithinLimits state → IsRace lba old calls → IsDecided state lba calls
+
+-- The first command of a race wins if nothing forbids it, and then nobody else does.
+pub record FirstWins (state : State) (first : Call) (others : List Call) : Type 0 where
+  pub good : (step_of state first).answer.status ≡ Good
+  pub only_one : winners state (first ∷ others) ≡ 1
+
+abbrev pub TheFirstOfARaceWins : Type 0
+TheFirstOfARaceWins =
+    (state : State) (lba : ℕ) (old : List ℕ) (first : Call) (others : List Call)
+    → IsWithinLimits state → IsRace lba old (first ∷ others)
+    → blocks_to_exchange (command_in (profile_of state) first.cdb.now) ≡ Some (extent lba 1)
+    → NothingForbidsExchange state first.initiator first.data_out.now (extent lba 1)
+    → FirstWins state first others
