@@ -59,6 +59,20 @@ none-same xs ys len e =
     from-none xs ys 0 len
     (sym (position_from-zero (λ (pair : ℕ × ℕ). not (pair.0 == pair.1)) (zip xs ys)) ∙ e)
 
+equal : (n : ℕ) → (n == n) ≡ true
+equal n = (Decides-eqb n n).1 refl
+
+from-equal : (xs : List ℕ) (i : ℕ) → from i xs xs ≡ None
+from-equal [] i = refl
+from-equal (x ∷ xs) i =
+    ap (λ b. cond (not b) (Some i) (from (i + 1) xs xs)) (equal x) ∙ from-equal xs (i + 1)
+
+-- bytes do not differ from the same bytes
+pub same-none : (xs : List ℕ) → first_difference xs xs ≡ None
+unfolding first_difference
+same-none xs =
+    position_from-zero (λ (pair : ℕ × ℕ). not (pair.0 == pair.1)) (zip xs xs) ∙ from-equal xs 0
+
 -- ---- Joined blocks
 
 zero-length : length zero_block ≡ 512

@@ -9,6 +9,7 @@ mod DiskLemmas
 mod SpaceLemmas
 mod WriteLemmas
 mod ExchangeLemmas
+mod FreeExchangeLemmas
 -- Commands of others.
 mod AccessLemmas
 mod OthersLemmas
@@ -31,6 +32,7 @@ mod AgreeLemmas
 mod GroupLemmas
 mod InsideLemmas
 -- Lists of commands.
+mod RaceLemmas
 mod OutsiderRunLemmas
 mod UnseenRunLemmas
 mod FencedRunLemmas

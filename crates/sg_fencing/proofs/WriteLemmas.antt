@@ -42,7 +42,7 @@ use Rattle.sg_fencing.specs.Laws.{NothingForbids, WritesThatNothingForbidsEndWit
 
 -- ---- Checks that do not refuse
 
-first-none : (check : Option Refusal) (checks : List (Option Refusal)) → check ≡ None
+pub first-none : (check : Option Refusal) (checks : List (Option Refusal)) → check ≡ None
     → first_some checks ≡ None → first_some (check ∷ checks) ≡ None
 first-none None checks h rest = rest
 first-none (Some refusal) checks h rest = cc
@@ -71,7 +71,7 @@ parsed-none : (parse : Result Command CdbFault) (c : Command) → parse ≡ Ok c
 parsed-none (Ok command) c is = (refl, (refl, (refl, refl)))
 parsed-none (Err fault) c is = cc
 
-cdb-none : (state : State) (i : ℕ) (cdb : List ℕ) (c : Command)
+pub cdb-none : (state : State) (i : ℕ) (cdb : List ℕ) (c : Command)
     → command_in (profile_of state) cdb ≡ Ok c
     → class_in (profile_of state) cdb ≡ Some Writes → oldest state.attentions i ≡ None
     → allows state.reservations i Writes ≡ true → first_some (cdb_checks state i cdb) ≡ None
@@ -87,14 +87,14 @@ cdb-none state i cdb c is class none allowed =
     (first-none (short_cdb parse) _ passed.1.1.0
     (first-none (bad_field parse) [] passed.1.1.1 refl)))))
 
-range-none : (capacity : ℕ) (out : Extent) → out.lba + out.count ≤ capacity
+pub range-none : (capacity : ℕ) (out : Extent) → out.lba + out.count ≤ capacity
     → out_of_range capacity (out ∷ []) ≡ None
 unfolding out_of_range
 range-none capacity out h =
     first-none (past_capacity capacity out) []
     (if-none (nat_lt capacity (out.lba + out.count)) _ (at-most (out.lba + out.count) capacity h)) refl
 
-protection-none : (rules : Rules) (modes : ModeState) (medium : MediumUse)
+pub protection-none : (rules : Rules) (modes : ModeState) (medium : MediumUse)
     → write_protected modes ≡ false → write_protection rules modes medium ≡ None
 unfolding write_protection
 protection-none rules modes medium h =

@@ -1,19 +1,26 @@
--- COMPARE AND WRITE (SBC-3, 5.2): what one of them finds in its blocks, and what it leaves there.
+-- COMPARE AND WRITE (SBC-3, 5.2): what one of them finds in its blocks and leaves there, and how many of
+-- those that compete for a block end with GOOD.
 use Rattle.std.specs.Prelude.{◌≡◌, ◌≢◌, ℕ, ◌*◌, ◌-◌, List, length, take, drop, Option, Some, None}
-use Rattle.std.specs.Prelude.{Result, Ok}
-use Rattle.sg_wire.specs.CdbDecoding.{command_of}
+use Rattle.std.specs.Prelude.{Result, Ok, ◌∷◌, All, ◌⊎◌, ◌≤◌, Bool, true, false, is_some, slice_get}
+use Rattle.std.specs.List.{count_by}
+use Rattle.sg_wire.specs.CdbDecoding.{command_in, command_of}
 use Rattle.sg_wire.specs.declared.command.CdbFault.{CdbFault}
 use Rattle.sg_wire.specs.declared.command.Command.{Command}
 use Rattle.sg_wire.specs.declared.command.Command.TheVariants as command
 use Rattle.sg_wire.specs.declared.extent.Extent.{Extent}
 use Rattle.sg_wire.specs.declared.lba_status.ProvisioningStatus.TheVariants.{Mapped}
-use Rattle.sg_store.specs.Disk.{block_at, lies_in}
+use Rattle.sg_store.specs.Disk.{block_at, block_length, lies_in}
 use Rattle.sg_target.specs.BlockCommands.{blocks_at, bytes_of}
 use Rattle.sg_target.specs.CommandLaws.{Changes}
 use Rattle.sg_target.specs.Demands.{extent}
-use Rattle.sg_target.specs.State.{IsWithinLimits, State}
-use Rattle.sg_target.specs.Step.{Step, step}
+use Rattle.sg_target.specs.Runs.{answers, state_after_all, step_of}
+use Rattle.sg_target.specs.State.{IsWithinLimits, State, profile_of}
+use Rattle.sg_target.specs.Step.{Answer, Step, step}
+use Rattle.sg_target.specs.declared.call.Call.{Call}
+use Rattle.sg_target.specs.declared.reply.Status.{Status}
 use Rattle.sg_target.specs.declared.reply.Status.TheVariants.{Good}
+use Rattle.sg_fencing.specs.ChosenAnswers.{answers_where}
+use Rattle.sg_fencing.specs.Laws.{NothingForbids, may_change_blocks}
 
 -- ---- One command
 
@@ -44,3 +51,75 @@ ExchangesReplaceWhatTheyExpect =
     (state : State) (initiator : ℕ) (cdb data_out : List ℕ) (named : Extent)
     → IsWithinLimits state → blocks_to_exchange (command_of cdb) ≡ Some named
     → ExchangesOrLeaves state (step state initiator cdb data_out) named data_out
+
+-- Nothing forbids an initiator a COMPARE AND WRITE of some blocks: nothing forbids it a WRITE of them, the
+-- data-out has two halves of their length, and the blocks are as its first half expects.
+pub record NothingForbidsExchange (state : State) (initiator : ℕ) (data_out : List ℕ) (named : Extent)
+    : Type 0 where
+  pub write : NothingForbids state initiator data_out named
+  pub two_halves : length data_out ≡ 2 * bytes_of named
+  pub found : blocks_at state named ≡ take (bytes_of named) data_out
+
+-- Such a COMPARE AND WRITE ends with GOOD, if it is a command of the disk's profile.
+abbrev pub ExchangesThatNothingForbidsEndWithGood : Type 0
+ExchangesThatNothingForbidsEndWithGood =
+    (state : State) (initiator : ℕ) (cdb data_out : List ℕ) (named : Extent)
+    → IsWithinLimits state → blocks_to_exchange (command_in (profile_of state) cdb) ≡ Some named
+    → NothingForbidsExchange state initiator data_out named
+    → (step state initiator cdb data_out).answer.status ≡ Good
+
+-- ---- A race for a block
+
+-- Initiators compete for a block, as the hosts of a cluster do for a lock. Each sends a COMPARE AND WRITE
+-- of that one block, which expects the old block and writes another.
+pub record Competes (lba : ℕ) (old : List ℕ) (call : Call) : Type 0 where
+  pub names : blocks_to_exchange (command_of call.cdb.now) ≡ Some (extent lba 1)
+  pub expects : take block_length call.data_out.now ≡ old
+  pub writes_another : drop block_length call.data_out.now ≢ old
+
+-- Each command of a list competes for the block, or is a command that may not change blocks.
+abbrev pub IsRace : (lba : ℕ) → (old : List ℕ) → List Call → Type 0
+IsRace lba old calls =
+    All (λ call. Competes lba old call ⊎ (may_change_blocks (command_of call.cdb.now) ≡ false)) calls
+
+abbrev pub is_compare_and_write : Call → Bool
+is_compare_and_write call = is_some (blocks_to_exchange (command_of call.cdb.now))
+
+abbrev pub is_good : Status → Bool
+is_good Good = true
+is_good _ = false
+
+-- A COMPARE AND WRITE wins if it ends with GOOD. This is the number of winners in a list.
+abbrev pub winners : State → List Call → ℕ
+winners state calls =
+    count_by (λ answer. is_good answer.status) (answers_where is_compare_and_write state calls)
+
+-- At most one wins. If none wins, the disk is as it was. If one wins, the block is the one that it wrote,
+-- up to the end of the list.
+pub record IsDecided (state : State) (lba : ℕ) (calls : List Call) : Type 0 where
+  pub at_most_one : winners state calls ≤ 1
+  pub none : winners state calls ≡ 0 → (state_after_all state calls).disk ≡ state.disk
+  pub one : (n : ℕ) (call : Call) (answer : Answer)
+      → slice_get calls n ≡ Some call → slice_get (answers state calls) n ≡ Some answer
+      → is_compare_and_write call ≡ true → answer.status ≡ Good
+      → blocks_at (state_after_all state calls) (extent lba 1)
+      ≡ drop block_length call.data_out.now
+
+-- This holds for each race, in whatever order the commands come.
+abbrev pub RacesHaveAtMostOneWinner : Type 0
+RacesHaveAtMostOneWinner =
+    (state : State) (lba : ℕ) (old : List ℕ) (calls : List Call)
+    → IsWithinLimits state → IsRace lba old calls → IsDecided state lba calls
+
+-- The first command of a race wins if nothing forbids it, and then nobody else does.
+pub record FirstWins (state : State) (first : Call) (others : List Call) : Type 0 where
+  pub good : (step_of state first).answer.status ≡ Good
+  pub only_one : winners state (first ∷ others) ≡ 1
+
+abbrev pub TheFirstOfARaceWins : Type 0
+TheFirstOfARaceWins =
+    (state : State) (lba : ℕ) (old : List ℕ) (first : Call) (others : List Call)
+    → IsWithinLimits state → IsRace lba old (first ∷ others)
+    → blocks_to_exchange (command_in (profile_of state) first.cdb.now) ≡ Some (extent lba 1)
+    → NothingForbidsExchange state first.initiator first.data_out.now (extent lba 1)
+    → FirstWins state first others

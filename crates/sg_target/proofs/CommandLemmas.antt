@@ -209,11 +209,11 @@ writes-leave maps puts state i cdb data_out out is good =
 
 -- ---- A WRITE over addresses that have a block of the pool
 
-has-slot : (found : Option Mapping) → (status_in found ≡ Deallocated → ⊥) → is_some found ≡ true
+pub has-slot : (found : Option Mapping) → (status_in found ≡ Deallocated → ⊥) → is_some found ≡ true
 has-slot (Some mapping) h = refl
 has-slot None h = absurd (h refl)
 
-none-needed : RemappingTakesWhatIsNeeded → (contents : Contents) (lba count : ℕ)
+pub none-needed : RemappingTakesWhatIsNeeded → (contents : Contents) (lba count : ℕ)
     → ((i : ℕ) → i < count → contains_key contents (lba + i) ≡ true) → need contents lba count ≡ 0
 none-needed law contents lba zero h = law.of_none contents lba
 none-needed law contents lba (suc count) h =
