@@ -75,7 +75,7 @@ module _ (state : State) (j : ℕ) (unknown : is_registrant state j ≡ false) w
 
   -- a REGISTER that does not count
   module _ (list : OutList)
-      (uncounted : ((rules_for state).counts_each_register && list.service_action_key == 0) ≡ false) where
+      (uncounted : ((rules_for state).each_register_counts && list.service_action_key == 0) ≡ false) where
     abbrev SameAfter : Step → Type 0
     SameAfter done = Same done.state.reservations
 
@@ -103,7 +103,7 @@ module _ (state : State) (j : ℕ) (unknown : is_registrant state j ≡ false) w
 
   abbrev counts : Option OutList → Bool
   counts sent =
-      (rules_for state).counts_each_register
+      (rules_for state).each_register_counts
       && option_map_or (λ (list : OutList). list.service_action_key == 0) sent false
 
   by-list : (cdb data_out : List ℕ) (sent : Option OutList)

@@ -173,7 +173,7 @@ module _ (rules : Rules) (all : List Registration) (kind : ReservationType) (bef
       let known = is_registered all i in
       let is = here key in
       case_or (Leaves state i v) _ _
-      (λ h. absurd (not_counted rules.counts_each_register known (sark == 0) is h))
+      (λ h. absurd (not_counted rules.each_register_counts known (sark == 0) is h))
       (λ _. case_or (Leaves state i v) _ _ (λ h. absurd (not_known known (sark == 0) is h))
       (λ _. case_or (Leaves state i v) _ _ (λ h. absurd (not_known known (length all == 6) is h))
       (λ _. case_or (Leaves state i v) _ _ (λ h. absurd (not_true known is h))
@@ -232,7 +232,7 @@ module _ (rules : Rules) (all : List Registration) (kind : ReservationType) (bef
       case_or (Leaves state i v) _ _
       (λ zero. at state i v as_before _ (ap (λ b. preempt_or b (k == sark) type) zero) (refuses _ key))
       (λ no. case_or (Leaves state i v) _ _
-      (λ none. absurd (not_none rules.preempts_some_key (sark == 0) none))
+      (λ none. absurd (not_none rules.preempt_needs_a_key (sark == 0) none))
       (λ _. case_or (Leaves state i v) _ _
       (λ own. at state i v (taken_left type) _
       (ap (λ b. preempt_or b (k == sark) type) no
@@ -281,8 +281,8 @@ module _ (rules : Rules) (all : List Registration) (kind : ReservationType) (bef
   action_leaves Release type sark aptpl one key =
       let v = typed_left type (λ new. release_or (has_type held new)) in
       let holds : is_holder state i ≡ true = and_from _ (i == i) (here key) (eq-eqb i i refl) in
-      choice (Leaves state i v) (rules.releases_nothing_by_any_type && not (is_holder state i)) _ _
-      (λ h. absurd (not_released rules.releases_nothing_by_any_type (is_holder state i) holds h))
+      choice (Leaves state i v) (rules.release_of_nothing_ignores_type && not (is_holder state i)) _ _
+      (λ h. absurd (not_released rules.release_of_nothing_ignores_type (is_holder state i) holds h))
       (λ _. typed type _ (λ new. release_or (has_type held new)) key
       (λ new. (release_leaves new key).first))
   action_leaves Clear type sark aptpl one key = leaves _ (None, None) refl refl

@@ -132,7 +132,7 @@ module _ (rules : Rules) (state : ReservationState) (j : ℕ) where
   -- those that register
   abbrev acts : (sark : ℕ) → Bool
   acts sark =
-      rules.counts_each_register || (is_registered state.registrations j || not (sark == 0))
+      rules.each_register_counts || (is_registered state.registrations j || not (sark == 0))
 
   register-sets : (sark : ℕ) (aptpl : Bool) → acts sark ≡ true
       → FirstIs (EffectIs (Sets aptpl)) (register_cases rules state j sark aptpl)
@@ -141,7 +141,7 @@ module _ (rules : Rules) (state : ReservationState) (j : ℕ) where
       let known = is_registered state.registrations j in
       case_or (EffectIs (Sets aptpl)) _ _ (λ _. effective (Sets aptpl) _ refl)
       (λ uncounted. case_or (EffectIs (Sets aptpl)) _ _
-      (λ idle. absurd (not-idle rules.counts_each_register known (sark == 0) h uncounted idle))
+      (λ idle. absurd (not-idle rules.each_register_counts known (sark == 0) h uncounted idle))
       (λ _. case_or (EffectIs (Sets aptpl)) _ _ (λ _. refused (Sets aptpl) _)
       (λ _. case_or (EffectIs (Sets aptpl)) _ _ (λ _. effective (Sets aptpl) _ refl)
       (λ _. case_or (EffectIs (Sets aptpl)) _ _ (λ _. effective (Sets aptpl) _ refl)
@@ -153,9 +153,9 @@ module _ (rules : Rules) (state : ReservationState) (j : ℕ) where
   register-leaves sark aptpl h =
       let known = is_registered state.registrations j in
       case_or (EffectIs Leaves) _ _
-      (λ counted. absurd (not-counting rules.counts_each_register _ _ h counted))
+      (λ counted. absurd (not-counting rules.each_register_counts _ _ h counted))
       (λ _. case_or (EffectIs Leaves) _ _ (λ _. effective Leaves _ refl)
-      (λ acting. absurd (not-acting rules.counts_each_register known (sark == 0) h acting)))
+      (λ acting. absurd (not-acting rules.each_register_counts known (sark == 0) h acting)))
 
   by-register : (P : ReservationChange → Type 0) (action : OutAction) (scope_type : ℕ) (list : OutList)
       → is_registering action ≡ true

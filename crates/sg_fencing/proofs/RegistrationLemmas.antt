@@ -150,13 +150,13 @@ module _ (rules : Rules) (state : ReservationState) (j : ℕ)
   abbrev pub IsIdle : ReservationChange → Type 0
   IsIdle change = is_registered change.registrations j ≡ false → state_after state (Ok change) ≡ state
 
-  register-idle : (sark : ℕ) (aptpl : Bool) → (rules.counts_each_register && sark == 0) ≡ false
+  register-idle : (sark : ℕ) (aptpl : Bool) → (rules.each_register_counts && sark == 0) ≡ false
       → FirstIs (EffectIs IsIdle) (register_cases rules state j sark aptpl)
   unfolding register_cases
   register-idle sark aptpl uncounted =
       let new = not (is_registered state.registrations j) in
       case_or (EffectIs IsIdle) _ _
-      (λ counted. absurd (counted-if rules.counts_each_register new (sark == 0) uncounted counted))
+      (λ counted. absurd (counted-if rules.each_register_counts new (sark == 0) uncounted counted))
       (λ _. case_or (EffectIs IsIdle) _ _ (λ _. effective IsIdle _ (λ _. refl))
       (λ _. case_or (EffectIs IsIdle) _ _ (λ _. refused IsIdle _)
       (λ _. case_or (EffectIs IsIdle) _ _
@@ -167,7 +167,7 @@ module _ (rules : Rules) (state : ReservationState) (j : ℕ)
   -- this holds of a command that does not register, and of one that does not count
   pub outcome-idle : (action : OutAction) (scope_type : ℕ) (list : OutList)
       → (is_registering action ≡ true
-      → (rules.counts_each_register && list.service_action_key == 0) ≡ false)
+      → (rules.each_register_counts && list.service_action_key == 0) ≡ false)
       → EffectIs IsIdle (outcome rules state j action scope_type list)
   outcome-idle action scope_type list uncounted =
       by-registering rules state j unknown IsIdle list action scope_type

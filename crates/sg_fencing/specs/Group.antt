@@ -144,7 +144,7 @@ IsReservedFrom outside state calls =
 -- registered: PRGENERATION is incremented, and APTPL is taken. A base disk does not count it.
 abbrev pub is_counted : State → Call → Bool
 is_counted state call =
-    (rules_for state).counts_each_register
+    (rules_for state).each_register_counts
     && asks_to_unregister (command_of call.cdb.now) call.data_out.now
 
 -- No such call from outside ends with GOOD. On a base disk there is no such call.

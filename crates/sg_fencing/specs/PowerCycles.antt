@@ -80,7 +80,7 @@ TwoAreOne =
 pub record Counts (state : State) (call : Call) (list : OutList) : Type 0 where
   pub sent : registering_list (command_of call.cdb.now) call.data_out.now ≡ Some list
   pub good : (step_of state call).answer.status ≡ Good
-  pub acts : ((rules_for state).counts_each_register
+  pub acts : ((rules_for state).each_register_counts
       || (is_registrant state call.initiator || not (list.service_action_key == 0))) ≡ true
 
 -- None of the events from an index on counts.

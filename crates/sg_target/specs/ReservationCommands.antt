@@ -50,7 +50,7 @@ reporting state action n =
 -- RELEASE if the initiator holds the reservation. No other service action looks at them.
 abbrev pub always_needs_type : Rules → OutAction → Bool
 always_needs_type rules Reserve = true
-always_needs_type rules Release = not rules.releases_nothing_by_any_type
+always_needs_type rules Release = not rules.release_of_nothing_ignores_type
 always_needs_type rules _ = false
 
 -- On a base disk each RELEASE needs a valid SCOPE and TYPE (SPC-4, 5.13, releasing).

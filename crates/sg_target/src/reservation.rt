@@ -108,7 +108,7 @@ fn always_needs_type(rules: Rules, action: OutAction) -> bool
 {
     match action {
         OutAction::Reserve => true,
-        OutAction::Release => !rules.releases_nothing_by_any_type,
+        OutAction::Release => !rules.release_of_nothing_ignores_type,
         _ => false,
     }
 }

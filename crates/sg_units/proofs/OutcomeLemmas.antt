@@ -75,7 +75,7 @@ pub releasing : (P : ReservationChange → Type 0) (rules : Rules) (state : Rese
     → ((type : ReservationType) → FirstIs (EffectIs P) (release_cases state i type))
     → EffectIs P (release_outcome rules state i type)
 releasing P rules state i type idle h =
-    choice (EffectIs P) (rules.releases_nothing_by_any_type && not (is_holder state i)) _ _
+    choice (EffectIs P) (rules.release_of_nothing_ignores_type && not (is_holder state i)) _ _
     (λ _. effective P _ idle) (λ _. typed P type _ (λ type. (h type).first))
 
 -- a command is refused, or its key is accepted and it has the outcome of its service action

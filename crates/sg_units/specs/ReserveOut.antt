@@ -114,7 +114,7 @@ register_cases rules state caller sark aptpl =
     let known = is_registered all caller in
     let rest = without_initiator all caller in
     let idle = not known && sark == 0 in
-    when (rules.counts_each_register && idle) (Ok (registering state all aptpl))
+    when (rules.each_register_counts && idle) (Ok (registering state all aptpl))
     ∷ when idle (Ok (unchanged state))
     ∷ when (not known && length all == max_registrations) (Err NoRoom)
     ∷ when (not known) (Ok (registering state (with_registration all caller sark) aptpl))
@@ -149,7 +149,7 @@ release_cases state caller type =
 -- are (SPC-4, 5.13, releasing). A base disk looks for a valid SCOPE and TYPE first.
 abbrev pub release_outcome : Rules → ReservationState → (caller : ℕ) → Option ReservationType → Outcome
 release_outcome rules state caller type =
-    if rules.releases_nothing_by_any_type && not (is_holder state caller)
+    if rules.release_of_nothing_ignores_type && not (is_holder state caller)
     then Ok (unchanged state)
     else with_type type (λ type. first_case (release_cases state caller type))
 
@@ -215,7 +215,7 @@ preempt_cases rules state caller type sark =
     let take : List Registration → Outcome = preempted held caller type in
     let no_key = Err (Field service_action_key_at) in
     when (has_one_holder held && sark == 0) no_key
-    ∷ when (rules.preempts_some_key && is_none held && sark == 0) no_key
+    ∷ when (rules.preempt_needs_a_key && is_none held && sark == 0) no_key
     ∷ when (is_key_of_holder state sark) (take (without_key_of_others all caller sark))
     ∷ when (is_held_by_all held && sark == 0) (take (without_others all caller))
     ∷ when (not (has_key all sark)) (Err Conflict)

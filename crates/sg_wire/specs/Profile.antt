@@ -14,8 +14,9 @@ is_in Extended Extended = true
 -- ---- Limits, in blocks
 
 -- The most that a READ or a WRITE moves, the most that a WRITE SAME writes, and the most that a
--- COMPARE AND WRITE compares: a base disk has none. The page Block Limits reports them (SBC-3, vital
--- product data parameters). Then the most that can be mapped or anchored at once (SBC-3, 4.7).
+-- COMPARE AND WRITE compares: 0 on a base disk, which does not have the command. The page Block Limits
+-- reports them (SBC-3, vital product data parameters). Then the most that can be mapped or anchored at
+-- once (SBC-3, 4.7).
 abbrev pub base_limits : Limits
 base_limits = record {
   transfer_length = 256;
@@ -58,17 +59,17 @@ rules_of Base = record {
   zero_reaches_last = false;
   short_data_out_is_illegal = false;
   protects_only_writes = false;
-  preempts_some_key = false;
-  counts_each_register = false;
-  releases_nothing_by_any_type = false;
+  preempt_needs_a_key = false;
+  each_register_counts = false;
+  release_of_nothing_ignores_type = false;
   allow_commands = 0;
 }
 rules_of Extended = record {
   zero_reaches_last = true;
   short_data_out_is_illegal = true;
   protects_only_writes = true;
-  preempts_some_key = true;
-  counts_each_register = true;
-  releases_nothing_by_any_type = true;
+  preempt_needs_a_key = true;
+  each_register_counts = true;
+  release_of_nothing_ignores_type = true;
   allow_commands = 3;
 }

@@ -58,12 +58,12 @@ pub struct Rules {
     pub protects_only_writes: bool,
     /// PREEMPT of key 0 is an error of the parameter list, unless an all registrants reservation is
     /// held (SPC-4, 5.13.11.4).
-    pub preempts_some_key: bool,
+    pub preempt_needs_a_key: bool,
     /// Each REGISTER raises PRGENERATION and takes APTPL, even one that changes no key (SPC-4,
     /// 5.13.7).
-    pub counts_each_register: bool,
+    pub each_register_counts: bool,
     /// A RELEASE of a registrant that holds nothing is GOOD with any TYPE (SPC-4, 5.13.11.2).
-    pub releases_nothing_by_any_type: bool,
+    pub release_of_nothing_ignores_type: bool,
     /// ALLOW COMMANDS of REPORT CAPABILITIES (SPC-4, 6.15.4).
     pub allow_commands: u8,
 }
@@ -72,9 +72,9 @@ const BASE_RULES: Rules = Rules {
     zero_reaches_last: false,
     short_data_out_is_illegal: false,
     protects_only_writes: false,
-    preempts_some_key: false,
-    counts_each_register: false,
-    releases_nothing_by_any_type: false,
+    preempt_needs_a_key: false,
+    each_register_counts: false,
+    release_of_nothing_ignores_type: false,
     allow_commands: 0,
 };
 
@@ -82,9 +82,9 @@ const EXTENDED_RULES: Rules = Rules {
     zero_reaches_last: true,
     short_data_out_is_illegal: true,
     protects_only_writes: true,
-    preempts_some_key: true,
-    counts_each_register: true,
-    releases_nothing_by_any_type: true,
+    preempt_needs_a_key: true,
+    each_register_counts: true,
+    release_of_nothing_ignores_type: true,
     allow_commands: 3,
 };
 

@@ -87,9 +87,9 @@ impl ReservationState {
     /// or by these rules none does.
     fn needs_some_key(&self, rules: Rules) -> bool
         ensures { result ≡ (has_one_holder self.now.reservation
-            || (rules.preempts_some_key && is_none self.now.reservation)) }
+            || (rules.preempt_needs_a_key && is_none self.now.reservation)) }
     {
-        self.has_one_holder() || rules.preempts_some_key && self.reservation.is_none()
+        self.has_one_holder() || rules.preempt_needs_a_key && self.reservation.is_none()
     }
 
     fn has_one_holder(&self) -> bool

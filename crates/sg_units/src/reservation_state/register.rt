@@ -49,10 +49,10 @@ impl ReservationState {
 
     /// An initiator that is not registered stays so.
     fn idle_register(&self, rules: Rules, aptpl: bool) -> ReservationChange
-        ensures { result ≡ if rules.counts_each_register
+        ensures { result ≡ if rules.each_register_counts
             then registering self.now self.now.registrations aptpl else unchanged self.now }
     {
-        if rules.counts_each_register {
+        if rules.each_register_counts {
             self.registering(self.registrations.copied(), aptpl)
         } else {
             self.unchanged()

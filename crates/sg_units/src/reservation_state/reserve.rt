@@ -41,7 +41,7 @@ impl ReservationState {
     ) -> Result<ReservationChange, OutFault>
         ensures { result ≡ release_outcome rules self.now caller kind }
     {
-        if rules.releases_nothing_by_any_type && !self.is_holder(caller) {
+        if rules.release_of_nothing_ignores_type && !self.is_holder(caller) {
             return Ok(self.unchanged());
         }
         self.release_typed(caller, kind.ok_or(OutFault::BadType)?)

@@ -29,8 +29,8 @@ const COR_DIS: u8 = 0x80;
 
 const WR_UNCOR: u8 = 0x40;
 
-/// An extent of logical blocks in the CDBs of READ(10), WRITE(10), SYNCHRONIZE CACHE(10) and
-/// PRE-FETCH(10) (SBC-3, 5.11, 5.33, 5.26 and 5.8).
+/// An extent of logical blocks in the CDBs of READ(10), WRITE(10), VERIFY(10), SYNCHRONIZE
+/// CACHE(10) and PRE-FETCH(10) (SBC-3, 5.11, 5.33, 5.29, 5.26 and 5.8).
 #[derive(Clone, Copy, Debug, PartialEq, Eq)]
 pub struct Extent10 {
     /// The first block's address.

@@ -22,7 +22,7 @@ use byteorder::{BigEndian, ByteOrder};
 /// BYTCHK, with its code: what the blocks are compared with, byte by byte (SBC-3, 5.29).
 #[derive(Clone, Copy, Debug, PartialEq, Eq)]
 pub enum ByteCheck {
-    /// Nothing: the medium alone is verified.
+    /// Nothing: only the medium is verified.
     Nothing = 0,
     /// The blocks of the data-out.
     DataOut = 1,
