@@ -16,7 +16,7 @@ use Rattle.sg_target.specs.Step.{Step, outcome, refused}
 use Rattle.sg_target.specs.declared.refusal.Reason.TheVariants.{UnitAttention as Attention}
 use Rattle.sg_target.specs.declared.refusal.Refusal.TheVariants.{CheckCondition}
 use Rattle.sg_target.proofs.LiftLemmas.{lifted, outcome-by}
-use Rattle.sg_fencing.specs.Laws.{OnlyThreeCommandsChangeTheDisk, may_change_blocks}
+use Rattle.sg_fencing.specs.Laws.{OtherCommandsLeaveTheDisk, may_change_blocks}
 use Rattle.sg_fencing.proofs.OperationLemmas.{asked-reads, changes_blocks}
 
 -- ---- An operation
@@ -64,7 +64,7 @@ effect-leaves state i (Ok effect) h =
     (λ none. h)
 effect-leaves state i (Err refusal) h = refused-leaves state i refusal
 
-pub command-leaves : OnlyThreeCommandsChangeTheDisk
+pub command-leaves : OtherCommandsLeaveTheDisk
 command-leaves state i cdb data_out other =
     lifted state i cdb data_out (λ (done : Step). done.state.disk ≡ state.disk)
     (refused-leaves state i)

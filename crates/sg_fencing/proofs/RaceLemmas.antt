@@ -26,7 +26,7 @@ use Rattle.sg_fencing.specs.Exchanges.{ExchangesThatNothingForbidsEndWithGood, I
 use Rattle.sg_fencing.specs.Exchanges.{Competes, ExchangesReplaceWhatTheyExpect}
 use Rattle.sg_fencing.specs.Exchanges.{RacesHaveAtMostOneWinner, blocks_to_exchange}
 use Rattle.sg_fencing.specs.Exchanges.{is_compare_and_write, is_good, winners}
-use Rattle.sg_fencing.specs.Laws.{OnlyThreeCommandsChangeTheDisk, may_change_blocks}
+use Rattle.sg_fencing.specs.Laws.{OtherCommandsLeaveTheDisk, may_change_blocks}
 use Rattle.sg_fencing.proofs.FreeExchangeLemmas.{read-exchange}
 use Rattle.sg_fencing.proofs.FencedRunLemmas.{answers_in}
 
@@ -67,7 +67,7 @@ winners-more state call calls = one-more call (is_compare_and_write call) (step_
 -- ---- One command
 
 module _ (limits : LimitsAreKept) (exchange : ExchangesReplaceWhatTheyExpect)
-    (leaves : OnlyThreeCommandsChangeTheDisk) (lba : ℕ) (old : List ℕ) where
+    (leaves : OtherCommandsLeaveTheDisk) (lba : ℕ) (old : List ℕ) where
   abbrev the_block : State → List ℕ
   the_block state = blocks_at state (extent lba 1)
 
@@ -228,7 +228,7 @@ module _ (limits : LimitsAreKept) (exchange : ExchangesReplaceWhatTheyExpect)
   one-wins state (first ∷ calls) w race (suc n) call answer e f exchanges good =
       one-wins (step_of state first).state calls (kept state first w) race.1 n call answer e f exchanges good
 
-pub decided : LimitsAreKept → ExchangesReplaceWhatTheyExpect → OnlyThreeCommandsChangeTheDisk
+pub decided : LimitsAreKept → ExchangesReplaceWhatTheyExpect → OtherCommandsLeaveTheDisk
     → RacesHaveAtMostOneWinner
 decided limits exchange leaves state lba old calls w race =
     let each = recursion_from_All (Takes limits exchange leaves lba old) calls race in
@@ -239,7 +239,7 @@ decided limits exchange leaves state lba old calls w race =
     }
 
 -- if the first wins, nobody else does
-first-won : LimitsAreKept → ExchangesReplaceWhatTheyExpect → OnlyThreeCommandsChangeTheDisk
+first-won : LimitsAreKept → ExchangesReplaceWhatTheyExpect → OtherCommandsLeaveTheDisk
     → (state : State) (lba : ℕ) (old : List ℕ) (first : Call) (others : List Call)
     → IsWithinLimits state → IsRace lba old (first ∷ others)
     → wins state first ≡ true → winners state (first ∷ others) ≡ 1
@@ -248,7 +248,7 @@ first-won limits exchange leaves state lba old first others w race wins_it =
     let most = at-most-one limits exchange leaves lba old state (first ∷ others) w each in
     omega (arith, most, winning limits exchange leaves lba old state first others wins_it)
 
-pub first-wins-race : LimitsAreKept → ExchangesReplaceWhatTheyExpect → OnlyThreeCommandsChangeTheDisk
+pub first-wins-race : LimitsAreKept → ExchangesReplaceWhatTheyExpect → OtherCommandsLeaveTheDisk
     → ExchangesThatNothingForbidsEndWithGood → TheFirstOfARaceWins
 first-wins-race limits exchange leaves free state lba old first others w race is nothing =
     let i = first.initiator in

@@ -264,7 +264,8 @@ module _ (state : State) (i : ℕ) (data_out : List ℕ) where
   write-other : (out : Extent) (unsupported : Option ℕ)
       → IsOtherIfRefused
       (checked_next
-      (checked_next (requested (write (config_of state) out unsupported data_out) data_out) (checked_operation state))
+      (checked_next (requested (write (config_of state) out unsupported data_out) data_out)
+      (checked_operation state))
       (effect_of state i))
   write-other out unsupported =
       let d = write (config_of state) out unsupported data_out in

@@ -54,7 +54,8 @@ OnlyReadsReturnData =
     (outcome others initiator (effect_of others initiator operation)).answer
     ≡ (outcome state initiator (effect_of state initiator operation)).answer
 
--- The commands that may change blocks: each WRITE, WRITE AND VERIFY and WRITE SAME, and UNMAP.
+-- The commands that may change blocks: each WRITE, WRITE AND VERIFY and WRITE SAME, COMPARE AND WRITE,
+-- and UNMAP.
 abbrev pub may_change_blocks : Result Command CdbFault → Bool
 may_change_blocks (Ok (command.CompareAndWrite c)) = true
 may_change_blocks (Ok (command.Write6 c)) = true
@@ -72,8 +73,8 @@ may_change_blocks _ = false
 -- Every other command leaves the disk as it was, whatever its answer is: the capacity, the pool,
 -- and each block with its provisioning status. SYNCHRONIZE CACHE and WRITE LONG do so too, although a
 -- reservation treats them as commands that write.
-abbrev pub OnlyThreeCommandsChangeTheDisk : Type 0
-OnlyThreeCommandsChangeTheDisk =
+abbrev pub OtherCommandsLeaveTheDisk : Type 0
+OtherCommandsLeaveTheDisk =
     (state : State) (initiator : ℕ) (cdb data_out : List ℕ)
     → may_change_blocks (command_of cdb) ≡ false
     → (step state initiator cdb data_out).state.disk ≡ state.disk

@@ -9,7 +9,7 @@ ghost use Rattle.sg_fencing.specs.Group.{EqualGroupViewsEndAlike, EqualGroupView
 ghost use Rattle.sg_fencing.specs.Group.{NewcomersAreSeen, OutsidersMayBeLeftOut};
 ghost use Rattle.sg_fencing.specs.Laws.{ConflictChangesNothing, OnlyReadsReturnData};
 ghost use Rattle.sg_fencing.specs.Laws.{OnlyWritesChangeBlocks};
-ghost use Rattle.sg_fencing.specs.Laws.{OnlyThreeCommandsChangeTheDisk, RefusedByReservation};
+ghost use Rattle.sg_fencing.specs.Laws.{OtherCommandsLeaveTheDisk, RefusedByReservation};
 ghost use Rattle.sg_fencing.specs.Laws.{RefusedChangesNothing, RefusedReturnsNothing};
 ghost use Rattle.sg_fencing.specs.Laws.{WritesOverUsedAddressesAreNeverRefusedForSpace};
 ghost use Rattle.sg_fencing.specs.Laws.{WritesThatNothingForbidsEndWithGood};
@@ -55,11 +55,11 @@ pub fn only_reads_return_data()
     remapping_takes_what_is_needed();
 }
 
-/// Only WRITE, WRITE SAME and UNMAP change blocks. Every other command leaves the disk as it was,
-/// whatever its answer is. SYNCHRONIZE CACHE and WRITE LONG do so too, although a reservation treats
-/// them as commands that write.
-pub fn only_three_commands_change_the_disk()
-    ensures { OnlyThreeCommandsChangeTheDisk }
+/// Only WRITE, WRITE SAME, COMPARE AND WRITE and UNMAP change blocks. Every other command leaves the
+/// disk as it was, whatever its answer is. SYNCHRONIZE CACHE and WRITE LONG do so too, although a
+/// reservation treats them as commands that write.
+pub fn other_commands_leave_the_disk()
+    ensures { OtherCommandsLeaveTheDisk }
 {}
 
 /// A WRITE whose addresses are all mapped or anchored takes no more of the pool. So no check
@@ -99,7 +99,7 @@ pub fn races_have_at_most_one_winner()
 {
     limits_are_kept();
     exchanges_replace_what_they_expect();
-    only_three_commands_change_the_disk();
+    other_commands_leave_the_disk();
 }
 
 /// A COMPARE AND WRITE ends with GOOD if nothing forbids it. That is so if nothing forbids a WRITE of
@@ -117,7 +117,7 @@ pub fn the_first_of_a_race_wins()
 {
     limits_are_kept();
     exchanges_replace_what_they_expect();
-    only_three_commands_change_the_disk();
+    other_commands_leave_the_disk();
     exchanges_that_nothing_forbids_end_with_good();
 }
 

@@ -4,4 +4,4 @@ use Rattle.sg_fencing.proofs.laws.races_have_at_most_one_winner.Goals as goal
 pub returns : goal.returns
 returns c =
     decided c.limits_are_kept.ensures c.exchanges_replace_what_they_expect.ensures
-    c.only_three_commands_change_the_disk.ensures
+    c.other_commands_leave_the_disk.ensures

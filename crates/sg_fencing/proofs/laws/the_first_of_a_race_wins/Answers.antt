@@ -4,5 +4,5 @@ use Rattle.sg_fencing.proofs.laws.the_first_of_a_race_wins.Goals as goal
 pub returns : goal.returns
 returns c =
     first-wins-race c.limits_are_kept.ensures c.exchanges_replace_what_they_expect.ensures
-    c.only_three_commands_change_the_disk.ensures
+    c.other_commands_leave_the_disk.ensures
     c.exchanges_that_nothing_forbids_end_with_good.ensures

@@ -1,5 +1,5 @@
 use Rattle.sg_fencing.proofs.DiskLemmas.{command-leaves}
-use Rattle.sg_fencing.proofs.laws.only_three_commands_change_the_disk.Goals as goal
+use Rattle.sg_fencing.proofs.laws.other_commands_leave_the_disk.Goals as goal
 
 pub returns : goal.returns
 returns c = command-leaves
