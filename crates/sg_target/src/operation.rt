@@ -265,7 +265,8 @@ pub(crate) fn operation_of<'a>(
 }
 
 /// The operation that a block command asks for.
-#[inline(always)]
+// Not inlined: each command would pay for a copy of the operation.
+#[inline(never)]
 fn block_operation_of<'a>(
     config: &Config,
     command: &Command,
