@@ -3,8 +3,8 @@ use sg_block_map::BlockMap;
 use sg_extent_map::ExtentMap;
 use sg_pages::Identity;
 use sg_plain_map::PlainMap;
-use sg_store::Store;
-use sg_target::{BUFFER_LENGTH, Config, Happening, Reply, Status, Target};
+use sg_store::{BLOCK_LENGTH, Store};
+use sg_target::{Config, Happening, Reply, Status, Target};
 use sg_wire::{Initiator, Profile};
 use std::alloc::Global;
 
@@ -13,6 +13,9 @@ use std::alloc::Global;
 pub(crate) const BLOCKS: u64 = 256;
 
 const POOL: u32 = 48;
+
+/// The length of the buffers for data-in: no command reads more than all blocks of the disk.
+const BUFFER_LENGTH: usize = BLOCKS as usize * BLOCK_LENGTH;
 
 /// The same disk over each store, with the buffers of their data-in.
 #[derive(Drop)]
@@ -65,13 +68,13 @@ impl Disks {
     ) -> Option<Status> {
         let plain = self
             .plain
-            .execute(initiator, cdb, data_out, &mut self.of_plain);
+            .execute_within(initiator, cdb, data_out, &mut self.of_plain)?;
         let runs = self
             .runs
-            .execute(initiator, cdb, data_out, &mut self.of_runs);
+            .execute_within(initiator, cdb, data_out, &mut self.of_runs)?;
         let extents = self
             .extents
-            .execute(initiator, cdb, data_out, &mut self.of_extents);
+            .execute_within(initiator, cdb, data_out, &mut self.of_extents)?;
         let are_equal = are_equal(&plain, &runs)
             && are_equal(&plain, &extents)
             && self.of_plain[..plain.data_in] == self.of_runs[..runs.data_in]
