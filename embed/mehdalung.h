@@ -116,7 +116,7 @@ typedef struct mdl_identity {
 /* The commands that a disk has. docs/PROFILE.md of the source lists them. */
 typedef enum mdl_profile {
     MDL_PROFILE_BASE = 0,    /* the commands that every disk has */
-    MDL_PROFILE_EXTENDED = 1 /* these and WRITE LONG(10), and a far larger pool */
+    MDL_PROFILE_EXTENDED = 1 /* these and more, and a far larger pool */
 } mdl_profile;
 
 #define MDL_GOOD 0x00

@@ -100,9 +100,12 @@ static int senses(uint32_t initiator, unsigned code)
         && (unsigned)(data_in[12] << 8 | data_in[13]) == code;
 }
 
+static uint32_t made; /* the profile of the disk */
+
 static void make_quiet(uint32_t profile)
 {
     mdl_free(&disk);
+    made = profile;
     WANT(mdl_make_with_profile(&disk, profile, BLOCKS, POOL, NULL) == MDL_OK);
     WANT(only_report(ALL, POWER_ON));
 }
@@ -158,13 +161,15 @@ static int select_swp(int swp, int save)
     return status_of(0, cdb, sizeof cdb, page, sizeof page);
 }
 
+/* A WRITE is refused because SWP is 1: WRITE PROTECTED, or of a base disk LOGICAL UNIT SOFTWARE WRITE
+ * PROTECTED. */
 static int is_write_protected(void)
 {
     static const uint8_t write[10] = { 0x2A, [5] = 40, [8] = 1 }, block[MDL_BLOCK_LENGTH];
     int status = status_of(0, write, sizeof write, block, sizeof block);
 
     return status == MDL_CHECK_CONDITION && reply.sense[2] == 7 && reply.sense[12] == 0x27
-        && reply.sense[13] == 2;
+        && reply.sense[13] == (made == MDL_PROFILE_BASE ? 2 : 0);
 }
 
 /* What initiator 0 sees of blocks, registrations, reservation and sizes. */

@@ -45,8 +45,8 @@ fn print_reply(rt: &HostRuntime, name: &str, reply: &Reply) {
 fn run(rt: &HostRuntime) -> Result<(), AllocError> {
     let config = Config::new(BLOCKS, POOL, Identity::standard()).unwrap();
     let mut disk: Target<BlockMap> = Target::new(rt.alloc(), config)?;
-    let mut data_in = [0; BUFFER_LENGTH];
     let initiator = Initiator::new(0).unwrap();
+    let mut data_in = vec![in rt.alloc(); 0; BUFFER_LENGTH]?;
 
     // The first command reports that the disk was powered on, and is not executed.
     let cdb = write_block(7);

@@ -1,5 +1,8 @@
 // Commands to a target and its replies: raw sense data, counts, sinks and the bytes after data-in,
 // which scripts do not show.
+ghost use Rattle.std.specs.Prelude.{◌≡◌, IfOk, vec_len};
+ghost use Rattle.sg_target.specs.declared.target.TheConstants.{BUFFER_LENGTH};
+
 mod configuration;
 mod data_in;
 mod log;
@@ -9,7 +12,7 @@ use sg_pages::Identity;
 use sg_plain_map::PlainMap;
 use sg_target::{BUFFER_LENGTH, Config, Reply, Status, Target};
 use sg_wire::Initiator;
-use std::alloc::Global;
+use std::alloc::{AllocError, Global};
 use std::test::Fail;
 
 const READY: &[u8] = &[0x00, 0, 0, 0, 0, 0];
@@ -62,7 +65,15 @@ fn out_of_range([a, b, c, d]: [u8; 4]) -> [u8; 18] {
 #[derive(Drop)]
 struct Disk {
     target: Target<PlainMap>,
-    buf: [u8; BUFFER_LENGTH],
+    buf: Vec<u8>,
+    ghost room: { vec_len buf ≡ BUFFER_LENGTH },
+}
+
+/// A buffer of `len` bytes, on the heap: with one for each test the stack would be too small.
+fn buffer(alloc: Global, len: usize) -> Result<Vec<u8>, AllocError>
+    ensures { IfOk result (λ buffer. vec_len buffer ≡ len) }
+{
+    vec![in alloc; 0xA5; len]
 }
 
 impl Disk {
@@ -70,7 +81,7 @@ impl Disk {
         let config = Config::new(4_096, 4, Identity::standard()).or(Err("no configuration"))?;
         Ok(Disk {
             target: Target::new(alloc, config)?,
-            buf: [0xA5; BUFFER_LENGTH],
+            buf: buffer(alloc, BUFFER_LENGTH)?,
         })
     }
 
