@@ -27,6 +27,7 @@ uint32_t mehdalung_sense(const uint8_t *sense, size_t length, mdl_sense *fields)
 uint8_t mehdalung_exit_status(uint8_t status, const uint8_t *sense, size_t sense_length);
 size_t mehdalung_decode(uint32_t kind, const uint8_t *data_in, size_t length, uint8_t *text,
                         size_t text_length);
+size_t mehdalung_faults(mdl_disk *disk, uint8_t *text, size_t text_length);
 uint32_t mehdalung_tool(const uint8_t *text, size_t length, uint8_t *data_out,
                         size_t data_out_length, mdl_command *command);
 size_t mehdalung_version(uint8_t *text, size_t text_length);
@@ -205,6 +206,15 @@ size_t mdl_decode(uint32_t kind, const uint8_t *data_in, size_t length, char *te
         return MDL_NO_TEXT;
     return mehdalung_decode(kind, data_in ? data_in : nothing, length,
                             text ? (uint8_t *)text : none, text_length);
+}
+
+size_t mdl_faults(mdl_disk *disk, char *text, size_t text_length)
+{
+    uint8_t none[1];
+
+    if (!disk || (!text && text_length))
+        return MDL_NO_TEXT;
+    return mehdalung_faults(disk, text ? (uint8_t *)text : none, text_length);
 }
 
 mdl_error mdl_tool(const char *words, uint8_t *data_out, size_t data_out_length,

@@ -336,6 +336,21 @@ mdl_error mdl_happen(mdl_disk *disk, const mdl_happening *happening);
  * first that applies is returned. The record then stays as it was. */
 mdl_error mdl_read_happening(const char *words, mdl_happening *happening);
 
+/* mdl_faults, mdl_decode and mdl_version return this if there is no text. It is the greatest size_t, so
+ * one more is 0. Test for it before you make room for a length and a zero. */
+#define MDL_NO_TEXT ((size_t)-1)
+
+/* Writes into `text` which faults are armed, each in a line with its number and the words that arm it.
+ * Lines below it say how many commands of which initiators still meet it. Without a fault the text is
+ * empty. The verb `faults` of a script prints the same text, which docs/SCRIPT.md of the source shows.
+ * The text is cut to `text_length` bytes, and its last byte there is a zero. Returns the whole length
+ * without the zero, as snprintf does.
+ *     text  text_length bytes. It may be null if its length is 0.
+ *
+ * Returns MDL_NO_TEXT if there is no disk, if a pointer is null that must not be, or if memory runs
+ * out. Then `text` stays as it was. */
+size_t mdl_faults(mdl_disk *disk, char *text, size_t text_length);
+
 /* Says which initiators are registered by PERSISTENT RESERVE OUT. Bit i of `mask` is set if
  * initiator i is registered. No other bit is set. A transport keeps the number of such an
  * initiator's port for it. The disk executes nothing, and reports or clears no unit attention.
@@ -388,12 +403,22 @@ typedef enum mdl_kind {
     MDL_RESERVATION = 9,       /* parameter data of READ RESERVATION */
     MDL_CAPABILITIES = 10,     /* parameter data of REPORT CAPABILITIES */
     MDL_FULL_STATUS = 11,      /* parameter data of READ FULL STATUS */
-    MDL_SENSE = 12             /* sense data */
+    MDL_SENSE = 12,            /* sense data */
+    /* A script on an extended disk shows these. The first three are in the place of MDL_INQUIRY,
+     * MDL_VPD and MDL_SENSE there. */
+    MDL_INQUIRY_EXTENDED = 13, /* standard INQUIRY data, with version descriptors */
+    MDL_VPD_EXTENDED = 14,     /* the same as MDL_VPD, with more pages' fields */
+    MDL_SENSE_EXTENDED = 15,   /* sense data, of deferred errors too */
+    MDL_LUNS = 16,             /* parameter data of REPORT LUNS */
+    MDL_ALL_COMMANDS = 17,     /* SUPPORTED OPERATION CODES, of all */
+    MDL_ONE_COMMAND = 18,      /* SUPPORTED OPERATION CODES, of one */
+    MDL_TASK_MANAGEMENT = 19,  /* task management functions */
+    MDL_LOG_PAGE = 20,         /* a page of LOG SENSE */
+    MDL_CAPACITY_10 = 21,      /* data of READ CAPACITY(10) */
+    MDL_CAPACITY_16 = 22,      /* data of READ CAPACITY(16) */
+    MDL_DEFECTS_10 = 23,       /* data of READ DEFECT DATA(10) */
+    MDL_DEFECTS_12 = 24        /* data of READ DEFECT DATA(12) */
 } mdl_kind;
-
-/* mdl_decode and mdl_version return this if there is no text. It is the greatest size_t, so one
- * more is 0. Test for it before you make room for a length and a zero. */
-#define MDL_NO_TEXT ((size_t)-1)
 
 /* Writes into `text` what an answer contains, in lines. The text is cut to `text_length` bytes, and
  * its last byte there is a zero. Returns the whole length without the zero, as snprintf does.
@@ -416,9 +441,9 @@ typedef struct mdl_command {
 } mdl_command;
 
 /* Plans the command that the words of a tool ask for, such as "sg_vpd -p lbpv". The first word is
- * the name of the tool: sg_inq, sg_vpd, sg_modes, sg_unmap, sg_get_lba_status or sg_persist. The
- * other words are its options, which docs/SCRIPT.md of the source lists. A line of a script has the
- * same words after an initiator. mdl_execute sends the command, and mdl_decode prints its data-in.
+ * the name of a tool, such as sg_inq or sg_persist. The other words are its options. docs/SCRIPT.md
+ * of the source lists both. A line of a script has the same words after an initiator. The call knows
+ * the tools of an extended disk, too, whatever disk there is. mdl_execute sends the command, and mdl_decode prints its data-in.
  *     words     The call reads them, up to a zero. Blanks or tabs are between them.
  *     data_out  data_out_length bytes, at least MDL_DATA_OUT_LENGTH. The call writes data-out to
  *               the first command->data_out_length of them. The bytes after these stay as they

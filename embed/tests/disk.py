@@ -132,7 +132,9 @@ with Disk(64, 4) as disk:
     disk.happen("fault medium 3/11/00 to 2 blocks 2 2 healed")
     fields = disk.execute(2, READ_FIVE).fields()
     assert (fields.key, fields.asc, fields.ascq, fields.information) == (3, 0x11, 0x00, 2)
+    assert disk.faults() == "  0: medium 3/11/00 blocks 2 2 healed to 2\n"
     disk.happen("heal 0")
+    assert disk.faults() == ""
     assert disk.execute(2, READ_FIVE).status == GOOD
     assert read_happening("grow 0x80").blocks == 128
     for words, why in (("faults", Error.UNKNOWN_VERB), ("", Error.UNKNOWN_VERB),

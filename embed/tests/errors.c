@@ -70,7 +70,7 @@ static void decode_every_length(void)
     size_t length;
 
     memset(untouched, '?', sizeof untouched);
-    for (kind = MDL_NOTHING; kind <= MDL_SENSE; kind++) {
+    for (kind = MDL_NOTHING; kind <= MDL_DEFECTS_12; kind++) {
         memset(whole, '?', sizeof whole);
         length = mdl_decode(kind, bytes, sizeof bytes, whole, sizeof whole);
         WANT(length < sizeof cut && strlen(whole) == length && whole[length + 1] == '?');
@@ -79,7 +79,7 @@ static void decode_every_length(void)
         WANT(is_cut(kind, bytes, sizeof bytes, whole, length));
     }
     memset(cut, '?', sizeof cut);
-    kind = MDL_SENSE + 1;
+    kind = MDL_DEFECTS_12 + 1;
     WANT(mdl_decode(kind, bytes, sizeof bytes, cut, sizeof cut) == MDL_NO_TEXT);
     kind = 256 + MDL_HEX;
     WANT(mdl_decode(kind, bytes, sizeof bytes, cut, sizeof cut) == MDL_NO_TEXT);
@@ -155,7 +155,11 @@ static void refuse_words(void)
 static void plan_page(long held_before)
 {
     static const uint8_t page[MDL_CDB_LENGTH] = { 0x12, 1, 0xB2, 0, 252 };
+    static const uint8_t capacity[MDL_CDB_LENGTH] = { 0x9E, 0x10, [13] = 32 };
 
+    WANT(mdl_tool("sg_readcap --16", data_out, sizeof data_out, &command) == MDL_OK);
+    WANT(!memcmp(command.cdb, capacity, sizeof capacity) && command.cdb_length == 16);
+    WANT(command.kind == MDL_CAPACITY_16 && command.data_out_length == 0);
     requests = 0;
     WANT(mdl_tool("sg_vpd -p lbpv", data_out, sizeof data_out, &command) == MDL_OK);
     WANT(requests > 0 && !memcmp(command.cdb, page, sizeof page) && command.cdb_length == 6);

@@ -202,6 +202,29 @@ static void stop_short(void)
     WANT(happens(MDL_DISARM_ALL) == MDL_OK && is_filled(6, 0x99) && is_filled(7, 0x99));
 }
 
+/* The text of the armed faults, cut to a buffer, and when there is none. */
+static void list_them(void)
+{
+    static const char whole[] = "  0: arrival busy times 2 to 1\n    to 1: times 1\n"
+                                "  1: medium 3/11/00 blocks 10 2 healed to 0\n";
+    const mdl_fault busy = { .initiators = 2, .outcome = MDL_ARRIVAL_BUSY, .times = 2 };
+    const mdl_fault bad = { .initiators = 1, .outcome = MDL_MEDIUM_CHECK_CONDITION, .lba = 10,
+                            .count = 2, .healed_by_writes = 1, .key = 3, .asc = 0x11 };
+    char text[sizeof whole + 1], cut[8];
+
+    memset(text, 'x', sizeof text);
+    WANT(mdl_faults(&disk, text, sizeof text) == 0 && text[0] == '\0' && text[1] == 'x');
+    WANT(arm(busy) == MDL_OK && arm(bad) == MDL_OK && test_ready(1) == MDL_BUSY);
+    WANT(mdl_faults(&disk, NULL, 0) == sizeof whole - 1);
+    WANT(mdl_faults(&disk, text, sizeof text) == sizeof whole - 1 && strcmp(text, whole) == 0);
+    WANT(text[sizeof whole] == 'x');
+    WANT(mdl_faults(&disk, cut, sizeof cut) == sizeof whole - 1 && strcmp(cut, "  0: ar") == 0);
+    WANT(mdl_faults(NULL, cut, sizeof cut) == MDL_NO_TEXT && mdl_faults(&disk, NULL, 1) == MDL_NO_TEXT);
+    WANT(mdl_faults(&no_disk, cut, sizeof cut) == MDL_NO_TEXT && strcmp(cut, "  0: ar") == 0);
+    WANT(test_ready(1) == MDL_BUSY && test_ready(1) == MDL_GOOD);
+    WANT(happens(MDL_DISARM_ALL) == MDL_OK && mdl_faults(&disk, text, sizeof text) == 0);
+}
+
 /* Only the commands of some initiators with a code, after others. Faults outlive a power cycle. */
 static void meet_some(void)
 {
@@ -310,6 +333,7 @@ int main(void)
         stop_at_medium();
         stop_afterwards();
         stop_short();
+        list_them();
         fill_the_numbers();
         refuse();
         meet_some();

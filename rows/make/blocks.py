@@ -1,8 +1,8 @@
 """The commands that read and write logical blocks, and the commands of provisioning (SBC-3, 5).
 
-The lines of each command are in the order of checks 7 to 14 of docs/PROFILE.md. These are
-unsupported values, data-out, the parameter list, addresses, write protection, equal bytes, and room in
-the pool. Check 12 is in `faults`.
+The lines of each command are in the order of checks 7 to 15 of docs/PROFILE.md. These are
+unsupported values, data-out, the parameter list, a stopped unit, addresses, write protection,
+equal bytes, and room in the pool. Check 13 is in `faults`.
 """
 
 from provisioning import BLOCK_LENGTH, ZEROS
@@ -13,7 +13,9 @@ from sense import (
     ILLEGAL_REQUEST,
     INVALID_FIELD_IN_COMMAND_INFORMATION_UNIT,
     LOGICAL_BLOCK_ADDRESS_OUT_OF_RANGE,
+    LOGICAL_UNIT_NOT_READY_INITIALIZING_COMMAND_REQUIRED,
     LOGICAL_UNIT_SOFTWARE_WRITE_PROTECTED,
+    NOT_READY,
     READ_ERROR_LBA_MARKED_BAD_BY_APPLICATION_CLIENT,
     UNRECOVERED_READ_ERROR,
     WRITE_PROTECTED,
@@ -22,14 +24,20 @@ from sense import (
     parameter_list_length_error,
 )
 
-# These four are in the block limits page, `pages.block_limits`.
+# FORMAT UNIT (SBC-3, 5.3.2): DEFECT LIST LENGTH of the short header and of the long one begins there.
+# Byte 1 has DPRY, DCRT and STPF that FOV lets be 1, and IMMED.
+DEFECT_LIST_LENGTH_AT = {0: 2, 1: 4}
+FOV, WITH_FOV, IMMED = 0x80, 0x70, 0x02
+
+# These five are in the block limits page, `pages.block_limits`.
 MAXIMUM_TRANSFER_LENGTH = {"base": 256, "extended": 2048}
 MAXIMUM_COMPARE_AND_WRITE_LENGTH = {"base": 0, "extended": 255}
+MAXIMUM_ATOMIC_TRANSFER_LENGTH = {"base": 0, "extended": 2048}
 MAXIMUM_WRITE_SAME_LENGTH = {"base": 65536, "extended": 65535}
 MAXIMUM_UNMAP_BLOCK_DESCRIPTOR_COUNT = 64
 
 
-# --------------------------------------------------------------------------------- checks 7 to 11
+# --------------------------------------------------------------------------------- checks 7 to 12
 
 
 def transfer_length(device, command):
@@ -51,8 +59,16 @@ def need_data_out(device, data_out, length):
     raise CheckCondition(ILLEGAL_REQUEST, INVALID_FIELD_IN_COMMAND_INFORMATION_UNIT)
 
 
+def check_ready(device):
+    """START STOP UNIT has stopped the unit (SBC-3, 5.25)."""
+    if device.stopped:
+        raise CheckCondition(NOT_READY, LOGICAL_UNIT_NOT_READY_INITIALIZING_COMMAND_REQUIRED)
+
+
 def check_addresses(device, extents):
-    """INFORMATION is the first address past the last block (SPC-4, 4.5.2.2)."""
+    """A command that names blocks needs a unit that is ready, even if it names none. INFORMATION is the
+    first address past the last block (SPC-4, 4.5.2.2)."""
+    check_ready(device)
     capacity = device.provisioning.capacity
     for address, count in extents:
         if address + count > capacity:
@@ -88,6 +104,25 @@ def write(device, _initiator, command, data_out):
     check_write_protection(device, [(address, count)])
     device.provisioning.write(
         address, count, lambda offset: data[BLOCK_LENGTH * offset:BLOCK_LENGTH * (offset + 1)])
+    return b""
+
+
+def write_atomic(device, initiator, command, data_out):
+    """WRITE ATOMIC(16), of SBC-4: each WRITE is atomic, and no block is divided at a boundary"""
+    if command["boundary"]:
+        raise command.unsupported("boundary")
+    if command["count"] > MAXIMUM_ATOMIC_TRANSFER_LENGTH[device.profile]:
+        raise command.unsupported("count")
+    return write(device, initiator, command, data_out)
+
+
+def orwrite(device, _initiator, command, data_out):
+    """ORWRITE(16) (SBC-3, 5.5): a bit is 1 afterwards if it was 1 or is 1 in data-out"""
+    address, count = command["address"], transfer_length(device, command)
+    data = need_data_out(device, data_out, BLOCK_LENGTH * count)
+    check_addresses(device, [(address, count)])
+    check_write_protection(device, [(address, count)])
+    device.provisioning.orwrite(address, count, data)
     return b""
 
 
@@ -145,6 +180,36 @@ def write_same(device, _initiator, command, data_out):
     return b""
 
 
+def format_unit(device, _initiator, command, data_out):
+    """SBC-3, 5.3: all blocks are deallocated. With FMTDATA there is a header that asks for no more."""
+    if command["fmtdata"]:
+        check_format_header(need_data_out(
+            device, data_out, DEFECT_LIST_LENGTH_AT[command["longlist"]] * 2), command["longlist"])
+    return erase(device)
+
+
+def check_format_header(header, is_long):
+    allowed = bytearray(len(header))  # the bits of each byte that may be 1
+    allowed[1] = FOV | WITH_FOV | IMMED if header[1] & FOV else IMMED
+    for place, byte in enumerate(header):
+        if byte & ~allowed[place]:
+            raise invalid_field_in_parameter_list(min(place, DEFECT_LIST_LENGTH_AT[is_long]))
+
+
+def sanitize(device, _initiator, command, _data_out):
+    """SBC-3, 5.24: BLOCK ERASE and CRYPTOGRAPHIC ERASE do as FORMAT UNIT; nothing has ever failed"""
+    if command["parameter_list_length"]:
+        raise command.unsupported("parameter_list_length")
+    return b"" if command.name == "SANITIZE, EXIT FAILURE MODE" else erase(device)
+
+
+def erase(device):
+    all_blocks = [(0, device.provisioning.capacity)]
+    check_write_protection(device, all_blocks)
+    device.provisioning.unmap(all_blocks)
+    return b""
+
+
 def check_cached_range(device, _initiator, command, _data_out):
     """SYNCHRONIZE CACHE (SBC-3, 5.26 and 5.27) and PRE-FETCH (5.8 and 5.9): nothing is cached.
 
@@ -155,6 +220,15 @@ def check_cached_range(device, _initiator, command, _data_out):
     if count == 0 and device.profile == "extended":
         count = 1
     check_addresses(device, [(command["address"], count)])
+    return b""
+
+
+def start_stop_unit(device, _initiator, command, _data_out):
+    """START STOP UNIT (SBC-3, 5.25): there are no power conditions, and no medium to eject"""
+    for field in ("modifier", "power_condition", "loej"):
+        if command[field]:
+            raise command.unsupported(field)
+    device.stopped = not command["start"]
     return b""
 
 
@@ -194,6 +268,8 @@ def read_capacity_16(device, _initiator, command, _data_out):
 def unmap(device, _initiator, command, data_out):
     """UNMAP (SBC-3, 5.28): all extents are checked before the first is unmapped or anchored"""
     extents = unmap_extents(need_data_out(device, data_out, command["list_length"]))
+    if device.profile == "extended":  # SBC-3, 5.28.2: a descriptor of no block is no error
+        extents = [(address, count) for address, count in extents if count]
     check_addresses(device, extents)
     check_write_protection(device, extents)
     change = device.provisioning.anchor if command["anchor"] else device.provisioning.unmap

@@ -1,7 +1,7 @@
 """The device server: the order of checks, happenings, and the way to each command.
 
 docs/PROFILE.md, "The order of checks", numbers the checks; the numbers below are the same. Checks 1
-to 6 are here and in `layouts.Command`. Checks 7 to 14 are in `blocks`, `pages`, `modes`, `reports`
+to 6 are here and in `layouts.Command`. Checks 7 to 15 are in `blocks`, `pages`, `modes`, `reports`
 and `reservations`, in each command in the order of its lines.
 """
 
@@ -15,7 +15,7 @@ import reports
 import reservations
 import sense
 from attentions import with_condition
-from layouts import OPERATION_CODES, Command, layout_of
+from layouts import OPERATION_CODES, Command, class_of, layout_of
 from provisioning import Provisioning
 from sense import CheckCondition, Sense, invalid_field_in_cdb
 
@@ -42,6 +42,7 @@ class Device:
     def __init__(self, capacity, pool, profile="base"):
         self.profile = profile
         self.provisioning = Provisioning(capacity, pool)
+        self.stopped = False
         self.modes = modes.Modes()
         self.reservations = reservations.Reservations()
         self.faults = faults.Faults()  # they outlive resets and power cycles
@@ -58,6 +59,7 @@ class Device:
 
     def power_cycle(self):
         """Power is lost, and is on again."""
+        self.stopped = False
         self.modes.become_saved()
         self.reservations.power_cycle()
         self.power_on()
@@ -70,6 +72,7 @@ class Device:
 
     def reset(self, code):
         """SAM-5, 6.3: registrations and the reservation stay, and each initiator is told."""
+        self.stopped = False
         self.modes.become_saved()
         self.raise_attention(INITIATORS, code)
 
@@ -101,28 +104,41 @@ class Device:
         """What a command that ends with GOOD returns; raises whatever refuses it."""
         if not cdb:  # 1
             raise invalid_field_in_cdb(0)
-        if self.attentions[initiator] and cdb[0] not in UNBLOCKED[self.profile]:  # 2
+        blocked = self.attentions[initiator] and cdb[0] not in UNBLOCKED[self.profile]
+        if blocked and self.comes_before_a_conflict(self.attentions[initiator][0]):  # 2
             raise CheckCondition(sense.UNIT_ATTENTION, self.attentions[initiator].pop(0))
-        if cdb[0] not in OPERATION_CODES[self.profile]:  # 3
-            raise CheckCondition(sense.ILLEGAL_REQUEST, sense.INVALID_COMMAND_OPERATION_CODE)
-        layout = layout_of(cdb)
-        if layout and not self.reservations.allow(initiator, layout.reservation_class):  # 4
+        is_known = cdb[0] in OPERATION_CODES[self.profile]
+        layout = layout_of(cdb) if is_known else None
+        if layout and not self.reservations.allow(initiator, class_of(cdb, layout)):  # 3
             raise reservations.Conflict
+        if blocked:  # 4
+            raise CheckCondition(sense.UNIT_ATTENTION, self.attentions[initiator].pop(0))
+        if not is_known:
+            raise CheckCondition(sense.ILLEGAL_REQUEST, sense.INVALID_COMMAND_OPERATION_CODE)
         command = Command(cdb, layout)  # 5 and 6
         return OPERATIONS[command.name](self, initiator, command, data_out)
+
+    def comes_before_a_conflict(self, code):
+        """SAM-5, 5.3.3: attentions with 29h do. On a base disk every attention does."""
+        return self.profile == "base" or code >> 8 == 0x29
 
     def raise_attention(self, initiators, code):
         for initiator in initiators:
             self.attentions[initiator] = with_condition(self.attentions[initiator], code)
 
 
-def test_unit_ready(_device, _initiator, _command, _data_out):
+def test_unit_ready(device, _initiator, _command, _data_out):
+    blocks.check_ready(device)
     return b""
 
 
 def request_sense(device, initiator, command, _data_out):
-    """SPC-4, 6.39: the oldest unit attention is returned as data, and cleared."""
+    """SPC-4, 6.39: the oldest unit attention is returned as data, and cleared. Without one, the data says
+    whether the unit is stopped."""
     found = Sense(sense.NO_SENSE, sense.NO_ADDITIONAL_SENSE_INFORMATION)
+    if device.stopped:
+        found = Sense(
+            sense.NOT_READY, sense.LOGICAL_UNIT_NOT_READY_INITIALIZING_COMMAND_REQUIRED)
     if device.attentions[initiator]:
         found = Sense(sense.UNIT_ATTENTION, device.attentions[initiator].pop(0))
     return found.data(command["desc"])[:command["allocation_length"]]
@@ -131,11 +147,13 @@ def request_sense(device, initiator, command, _data_out):
 OPERATIONS = {
     "TEST UNIT READY": test_unit_ready,
     "REQUEST SENSE": request_sense,
+    "FORMAT UNIT": blocks.format_unit,
     "READ(6)": blocks.read,
     "WRITE(6)": blocks.write,
     "INQUIRY": pages.inquiry,
     "MODE SELECT(6)": modes.mode_select,
     "MODE SENSE(6)": modes.mode_sense,
+    "START STOP UNIT": blocks.start_stop_unit,
     "SEND DIAGNOSTIC": reports.send_diagnostic,
     "READ CAPACITY(10)": blocks.read_capacity_10,
     "READ(10)": blocks.read,
@@ -148,6 +166,9 @@ OPERATIONS = {
     "WRITE LONG(10)": blocks.write_long,
     "WRITE SAME(10)": blocks.write_same,
     "UNMAP": blocks.unmap,
+    "SANITIZE, BLOCK ERASE": blocks.sanitize,
+    "SANITIZE, CRYPTOGRAPHIC ERASE": blocks.sanitize,
+    "SANITIZE, EXIT FAILURE MODE": blocks.sanitize,
     "LOG SENSE": reports.log_sense,
     "MODE SELECT(10)": modes.mode_select,
     "MODE SENSE(10)": modes.mode_sense,
@@ -159,11 +180,13 @@ OPERATIONS = {
     "READ(16)": blocks.read,
     "COMPARE AND WRITE": blocks.compare_and_write,
     "WRITE(16)": blocks.write,
+    "ORWRITE(16)": blocks.orwrite,
     "WRITE AND VERIFY(16)": blocks.write_and_verify,
     "VERIFY(16)": blocks.verify,
     "PRE-FETCH(16)": blocks.check_cached_range,
     "SYNCHRONIZE CACHE(16)": blocks.check_cached_range,
     "WRITE SAME(16)": blocks.write_same,
+    "WRITE ATOMIC(16)": blocks.write_atomic,
     "READ CAPACITY(16)": blocks.read_capacity_16,
     "GET LBA STATUS": blocks.get_lba_status,
     "REPORT LUNS": reports.report_luns,

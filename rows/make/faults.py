@@ -108,6 +108,9 @@ class Probe:
     def compare_and_write(self, address, count, _data):
         raise Reached([(address, count)], False)  # a bad block can't be compared, so it stays bad
 
+    def orwrite(self, address, count, _data):
+        raise Reached([(address, count)], False)  # it needs the bits that a bad block has
+
     def write(self, address, count, _block):
         raise Reached([(address, count)], True, True)
 

@@ -6,7 +6,8 @@ written with its bytes, such as `4` or `2-5`. A mask gives the bits of its first
 belongs to a field or is ignored. So each bit of CONTROL, the last byte, has to be zero.
 
 Reservation classes (SPC-4, 5.13, and SBC-3, the tables of commands that a reservation allows):
-`allowed` under every reservation, `reads` and `writes` as their names say.
+`allowed` under every reservation, `reads` and `writes` as their names say. `class_of` has the one
+exception.
 """
 
 from sense import invalid_field_in_cdb
@@ -14,6 +15,7 @@ from sense import invalid_field_in_cdb
 TABLE = """
 00    | TEST UNIT READY        | allowed |                                             |
 03    | REQUEST SENSE          | allowed | desc 1:01, allocation_length 4              |
+04    | FORMAT UNIT            | writes  | longlist 1:20, fmtdata 1:10                 | 1:0F
 08    | READ(6)                | reads   | address 1:1F-3, count 4                     |
 0A    | WRITE(6)               | writes  | address 1:1F-3, count 4                     |
 12    | INQUIRY                | allowed | evpd 1:01, page_code 2, \
@@ -21,6 +23,8 @@ TABLE = """
 15    | MODE SELECT(6)         | writes  | pf 1:10, sp 1:01, list_length 4             |
 1A    | MODE SENSE(6)          | reads   | dbd 1:08, pc 2:C0, page_code 2:3F, \
                                            subpage_code 3, allocation_length 4         |
+1B    | START STOP UNIT        | writes  | modifier 3:0F, power_condition 4:F0, loej 4:02, \
+                                           start 4:01                                  | 1:01, 4:04
 1D    | SEND DIAGNOSTIC        | writes  | self_test_code 1:E0, self_test 1:04, \
                                            parameter_list_length 3-4                   | 1:13
 25    | READ CAPACITY(10)      | allowed |                                             |
@@ -38,6 +42,11 @@ TABLE = """
                                            count 7-8                                   | 6:1F
 42    | UNMAP                  | writes  | anchor 1:01, group_number 6:1F, \
                                            list_length 7-8                             |
+48.02 | SANITIZE, BLOCK ERASE  | writes  | parameter_list_length 7-8                   | 1:A0
+48.03 | SANITIZE, CRYPTOGRAPHIC ERASE \
+                               | writes  | parameter_list_length 7-8                   | 1:A0
+48.1F | SANITIZE, EXIT FAILURE MODE \
+                               | writes  | parameter_list_length 7-8                   | 1:A0
 4D    | LOG SENSE              | allowed | page_code 2:3F, subpage_code 3, \
                                            allocation_length 7-8                       | 2:C0, 5-6
 55    | MODE SELECT(10)        | writes  | pf 1:10, sp 1:01, list_length 7-8           |
@@ -49,12 +58,14 @@ TABLE = """
 88    | READ(16)               | reads   | address 2-9, count 10-13                    | 1:1A, 14:1F
 89    | COMPARE AND WRITE      | writes  | address 2-9, count 13                       | 1:1A, 14:1F
 8A    | WRITE(16)              | writes  | address 2-9, count 10-13                    | 1:1A, 14:1F
+8B    | ORWRITE(16)            | writes  | address 2-9, count 10-13                    | 1:1A, 14:1F
 8E    | WRITE AND VERIFY(16)   | writes  | bytchk 1:06, address 2-9, count 10-13       | 1:10, 14:1F
 8F    | VERIFY(16)             | reads   | bytchk 1:06, address 2-9, count 10-13       | 1:10, 14:1F
 90    | PRE-FETCH(16)          | reads   | address 2-9, count 10-13                    | 1:02, 14:1F
 91    | SYNCHRONIZE CACHE(16)  | writes  | address 2-9, count 10-13                    | 1:06, 14:1F
 93    | WRITE SAME(16)         | writes  | anchor 1:10, unmap 1:08, address 2-9, \
                                            count 10-13                                 | 14:1F
+9C    | WRITE ATOMIC(16)       | writes  | address 2-9, boundary 10-11, count 12-13    | 1:18, 14:1F
 9E.10 | READ CAPACITY(16)      | allowed | allocation_length 10-13                     |
 9E.12 | GET LBA STATUS         | reads   | address 2-9, allocation_length 10-13        |
 A0    | REPORT LUNS            | allowed | select_report 2, allocation_length 6-9      |
@@ -71,21 +82,24 @@ B7    | READ DEFECT DATA(12)   | reads   | req_plist 1:10, req_glist 1:08, forma
                                            index 2-5, allocation_length 6-9            |
 """
 
-# Ignored bits that REPORT SUPPORTED OPERATION CODES shows: DPO and FUA, IMMED, and PC. It shows each
-# field but a GROUP NUMBER (SPC-4, 6.35.3).
+# Ignored bits that REPORT SUPPORTED OPERATION CODES shows: DPO and FUA, IMMED, NO_FLUSH, and PC. It
+# shows each field but a GROUP NUMBER (SPC-4, 6.35.3).
 SHOWN = {
     **dict.fromkeys(("READ(10)", "READ(12)", "READ(16)", "WRITE(10)", "WRITE(12)", "WRITE(16)",
-                     "COMPARE AND WRITE"), "1:18"),
+                     "COMPARE AND WRITE", "ORWRITE(16)", "WRITE ATOMIC(16)"), "1:18"),
     **dict.fromkeys((f"{name}({length})" for name in ("VERIFY", "WRITE AND VERIFY")
                      for length in (10, 12, 16)), "1:10"),
     **dict.fromkeys((f"{name}({length})" for name in ("SYNCHRONIZE CACHE", "PRE-FETCH")
                      for length in (10, 16)), "1:02"),
+    **dict.fromkeys((f"SANITIZE, {action}" for action in (
+        "BLOCK ERASE", "CRYPTOGRAPHIC ERASE", "EXIT FAILURE MODE")), "1:80"),
     "LOG SENSE": "2:C0",
+    "START STOP UNIT": "1:01,4:04",
 }
 
 # Operation codes that only a disk of the extended profile knows.
-OF_EXTENDED = {0x1D, 0x2E, 0x2F, 0x34, 0x37, 0x3F, 0x4D, 0x89, 0x8E, 0x8F, 0x90, 0x91, 0xA0, 0xA3,
-               0xA8, 0xAA, 0xAE, 0xAF, 0xB7}
+OF_EXTENDED = {0x04, 0x1B, 0x1D, 0x2E, 0x2F, 0x34, 0x37, 0x3F, 0x48, 0x4D, 0x89, 0x8B, 0x8E, 0x8F, 0x90,
+               0x91, 0x9C, 0xA0, 0xA3, 0xA8, 0xAA, 0xAE, 0xAF, 0xB7}
 
 # These two have a name for each service action, from 00h on.
 SERVICE_ACTIONS = {
@@ -141,7 +155,7 @@ class Layout:
             allowed.append(Field("1:1F"))
         self.allowed_bits = bits_of(allowed, self.length)
         shown = [place for field, place in self.fields.items() if field != "group_number"]
-        shown += [Field(SHOWN[name])] if name in SHOWN else []
+        shown += map(Field, filter(None, SHOWN.get(name, "").split(",")))
         self.usage = bytearray(bits_of(shown, self.length))
         self.usage[0] = code
         self.usage[1] |= action or 0  # 1:1F has no field, but the service action is in its place
@@ -182,6 +196,15 @@ def layout_of(cdb):
     if cdb[0] not in CODES_WITH_ACTIONS:
         return LAYOUTS[cdb[0], None]
     return LAYOUTS.get((cdb[0], cdb[1] & 0x1F if len(cdb) > 1 else 0))
+
+
+def class_of(cdb, layout):
+    """The reservation class. A START STOP UNIT that only starts the unit is allowed (SBC-3, 4.17)."""
+    if layout.name == "START STOP UNIT" and len(cdb) > 4:
+        start, power_condition = layout.fields["start"], layout.fields["power_condition"]
+        if start.value(cdb) and not power_condition.value(cdb):
+            return "allowed"
+    return layout.reservation_class
 
 
 class Command:

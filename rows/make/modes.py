@@ -92,7 +92,8 @@ def mode_sense(device, _initiator, command, _data_out):
 
 def mode_select(device, initiator, command, data_out):
     """SPC-4, 6.11 and 6.12: the list is applied whole, or its first fault refuses it"""
-    if not command["pf"]:
+    has_list = command["list_length"] or device.profile == "base"  # which looks at PF in each case
+    if not command["pf"] and has_list:
         raise command.unsupported("pf")
     parameters = need_data_out(device, data_out, command["list_length"])
     modes = device.modes
@@ -149,13 +150,17 @@ def header(command, parameters):
 def check_descriptor(device, parameters, place, length):
     """A descriptor is the disk's own, or has a number of blocks of 0. Returns its end.
 
-    If the list ends within the number and has only zeros of it, the number may be 0.
+    If the list ends within the number and has only zeros of it, the number may be 0. An extended disk
+    ignores the number, because it cannot change (SBC-3, 6.4.2).
     """
     if length:
         own = block_descriptor(device, length == 16)
         count_length = length // 2
-        if not any(parameters[place:place + count_length]):
+        sent = parameters[place:place + count_length]
+        if not any(sent):
             own = bytes(count_length) + own[count_length:]
+        elif device.profile == "extended":
+            own = sent + own[count_length:]
         need_equal(parameters, place, own)
     return place + length
 

@@ -68,6 +68,7 @@ def block_limits(profile):
         (24, 4): blocks.MAXIMUM_UNMAP_BLOCK_DESCRIPTOR_COUNT,
         (28, 4): 1,  # OPTIMAL UNMAP GRANULARITY
         (36, 8): blocks.MAXIMUM_WRITE_SAME_LENGTH[profile],
+        (44, 4): blocks.MAXIMUM_ATOMIC_TRANSFER_LENGTH[profile],  # of SBC-4
     }
     for (place, length), value in fields.items():
         page[place:place + length] = value.to_bytes(length, "big")
@@ -102,6 +103,7 @@ def block_device_characteristics(_profile):
     """SBC-3, vital product data parameters"""
     page = bytearray(64)
     page[4:6] = (1).to_bytes(2, "big")  # MEDIUM ROTATION RATE: it does not rotate
+    page[7] = 0x40 | 0x10  # WABEREQ 01b, WACEREQ 01b: no error is read after an erase
     page[8] = 0x02 | 0x01  # FUAB, VBULS
     return bytes(page[4:])
 

@@ -56,6 +56,15 @@ class Provisioning:
             place = half + BLOCK_LENGTH * offset
             self.contents[address + offset] = data[place:place + BLOCK_LENGTH]
 
+    def orwrite(self, address, count, data):
+        """Maps each address, and sets the bits of its block that are 1 in its part of the bytes."""
+        self._need_room([(address, count)])
+        for offset in range(count):
+            place = BLOCK_LENGTH * offset
+            kept = self.contents.get(address + offset) or ZEROS
+            sent = data[place:place + BLOCK_LENGTH]
+            self.contents[address + offset] = bytes(old | new for old, new in zip(kept, sent))
+
     def write(self, address, count, block):
         """Maps each address to `block(offset)`, or none if the pool lacks room (SBC-3, 4.7)."""
         count = min(count, self.most_moved)

@@ -18,11 +18,14 @@ THEMES = (
     3 * ("REGISTER", "REGISTER AND IGNORE EXISTING KEY", "RESERVE")
     + ("RELEASE", "PREEMPT", "READ RESERVATION", "READ FULL STATUS", "TEST UNIT READY"),
     ("MODE SELECT(6)", "MODE SENSE(6)", "MODE SELECT(10)", "MODE SENSE(10)"),
-    ("WRITE SAME(10)", "UNMAP", "WRITE SAME(16)", "GET LBA STATUS", "WRITE LONG(10)"),
+    ("WRITE SAME(10)", "UNMAP", "WRITE SAME(16)", "GET LBA STATUS", "WRITE LONG(10)",
+     "FORMAT UNIT", "SANITIZE, BLOCK ERASE"),
     ("WRITE AND VERIFY(10)", "WRITE AND VERIFY(16)", "READ(12)", "WRITE(12)", "PRE-FETCH(16)",
      "SYNCHRONIZE CACHE(10)"),
     (*3 * ("COMPARE AND WRITE",), "VERIFY(10)", "VERIFY(12)", "VERIFY(16)", "UNMAP",
      "WRITE SAME(10)", "WRITE LONG(10)"),
+    (*2 * ("ORWRITE(16)",), "WRITE ATOMIC(16)", "READ(16)", "UNMAP", "WRITE SAME(10)",
+     "WRITE LONG(10)"),
     ("REPORT LUNS", "LOG SENSE", "READ DEFECT DATA(12)", "SEND DIAGNOSTIC",
      *2 * ("REPORT SUPPORTED OPERATION CODES",), "REPORT SUPPORTED TASK MANAGEMENT FUNCTIONS"),
     (),
@@ -66,7 +69,7 @@ class Script:
         if place < 0.13:
             return tool_line(self.random, initiator)
         if place < 0.17:
-            return show_line(self.random)
+            return show_line(self.random, self.profile)
         if place < 0.25:
             return f"fill {initiator} {self.address()} {self.small()} {self.small()}"
         cdb, data_out = self.command()
@@ -103,6 +106,8 @@ class Script:
             f"raw {initiator} 3f40{address % 2**32:08x}00000000",
             f"raw {initiator} a800{address % 2**32:08x}{count:08x}0000",
             f"raw {initiator} 8e02{address:016x}{few:08x}0000 {'5a' * 512 * few or '-'}",
+            f"raw {initiator} 8b00{address:016x}{few:08x}0000 {'a5' * 512 * few or '-'}",
+            f"raw {initiator} 9c00{address:016x}0000{few:04x}0000 {'5a' * 512 * few or '-'}",
             f"raw {initiator} 8f00{address:016x}{count:08x}0000",
             f"raw {initiator} af06{address % 2**32:08x}{count:08x}0000 {'00' * 512}",
             f"raw {initiator} 8900{address:016x}000000010000 {'00' * 512}{'5a' * 512}",
@@ -168,6 +173,7 @@ class Script:
         usual = {
             "address": self.address(),
             "count": self.small(),
+            "boundary": 0,
             "allocation_length": self.random.choice((0, 5, 18, 24, 40, 255, 255, 255)),
             "page_code": self.random.choice(pages),
             "subpage_code": self.random.choice((0, 0, 0xFF)),
@@ -190,7 +196,7 @@ class Script:
         return self.random.randrange(256)  # as much of it as the field has room for
 
     def data_out(self, command, values):
-        if command.startswith(("WRITE(", "WRITE AND VERIFY(")):
+        if command.startswith(("WRITE(", "WRITE AND VERIFY(", "WRITE ATOMIC(", "ORWRITE(")):
             return bytes([self.small()]) * 512 * min(values["count"] or 256, 3)
         if command.startswith("VERIFY("):
             count = {1: min(values["count"], 3), 3: 1}.get(values["bytchk"], 0)
@@ -207,6 +213,8 @@ class Script:
                 at.to_bytes(8, "big") + count.to_bytes(8, "big")[4:] + bytes(4)
                 for at, count in extents)
             return bytes([0, 0]) + len(descriptors).to_bytes(2, "big") + bytes(4) + descriptors
+        if command == "FORMAT UNIT":
+            return self.format_header(8 if values["longlist"] else 4) if values["fmtdata"] else b""
         if command.startswith("MODE SELECT"):
             return self.mode_list(4 if command.endswith("(6)") else 8)
         return self.reserve_list() if "list_length" in values else b""
@@ -224,6 +232,14 @@ class Script:
         flags = self.random.randrange(256) if self.is_rare(0.03) else self.random.choice((0, 1))
         return (key.to_bytes(8, "big") + action_key.to_bytes(8, "big")
                 + bytes([0, 0, 0, 0, flags, 0, 0, 0]))
+
+    def format_header(self, length):
+        """The header of FORMAT UNIT, now and then with a bit that the disk does not support."""
+        data = bytearray(length)
+        data[1] = self.random.choice((0, 0, 2, 0x80, 0xF2, 0x10))
+        if self.is_rare(0.2):
+            data[self.random.randrange(length)] ^= 1 << self.random.randrange(8)
+        return bytes(data)
 
     def mode_list(self, header):
         data = bytearray(header)

@@ -3,7 +3,7 @@ valid ones."""
 
 from attentions import CONDITIONS, RESETS
 from sense import code_text
-from texts import KINDS
+from texts import OF_PROFILE
 from tools.commands import TOOLS
 
 # An answer of each kind, and of each page that has a text.
@@ -30,6 +30,31 @@ ANSWERS = [
     ("sense", "72052100000000140206000080000600000a80000000000200000001"),
 ]
 
+# Answers of the kinds that only an extended disk has, and of the texts that have more there.
+EXTENDED_ANSWERS = [
+    ("inq", "000006025b00000253474d4f44454c205448494e204449534b20202020202020303130300000000000000000"
+            "00000000000000000000000000000000000000a0046004c00000000000000000000001020304"),
+    ("vpd", "0086000c4abf0d11110f010ea0fc0000"),
+    ("vpd", "008700083fff00000a018300"),
+    ("vpd", "008800240000000100000000000000080102030400000000000000020000000400000001000000040a0b0c0d"),
+    ("vpd", "00b100061c200a940200"),
+    ("sense", "f1000500000010000000000024000000c00002"),
+    ("sense", "73031100000000140302000505020020000a8000000000000012d687"),
+    ("luns", "000000180000000000000000000000000001000000000000c101000000000000"),
+    ("opcodes", "000000241200000000000006a300000c0003000c000a00000000000a0000001e8900000000000010"),
+    ("opcode", "0083000612010000ff00000a000000000005ffffffff"),
+    ("tmf", "d805000c0100a403000000000000006400000002"),
+    ("log", "00000004000c2f30"),
+    ("log", "40ff0008000000ff0c002f00"),
+    ("log", "af00000b00000303000bff0001020203"),
+    ("log", "8c000018000103080000000301000000000203080000000102000000"),
+    ("readcap10", "00000fff00000200"),
+    ("readcap16", "00000000ffffffff000010000f23e10500000000000000000000000000000000"),
+    ("defects10", "0018000800000001fffffffe"),
+    ("defects12", "001d0002000000100000000100000002000000030000000400"),
+]
+ANSWERS_OF = {"base": ANSWERS, "extended": ANSWERS + EXTENDED_ANSWERS}
+
 TEXTS = ["0", "1", "2", "5", "8", "10", "24", "40", "63", "255", "256", "4095", "65535",
          "18446744073709551615", "0x10", "0XfF", "1Fh", "a1", "0xA1", "sn", "di", "bl", "lbpv",
          "sv", "SN", "10,0", "8,255", "0,1", "1,1,1", "0,16", "1,,2", "", "-", "zz", "-1", "=3"]
@@ -50,9 +75,9 @@ WRONG_WORDS = ("busy", "once", "to", "8", "code", "28", "blocks", "0", "healed",
                "-1", "first", "deferred", "3/11", "medium", "BUSY", "0x")
 
 
-def show_line(random):
+def show_line(random, profile):
     """An answer with some bytes changed, cut or longer, now and then as another kind."""
-    kind, text = random.choice(ANSWERS)
+    kind, text = random.choice(ANSWERS_OF[profile])
     data = bytearray.fromhex(text)
     for _ in range(random.choice((0, 0, 1, 1, 2, 3))):
         place = random.choice((random.randrange(len(data)), random.randrange(min(len(data), 8))))
@@ -63,7 +88,7 @@ def show_line(random):
     elif random.random() < 0.2:
         data += random.randbytes(random.randrange(20))
     if random.random() < 0.1:
-        kind = random.choice(sorted(KINDS))
+        kind = random.choice(sorted(OF_PROFILE[profile]))
     return f"show {kind} {data.hex() or '-'}"
 
 

@@ -2,14 +2,15 @@
 
 Two modules decode answers and read the words of tools. This module uses these parts of them:
 
-    texts.KINDS                the kinds of answers of `show`: "inq", "vpd", .. "sense"
-    texts.show(kind, data)     the lines of an answer: a list of str, with their leading blanks and
+    texts.OF_PROFILE           for each profile the kinds of answers of `show`: "inq", "vpd", .. "sense"
+    texts.show(kind, data, profile)
+                               the lines of an answer: a list of str, with their leading blanks and
                                without LF. For "sense" it is [sense.line(data)].
-    tools.plan(words)          words after the initiator, as ["sg_inq", "-l", "5"], to a Plan:
+    tools.plan(words, profile) words after the initiator, as ["sg_inq", "-l", "5"], to a Plan:
         .fault                 None, or the text of the fault: "unknown tool", "usage", "exclusive"
                                or "number". Then the other three do not matter.
         .cdb, .data_out        bytes
-        .show                  a function from data-in to a list of lines, as texts.show returns
+        .show                  a function from data-in and a profile to a list of lines, as texts.show returns
 
 Both may use `words.number`, `words.hex_bytes` and `words.hex_lines`.
 """
@@ -126,17 +127,17 @@ def fill(device, operands):
     return replied(device.execute(initiator, cdb, bytes([byte]) * (512 * count)), hex_lines)
 
 
-def show(_device, operands):
+def show(device, operands):
     """show KIND HEX"""
     if len(operands) != 2:
         raise Fault("usage")
     kind, word = operands
-    if kind not in texts.KINDS:
+    if kind not in texts.OF_PROFILE[device.profile]:
         raise Fault("kind")
     data = hex_bytes(word)
     if data is None:
         raise Fault("hex")
-    return ["SHOWN", *texts.show(kind, data)], 0
+    return ["SHOWN", *texts.show(kind, data, device.profile)], 0
 
 
 def power(device, operands):
@@ -304,10 +305,11 @@ OPTION_VALUES = {
 
 def tool(device, initiator, operands):
     """I TOOL OPTIONS"""
-    plan = tools.plan(operands)
+    plan = tools.plan(operands, device.profile)
     if plan.fault:
         raise Fault(plan.fault)
-    return replied(device.execute(initiator, plan.cdb, plan.data_out), plan.show)
+    reply = device.execute(initiator, plan.cdb, plan.data_out)
+    return replied(reply, lambda data: plan.show(data, device.profile))
 
 
 OF_BOTH = {"raw": raw, "fill": fill, "show": show, "power": power}

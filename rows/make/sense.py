@@ -8,8 +8,8 @@ from dataclasses import dataclass
 
 # Sense keys (SPC-4, the table of sense keys), with their names.
 NO_SENSE, ILLEGAL_REQUEST, UNIT_ATTENTION, DATA_PROTECT, ABORTED_COMMAND = 0x0, 0x5, 0x6, 0x7, 0xB
-RECOVERED_ERROR, NOT_READY, MEDIUM_ERROR, HARDWARE_ERROR = 0x1, 0x2, 0x3, 0x4  # only of faults
-MISCOMPARE = 0xE  # only of an extended disk
+RECOVERED_ERROR, MEDIUM_ERROR, HARDWARE_ERROR = 0x1, 0x3, 0x4  # only of faults
+NOT_READY, MISCOMPARE = 0x2, 0xE  # of faults, and of an extended disk
 KEY_NAMES = {  # SCRIPT prints the others by their numbers
     NO_SENSE: "NO SENSE",
     ILLEGAL_REQUEST: "ILLEGAL REQUEST",
@@ -20,6 +20,7 @@ KEY_NAMES = {  # SCRIPT prints the others by their numbers
 
 # Additional sense codes and their qualifiers (SPC-4, the table of both).
 NO_ADDITIONAL_SENSE_INFORMATION = 0x0000
+LOGICAL_UNIT_NOT_READY_INITIALIZING_COMMAND_REQUIRED = 0x0402
 INVALID_FIELD_IN_COMMAND_INFORMATION_UNIT = 0x0E03
 UNRECOVERED_READ_ERROR = 0x1100
 READ_ERROR_LBA_MARKED_BAD_BY_APPLICATION_CLIENT = 0x1114
@@ -157,10 +158,28 @@ def code_text(code):
 def line(data):
     """The line that a script prints of sense data (docs/SCRIPT.md, "Replies")."""
     sense = read(data)
-    if sense is None:
-        return "  sense: unreadable"
+    return "  sense: " + ("unreadable" if sense is None else fields_text(sense))
+
+
+# Response codes of deferred errors, each with the code of a current error whose layout it has (SPC-4,
+# 4.5.1). In fixed format, bit 7 is VALID.
+DEFERRED = {0x71: 0x70, 0xF1: 0xF0, 0x73: 0x72}
+LONGEST = 252  # bytes of sense data
+
+
+def line_of_any_error(data):
+    """The line that an extended disk's script prints of sense data, of a deferred error too."""
+    if data and data[0] in DEFERRED:
+        sense = read(bytes([DEFERRED[data[0]]]) + data[1:LONGEST])
+        if sense:
+            return "  sense: deferred, " + fields_text(sense)
+    return line(data)
+
+
+def fields_text(sense):
+    """The key, the code, and INFORMATION and the field pointer, if there are any."""
     name = KEY_NAMES.get(sense.key, f"KEY {sense.key:02X}h")
-    text = f"  sense: {name}, {code_text(sense.code)}"
+    text = f"{name}, {code_text(sense.code)}"
     if sense.information is not None:
         text += f", information 0x{sense.information:016x}"
     if sense.pointer:

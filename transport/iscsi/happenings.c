@@ -262,6 +262,22 @@ void watch(struct scsi_lu *lu, const struct backingstore_template *store)
     driver->mgmt_end_notify = watch_functions;
 }
 
+/* Writes a line to tgtd's log for each line of the text about the armed faults. */
+static tgtadm_err log_faults(struct scsi_lu *lu)
+{
+    size_t length = mdl_faults(&unit_of(lu)->disk, NULL, 0);
+    char *text = length == MDL_NO_TEXT ? NULL : malloc(length + 1);
+    char *line, *rest;
+
+    if (!text)
+        return TGTADM_NOMEM;
+    mdl_faults(&unit_of(lu)->disk, text, length + 1);
+    for (line = strtok_r(text, "\n", &rest); line; line = strtok_r(NULL, "\n", &rest))
+        eprintf("FAULT %s\n", line);
+    free(text);
+    return TGTADM_SUCCESS;
+}
+
 tgtadm_err update(struct scsi_lu *lu, char *params)
 {
     static const char prefix[] = "targetOps ";
@@ -272,6 +288,8 @@ tgtadm_err update(struct scsi_lu *lu, char *params)
     if (strncmp(params, prefix, sizeof prefix - 1) != 0 || params[length - 1] != ',')
         return TGTADM_UNKNOWN_PARAM;
     params[length - 1] = '\0';
+    if (strcmp(params + sizeof prefix - 1, "faults") == 0)
+        return log_faults(lu);
     if (mdl_read_happening(params + sizeof prefix - 1, &happening))
         return TGTADM_UNKNOWN_PARAM;
     notice(lu);

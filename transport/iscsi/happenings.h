@@ -22,7 +22,8 @@ void notice(struct scsi_lu *lu);
 void note_session(struct scsi_lu *lu, int initiator, uint64_t session);
 
 /* Called by tgtd with the parameter of `tgtadm --op update --mode logicalunit`, as tgtadm sends it:
- * "targetOps WORDS,". The words are a script's (docs/SCRIPT.md), such as "fault arrival busy". */
+ * "targetOps WORDS,". The words are a script's (docs/SCRIPT.md), such as "fault arrival busy". The word
+ * "faults" writes the armed faults to tgtd's log. */
 tgtadm_err update(struct scsi_lu *lu, char *params);
 
 #endif

@@ -25,7 +25,7 @@ pub(crate) fn next_extended(
         count: u32::from(count),
     };
     let bytes = BLOCK_LENGTH * usize::from(count);
-    Some(match random.byte() % 15 {
+    Some(match random.byte() % 17 {
         0 | 1 => (Command::Read12(twelve), 0),
         2 | 3 => (Command::Write12(twelve), bytes),
         4 => (write_and_verify(random, twelve), bytes),
@@ -37,6 +37,7 @@ pub(crate) fn next_extended(
         10 => (send_diagnostic(random)?, 0),
         11 => (verify(random, sixteen), bytes),
         12 | 13 => compare_and_write(random, lba, count, data_out),
+        14 | 15 => (Command::OrWrite16(sixteen), bytes),
         _ => (task_management(random), 0),
     })
 }

@@ -18,7 +18,7 @@ ghost use Rattle.sg_embed.specs.Outcome.{plan_outcome};
 ghost use Rattle.sg_embed.specs.Planned.{IsPlanned};
 ghost use Rattle.sg_embed.specs.Profiles.{identity_with_profile};
 ghost use Rattle.sg_embed.specs.Records.{asked_identity, sense_record};
-ghost use Rattle.sg_embed.specs.Text.{IsDecoded, text_in, version_text};
+ghost use Rattle.sg_embed.specs.Text.{IsDecoded, IsFaultsText, text_in, version_text};
 ghost use Rattle.sg_embed.specs.Words.{asked_by_words};
 
 use sg_embed::{
@@ -290,6 +290,15 @@ pub extern "C" fn mehdalung_decode(
     ensures { IsDecoded kind data_in.now text.old text.new result }
 {
     decode(alloc, kind, data_in, text)
+}
+
+/// Writes the text of the faults that are armed on a disk to the beginning of a buffer.
+#[unsafe(no_mangle)]
+pub extern "C" fn mehdalung_faults(alloc: Global, disk: &mut Slot, text: &mut [u8]) -> usize
+    ensures text { IsFaultsText disk.old.held text.old text.new result }
+    ensures kept { disk.new.held ≡ disk.old.held }
+{
+    disk.list_faults(alloc, text)
 }
 
 /// Writes the version of the library and the logic of its proof to the beginning of a buffer.

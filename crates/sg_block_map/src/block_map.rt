@@ -272,7 +272,7 @@ impl Store for BlockMap {
         self.remap(lba, count, &Content::Blocks(&Source::Repeated(block)))
     }
 
-    fn unmap(&mut self, lba: u64, count: u32)
+    fn unmap(&mut self, lba: u64, count: u64)
         requires range { lba + count ≤ (disk_of self.old).capacity }
         requires headroom { HasHeadroom (meter_of self.old).counts }
 
@@ -289,14 +289,9 @@ impl Store for BlockMap {
         if count == 0 {
             return;
         }
-        gather(&mut self.table, &mut self.gathered, lba, count);
-        unmap_runs(
-            &mut self.table,
-            &mut self.pool,
-            &self.gathered,
-            lba,
-            lba + u64::from(count),
-        );
+        let high = lba + count;
+        gather_between(&mut self.table, &mut self.gathered, lba, high);
+        unmap_runs(&mut self.table, &mut self.pool, &self.gathered, lba, high);
         renew_slots(&self.table, &mut self.pool);
         self.gathered.clear();
     }

@@ -14,6 +14,11 @@ use Rattle.sg_decode.specs.declared.entry.EntryKind.{EntryKind}
 use Rattle.sg_decode.specs.declared.entry.EntryKind.TheVariants.{SupportedPages, Designators}
 use Rattle.sg_decode.specs.declared.entry.EntryKind.TheVariants.{ModePages, LbaStatusDescriptors}
 use Rattle.sg_decode.specs.declared.entry.EntryKind.TheVariants.{ReservationKeys, FullStatusDescriptors}
+use Rattle.sg_decode.specs.declared.entry.EntryKind.TheVariants.{Luns, CommandDescriptors, Timeouts}
+use Rattle.sg_decode.specs.declared.entry.EntryKind.TheVariants.{LogPages, LogSubpages, LogParameters}
+use Rattle.sg_decode.specs.declared.entry.EntryKind.TheVariants.{LogExceptions, LogResourceCounts}
+use Rattle.sg_decode.specs.declared.entry.EntryKind.TheVariants.{ModePagePolicies, ScsiPorts}
+use Rattle.sg_decode.specs.declared.entry.EntryKind.TheVariants.{LongDefects, ShortDefects}
 use Rattle.sg_decode.specs.Lines.{Line, line_of, lines_of, line_text, line_end, lines_end}
 use Rattle.sg_decode.specs.Entries.{entry_of}
 use Rattle.std.proofs.lemmas.List.Folds.{list_all_more, list_all_at}
@@ -198,6 +203,18 @@ header_own ModePages (x ∷ xs) (suc n) some = refl
 header_own LbaStatusDescriptors rest n some = refl
 header_own ReservationKeys rest n some = refl
 header_own FullStatusDescriptors rest n some = refl
+header_own Luns rest n some = refl
+header_own CommandDescriptors rest n some = refl
+header_own Timeouts rest n some = refl
+header_own LogPages rest n some = refl
+header_own LogSubpages rest n some = refl
+header_own LogParameters rest n some = refl
+header_own LogExceptions rest n some = refl
+header_own LogResourceCounts rest n some = refl
+header_own ModePagePolicies rest n some = refl
+header_own ScsiPorts rest n some = refl
+header_own ShortDefects rest n some = refl
+header_own LongDefects rest n some = refl
 
 -- an entry in one line
 pub one_line : (a b : Printing) (line : Line) (own : List ℕ) → Prints a b (line_text line own)
@@ -291,6 +308,22 @@ as_present-text first reported f bytes =
     grind (arith, nat_tests) in
     let same : nat_lt reported reported ≡ false = grind (arith, nat_tests) in
     rw (least, given, same) refl
+
+-- a part of the reported bytes
+pub part_present : (first reported end : ℕ) (f : List ℕ → List ℕ) (bytes : List ℕ) → reported ≤ end
+    → (shown (Some end) bytes (as_present first reported f bytes)
+    ≡ f (slice_range bytes first (min reported (length bytes)))
+    ++ (if nat_le reported (length bytes) then [] else codes "  truncated\n"))
+    × (nat_le reported (length bytes) ≡ all_shown (Some end) bytes (as_present first reported f bytes))
+unfolding shown all_shown
+part_present first reported end f bytes within =
+    let least : nat_lt end (min reported (length bytes)) ≡ false = grind (arith, nat_tests) in
+    let given : nat_le (min reported (length bytes)) (length bytes) ≡ true =
+    grind (arith, nat_tests) in
+    let same : nat_lt end reported ≡ false = grind (arith, nat_tests) in
+    let last : nat_le reported (length bytes) ≡ (nat_le reported (length bytes) && true) =
+    elim (nat_le reported (length bytes)) as (λ v. v ≡ (v && true)) [ true ↦ refl | false ↦ refl ] in
+    (rw (least, given, same) refl, rw (least, given, same) last)
 
 -- ---- one part after another
 

@@ -1,18 +1,25 @@
 -- The entries of answers, each kind by its own header.
 use Rattle.std.specs.Prelude.{ℕ, List, [], ◌∷◌, length, drop, filter, codes, slice_index}
-use Rattle.std.specs.Prelude.{Bool, nat_le, ◌==◌, if◌then◌else◌}
+use Rattle.std.specs.Prelude.{Bool, ◌+◌, nat_le, ◌==◌, if◌then◌else◌}
 use Rattle.byteorder.specs.Endian.{big_number}
 use Rattle.sg_wire.specs.Bits.{bits_of, has_bit}
 use Rattle.sg_wire.specs.LbaStatus.{status_descriptor_length}
 use Rattle.sg_decode.specs.Lines.{Line, part, line_end}
 use Rattle.sg_decode.specs.Items.{Entry}
 use Rattle.sg_decode.specs.declared.value.Value.TheVariants.{Bits, Code, Number, Address}
+use Rattle.sg_decode.specs.declared.value.Value.TheVariants.{Digits}
 use Rattle.sg_decode.specs.declared.value.Value.TheVariants.{TextFrom, HexFrom, ProvisioningStatus}
 use Rattle.sg_decode.specs.declared.entry.EntryKind.{EntryKind}
 use Rattle.sg_decode.specs.declared.entry.EntryKind.TheVariants.{SupportedPages, Designators}
 use Rattle.sg_decode.specs.declared.entry.EntryKind.TheVariants.{ModePages, ReservationKeys}
 use Rattle.sg_decode.specs.declared.entry.EntryKind.TheVariants.{LbaStatusDescriptors}
 use Rattle.sg_decode.specs.declared.entry.EntryKind.TheVariants.{FullStatusDescriptors}
+use Rattle.sg_decode.specs.declared.entry.EntryKind.TheVariants.{Luns, CommandDescriptors, Timeouts}
+use Rattle.sg_decode.specs.declared.entry.EntryKind.TheVariants.{LogPages, LogSubpages}
+use Rattle.sg_decode.specs.declared.entry.EntryKind.TheVariants.{LogParameters, LogExceptions}
+use Rattle.sg_decode.specs.declared.entry.EntryKind.TheVariants.{LogResourceCounts}
+use Rattle.sg_decode.specs.declared.entry.EntryKind.TheVariants.{ModePagePolicies, ScsiPorts}
+use Rattle.sg_decode.specs.declared.entry.EntryKind.TheVariants.{LongDefects, ShortDefects}
 
 -- An entry of a fixed size, in one line.
 abbrev fixed_entry : (size : ℕ) → Line → Entry
@@ -98,6 +105,70 @@ shown_parameters page =
     then []
     else filter (fits_in page) (parameter_lines (bits_of (slice_index page 0) 5 0))
 
+-- ---- Commands (SPC-4, 6.35)
+
+-- A command timeouts descriptor, of twelve bytes, and its line from a byte on (SPC-4, 6.35.4).
+abbrev pub timeouts_length : ℕ
+timeouts_length = 12
+
+abbrev timeouts : (first : ℕ) → Line
+timeouts first =
+    part (codes "    command specific: ") (Number (first + 3) 1)
+    ∷ part (codes ", nominal timeout: ") (Number (first + 4) 4)
+    ∷ part (codes ", recommended timeout: ") (Number (first + 8) 4)
+    ∷ []
+
+-- SERVACTV and CTDP of a command descriptor (SPC-4, 6.35.2).
+abbrev pub has_action : (own : List ℕ) → Bool
+has_action own = has_bit (slice_index own 5) 0x01
+
+abbrev pub has_timeouts : (own : List ℕ) → Bool
+has_timeouts own = has_bit (slice_index own 5) 0x02
+
+abbrev pub command_line : (own : List ℕ) → Line
+command_line own =
+    if has_action own
+    then part (codes "  opcode: ") (Code 0 7 0)
+    ∷ part (codes ", service action: ") (Digits 2 2)
+    ∷ part (codes ", CDB length: ") (Number 6 2)
+    ∷ []
+    else part (codes "  opcode: ") (Code 0 7 0) ∷ part (codes ", CDB length: ") (Number 6 2) ∷ []
+
+-- The timeouts of a command follow its eight bytes.
+abbrev pub command_timeouts : (own : List ℕ) → List Line
+command_timeouts own = if has_timeouts own then filter (fits_in own) (timeouts 8 ∷ []) else []
+
+-- ---- Log parameters (SPC-4, 7.3.2)
+
+abbrev log_parameter : Line
+log_parameter =
+    part (codes "  parameter ") (Digits 0 2)
+    ∷ part (codes ", control ") (Code 2 7 0)
+    ∷ part (codes ": ") (HexFrom 4)
+    ∷ []
+
+-- Informational Exceptions, and the most recent temperature (SPC-4, 7.3).
+abbrev log_exception : Line
+log_exception =
+    part (codes "    exception: ") (Code 4 7 0)
+    ∷ part (codes "/") (Code 5 7 0)
+    ∷ part (codes ", temperature: ") (Number 6 1)
+    ∷ []
+
+-- Logical Block Provisioning: a resource count, and its scope (SBC-3, log parameters).
+abbrev log_resource_count : Line
+log_resource_count =
+    part (codes "    resource count: ") (Number 4 4) ∷ part (codes ", scope: ") (Bits 8 1 0) ∷ []
+
+-- A parameter of a page whose parameters have a line of fields. It is shown if all of its fields are
+-- there.
+abbrev pub parameter_entry : List Line → Entry
+parameter_entry fields = record {
+  header = λ bytes. 4;
+  following = λ bytes. slice_index bytes 3;
+  lines = λ own. log_parameter ∷ filter (fits_in own) fields;
+}
+
 -- ---- The other kinds
 
 -- A page code of the page Supported VPD Pages (SPC-4, 7.8).
@@ -128,6 +199,52 @@ full_status_descriptor =
     ∷ part (codes ", transport: ") (HexFrom 24)
     ∷ []
 
+-- A logical unit number of REPORT LUNS (SPC-4, 6.33).
+abbrev lun : Line
+lun = part (codes "  LUN: ") (Address 0) ∷ []
+
+-- A supported page descriptor of Supported Log Pages, and one that has a subpage code, too (SPC-4, 7.3).
+abbrev log_page : Line
+log_page = part (codes "  supported: ") (Code 0 5 0) ∷ []
+
+abbrev log_subpage : Line
+log_subpage = part (codes "  supported: ") (Code 0 5 0) ∷ part (codes "/") (Code 1 7 0) ∷ []
+
+-- A mode page policy descriptor (SPC-4, 7.8).
+abbrev mode_page_policy : Line
+mode_page_policy =
+    part (codes "  page ") (Code 0 5 0)
+    ∷ part (codes "/") (Code 1 7 0)
+    ∷ part (codes ", MLUS: ") (Bits 2 7 7)
+    ∷ part (codes ", policy: ") (Bits 2 1 0)
+    ∷ []
+
+-- A SCSI port designation descriptor (SPC-4, 7.8): its port, and its names in hexadecimal.
+abbrev scsi_port : Line
+scsi_port =
+    part (codes "  port: ") (Number 2 2)
+    ∷ part (codes ", TransportID length: ") (Number 6 2)
+    ∷ part (codes "\n    hex: ") (HexFrom 8)
+    ∷ []
+
+-- The length of its initiator port TransportID. After the TransportID come two reserved bytes, the
+-- length of the target port descriptors, and these. If the length is not there, none is counted.
+abbrev pub transport_id_length : (port : List ℕ) → ℕ
+transport_id_length port = big_number 2 (drop 6 port)
+
+abbrev pub target_ports_length : (port : List ℕ) → ℕ
+target_ports_length port =
+    if nat_le (12 + transport_id_length port) (length port)
+    then big_number 2 (drop (10 + transport_id_length port) port)
+    else 0
+
+-- An address descriptor of READ DEFECT DATA (SBC-3, 5.3.2).
+abbrev short_defect : Line
+short_defect = part (codes "  defect: ") (Digits 0 4) ∷ []
+
+abbrev long_defect : Line
+long_defect = part (codes "  defect: ") (Address 0) ∷ []
+
 -- ---- All kinds
 
 abbrev pub entry_of : EntryKind → Entry
@@ -149,3 +266,23 @@ entry_of FullStatusDescriptors = record {
   following = λ bytes. big_number 4 (drop 20 bytes);
   lines = λ own. full_status_descriptor ∷ [];
 }
+entry_of Luns = fixed_entry 8 lun
+entry_of CommandDescriptors = record {
+  header = λ bytes. 8;
+  following = λ bytes. if has_timeouts bytes then timeouts_length else 0;
+  lines = λ own. command_line own ∷ command_timeouts own;
+}
+entry_of Timeouts = fixed_entry timeouts_length (timeouts 0)
+entry_of LogPages = fixed_entry 1 log_page
+entry_of LogSubpages = fixed_entry 2 log_subpage
+entry_of LogParameters = parameter_entry []
+entry_of LogExceptions = parameter_entry (log_exception ∷ [])
+entry_of LogResourceCounts = parameter_entry (log_resource_count ∷ [])
+entry_of ModePagePolicies = fixed_entry 4 mode_page_policy
+entry_of ScsiPorts = record {
+  header = λ bytes. 8;
+  following = λ bytes. transport_id_length bytes + 4 + target_ports_length bytes;
+  lines = λ own. scsi_port ∷ [];
+}
+entry_of ShortDefects = fixed_entry 4 short_defect
+entry_of LongDefects = fixed_entry 8 long_defect

@@ -1,9 +1,9 @@
 -- The text of standard INQUIRY data (SPC-4, 6.6.2).
-use Rattle.std.specs.Prelude.{◌+◌, List, [], ◌∷◌, codes, slice_index}
+use Rattle.std.specs.Prelude.{ℕ, ◌+◌, List, [], ◌∷◌, ◌++◌, codes, min, slice_index}
 use Rattle.sg_decode.specs.HexText.{hex_lines}
 use Rattle.sg_decode.specs.Lines.{Line, part}
-use Rattle.sg_decode.specs.Items.{Decoder, line_items, as_present}
-use Rattle.sg_decode.specs.declared.value.Value.TheVariants.{Bits, Code, Number, Text}
+use Rattle.sg_decode.specs.Items.{Decoder, Item, line_items, as_present}
+use Rattle.sg_decode.specs.declared.value.Value.TheVariants.{Bits, Code, Digits, Number, Text}
 
 abbrev pub peripheral : Line
 peripheral =
@@ -28,4 +28,37 @@ inquiry = record {
   header = line_items inquiry_lines;
   reported_end = λ bytes. 5 + slice_index bytes 4;
   body = λ bytes end. as_present 36 end hex_lines bytes;
+}
+
+-- ---- As an extended disk's script shows it
+
+-- The eight version descriptors.
+abbrev version_descriptor : (first : ℕ) → Line
+version_descriptor first = part (codes "  version descriptor: ") (Digits first 2) ∷ []
+
+abbrev pub version_descriptors : List Line
+version_descriptors =
+    version_descriptor 58
+    ∷ version_descriptor 60
+    ∷ version_descriptor 62
+    ∷ version_descriptor 64
+    ∷ version_descriptor 66
+    ∷ version_descriptor 68
+    ∷ version_descriptor 70
+    ∷ version_descriptor 72
+    ∷ []
+
+-- The bytes before the version descriptors, vendor specific ones first, and the bytes after them, which are
+-- reserved or vendor specific, are shown in hexadecimal.
+abbrev pub before_versions : (end : ℕ) → List ℕ → List Item
+before_versions end bytes = as_present 36 (min 58 end) hex_lines bytes
+
+abbrev pub from_versions : (end : ℕ) → List ℕ → List Item
+from_versions end bytes = line_items version_descriptors ++ as_present 74 end hex_lines bytes
+
+abbrev pub extended_inquiry : Decoder
+extended_inquiry = record {
+  header = line_items inquiry_lines;
+  reported_end = λ bytes. 5 + slice_index bytes 4;
+  body = λ bytes end. before_versions end bytes ++ from_versions end bytes;
 }

@@ -7,7 +7,12 @@ pub mod Inquiry
 pub mod VitalProductData
 pub mod ModeParameters
 pub mod LbaStatus
+pub mod Capacity
 pub mod PersistentReservation
+pub mod ReportLuns
+pub mod SupportedOperations
+pub mod LogPages
+pub mod DefectData
 pub mod Entries
 -- and the texts that are no table.
 pub mod SenseText

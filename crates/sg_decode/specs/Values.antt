@@ -1,5 +1,5 @@
 -- The text of a field's value.
-use Rattle.std.specs.Prelude.{ℕ, ◌+◌, List, [], ◌∷◌, ◌++◌, map, drop, codes}
+use Rattle.std.specs.Prelude.{ℕ, ◌+◌, ◌%◌, ◌^◌, List, [], ◌∷◌, ◌++◌, map, drop, codes}
 use Rattle.std.specs.Prelude.{decimal, slice_index, slice_range, Option, Some, None, unwrap_or}
 use Rattle.std.specs.Prelude.{Bool, ◌&&◌, ◌==◌, nat_le, nat_lt, if◌then◌else◌}
 use Rattle.std.specs.List.{flat_map}
@@ -10,6 +10,7 @@ use Rattle.sg_wire.specs.Bits.{bits_of, has_bit}
 use Rattle.sg_decode.specs.HexText.{upper_hex_byte}
 use Rattle.sg_decode.specs.declared.value.Value.{Value}
 use Rattle.sg_decode.specs.declared.value.Value.TheVariants.{Bits, Code, Number, Address}
+use Rattle.sg_decode.specs.declared.value.Value.TheVariants.{Digits, AlignedAddress}
 use Rattle.sg_decode.specs.declared.value.Value.TheVariants.{Text, TextFrom, HexFrom}
 use Rattle.sg_decode.specs.declared.value.Value.TheVariants.{ProvisioningStatus, ReservationTypes}
 
@@ -67,6 +68,9 @@ value_text (Code byte high low) bytes = upper_hex_byte (bits_of (slice_index byt
 value_text (Number first count) bytes = decimal (big_number count (drop first bytes))
 value_text (Address first) bytes =
     codes "0x" ++ encode_lower (slice_range bytes first (first + 8))
+value_text (Digits first count) bytes =
+    codes "0x" ++ encode_lower (slice_range bytes first (first + count))
+value_text (AlignedAddress first) bytes = decimal (big_number 2 (drop first bytes) % 2 ^ 14)
 value_text (Text first count) bytes = bracketed (slice_range bytes first (first + count))
 value_text (TextFrom first) bytes = bracketed (drop first bytes)
 value_text (HexFrom first) bytes = encode_lower (drop first bytes)
@@ -80,6 +84,8 @@ value_end (Bits byte high low) = byte + 1
 value_end (Code byte high low) = byte + 1
 value_end (Number first count) = first + count
 value_end (Address first) = first + 8
+value_end (Digits first count) = first + count
+value_end (AlignedAddress first) = first + 2
 value_end (Text first count) = first + count
 value_end (TextFrom first) = first
 value_end (HexFrom first) = first
@@ -100,6 +106,8 @@ is_sound (Bits byte high low) = is_index byte && are_bits high low
 is_sound (Code byte high low) = is_index byte && are_bits high low
 is_sound (Number first count) = is_index first && (nat_le 1 count && nat_le count 8)
 is_sound (Address first) = is_index first
+is_sound (Digits first count) = is_index first && is_index count
+is_sound (AlignedAddress first) = is_index first
 is_sound (Text first count) = is_index first && is_index count
 is_sound (TextFrom first) = is_index first
 is_sound (HexFrom first) = is_index first

@@ -9,6 +9,7 @@ use Rattle.sg_decode.specs.Items.{Decoder, Item, line_items, as_present, entries
 use Rattle.sg_decode.specs.Entries.{entry_of}
 use Rattle.sg_decode.specs.Inquiry.{peripheral}
 use Rattle.sg_decode.specs.declared.entry.EntryKind.TheVariants.{SupportedPages, Designators}
+use Rattle.sg_decode.specs.declared.entry.EntryKind.TheVariants.{ModePagePolicies, ScsiPorts}
 use Rattle.sg_decode.specs.declared.value.Value.TheVariants.{Bits, Code, Number}
 
 abbrev pub page_header : List Line
@@ -68,4 +69,86 @@ vital_product_data = record {
   header = line_items page_header;
   reported_end = λ bytes. 4 + big_number 2 (drop 2 bytes);
   body = λ bytes end. page_body (slice_index bytes 1) bytes end;
+}
+
+-- ---- Pages that only the extended profile knows
+
+-- Extended INQUIRY Data (SPC-4, 7.8.7).
+abbrev protection_flags : Line
+protection_flags =
+    part (codes "  activate microcode: ") (Bits 4 7 6)
+    ∷ part (codes ", SPT: ") (Bits 4 5 3)
+    ∷ part (codes ", GRD_CHK: ") (Bits 4 2 2)
+    ∷ part (codes ", APP_CHK: ") (Bits 4 1 1)
+    ∷ part (codes ", REF_CHK: ") (Bits 4 0 0)
+    ∷ []
+
+abbrev task_flags : Line
+task_flags =
+    part (codes "  UASK_SUP: ") (Bits 5 5 5)
+    ∷ part (codes ", GROUP_SUP: ") (Bits 5 4 4)
+    ∷ part (codes ", PRIOR_SUP: ") (Bits 5 3 3)
+    ∷ part (codes ", HEADSUP: ") (Bits 5 2 2)
+    ∷ part (codes ", ORDSUP: ") (Bits 5 1 1)
+    ∷ part (codes ", SIMPSUP: ") (Bits 5 0 0)
+    ∷ []
+
+abbrev medium_flags : Line
+medium_flags =
+    part (codes "  WU_SUP: ") (Bits 6 3 3)
+    ∷ part (codes ", CRD_SUP: ") (Bits 6 2 2)
+    ∷ part (codes ", NV_SUP: ") (Bits 6 1 1)
+    ∷ part (codes ", V_SUP: ") (Bits 6 0 0)
+    ∷ []
+
+abbrev download_attention_flags : Line
+download_attention_flags =
+    part (codes "  POA_SUP: ") (Bits 12 7 7)
+    ∷ part (codes ", HRA_SUP: ") (Bits 12 6 6)
+    ∷ part (codes ", VSA_SUP: ") (Bits 12 5 5)
+    ∷ []
+
+abbrev pub extended_inquiry_data : List Line
+extended_inquiry_data =
+    protection_flags
+    ∷ task_flags
+    ∷ medium_flags
+    ∷ (part (codes "  P_I_I_SUP: ") (Bits 7 4 4) ∷ part (codes ", LUICLR: ") (Bits 7 0 0) ∷ [])
+    ∷ (part (codes "  R_SUP: ") (Bits 8 4 4) ∷ part (codes ", CBCS: ") (Bits 8 0 0) ∷ [])
+    ∷ (part (codes "  multi I_T nexus microcode download: ") (Bits 9 3 0) ∷ [])
+    ∷ (part (codes "  extended self-test completion minutes: ") (Number 10 2) ∷ [])
+    ∷ download_attention_flags
+    ∷ (part (codes "  maximum supported sense data length: ") (Number 13 1) ∷ [])
+    ∷ []
+
+-- Block Device Characteristics (SBC-3, vital product data parameters).
+abbrev form_factor : Line
+form_factor =
+    part (codes "  WABEREQ: ") (Bits 7 7 6)
+    ∷ part (codes ", WACEREQ: ") (Bits 7 5 4)
+    ∷ part (codes ", nominal form factor: ") (Bits 7 3 0)
+    ∷ []
+
+abbrev pub block_device_characteristics : List Line
+block_device_characteristics =
+    (part (codes "  medium rotation rate: ") (Number 4 2) ∷ [])
+    ∷ (part (codes "  product type: ") (Code 6 7 0) ∷ [])
+    ∷ form_factor
+    ∷ (part (codes "  FUAB: ") (Bits 8 1 1) ∷ part (codes ", VBULS: ") (Bits 8 0 0) ∷ [])
+    ∷ []
+
+abbrev pub extended_page_body : (code : ℕ) → (bytes : List ℕ) → (end : ℕ) → List Item
+extended_page_body code bytes end =
+    if code == 0x86 then line_items extended_inquiry_data
+    else (if code == 0x87 then entries_from (entry_of ModePagePolicies) 4 bytes
+    else (if code == 0x88 then entries_from (entry_of ScsiPorts) 4 bytes
+    else (if code == 0xB1 then line_items block_device_characteristics
+    else page_body code bytes end)))
+
+-- A page, as an extended disk's script shows it.
+abbrev pub extended_vital_product_data : Decoder
+extended_vital_product_data = record {
+  header = line_items page_header;
+  reported_end = λ bytes. 4 + big_number 2 (drop 2 bytes);
+  body = λ bytes end. extended_page_body (slice_index bytes 1) bytes end;
 }

@@ -14,7 +14,7 @@ pub(crate) const PERIPHERAL: &[Field] = &[
     Field(b", type: ", Value::Code(0, 4, 0)),
 ];
 
-const LINES: [&[Field]; 8] = [
+pub(crate) const LINES: [&[Field]; 8] = [
     PERIPHERAL,
     &[Field(b"  removable: ", Value::Bits(1, 7, 7))],
     &[Field(b"  version: ", Value::Code(2, 7, 0))],
@@ -26,7 +26,7 @@ const LINES: [&[Field]; 8] = [
 ];
 
 /// The first byte after the bytes of the lines.
-const DUMP: usize = 36;
+pub(crate) const DUMP: usize = 36;
 
 /// Prints standard INQUIRY data (SPC-4, 6.6.2), and the bytes after its 36 bytes in hex lines.
 #[tactic(auto, using(crate::proofs::DecoderLemmas::decoders), unfolding(crate::specs::Items::decoded))]

@@ -1,5 +1,5 @@
 // The fields of an answer, and the texts of their values.
-ghost use Rattle.std.specs.Prelude.{◌≡◌, ◌≤◌, ◌<◌, ◌+◌, ◌^◌, ◌++◌, drop, [], length, codes};
+ghost use Rattle.std.specs.Prelude.{◌≡◌, ◌≤◌, ◌<◌, ◌+◌, ◌%◌, ◌^◌, ◌++◌, drop, [], length, codes};
 ghost use Rattle.std.specs.Prelude.{option_map, true, if◌then◌else◌};
 ghost use Rattle.byteorder.specs.Endian.{big_number};
 ghost use Rattle.hex.specs.Hex.{encode_lower};
@@ -24,6 +24,11 @@ pub(crate) enum Value {
     Number(usize, usize),
     /// Eight bytes from the first on, as `0x` and sixteen digits.
     Address(usize),
+    /// Bytes as `0x` and two digits each: the first, and how many they are.
+    Digits(usize, usize),
+    /// The low fourteen bits of two bytes, in decimal: LOWEST ALIGNED LOGICAL BLOCK ADDRESS (SBC-3,
+    /// 5.16.2).
+    AlignedAddress(usize),
     /// A text in brackets: its first byte, and how many it has.
     Text(usize, usize),
     /// All bytes from the first on, as a text in brackets.
@@ -47,11 +52,12 @@ impl Value {
     {
         match self {
             Value::Bits(byte, _, _) | Value::Code(byte, _, _) => *byte + 1,
-            Value::Number(first, count) | Value::Text(first, count) => *first + *count,
+            Value::Number(first, count) | Value::Digits(first, count) | Value::Text(first, count) =>
+                *first + *count,
             Value::Address(first) => *first + 8,
             Value::TextFrom(first) | Value::HexFrom(first) => *first,
             Value::ProvisioningStatus(byte) => *byte + 1,
-            Value::ReservationTypes(first) => *first + 2,
+            Value::AlignedAddress(first) | Value::ReservationTypes(first) => *first + 2,
         }
     }
 
@@ -73,6 +79,8 @@ impl Value {
                 out,
             ),
             Value::Address(first) => put_address(&bytes[*first..*first + 8], out),
+            Value::Digits(first, count) => put_digits(&bytes[*first..*first + *count], out),
+            Value::AlignedAddress(first) => put_number(aligned_address(&bytes[*first..]), out),
             Value::Text(first, count) => put_bracketed(&bytes[*first..*first + *count], out),
             Value::TextFrom(first) => put_bracketed(&bytes[*first..], out),
             Value::HexFrom(first) => put_joined_hex(&bytes[*first..], out),
@@ -120,6 +128,22 @@ fn put_address<W: Write>(bytes: &[u8], out: &mut Printer<'_, W>)
 {
     out.put(b"0x");
     out.put(&sixteen_digits(bytes));
+}
+
+#[tactic(auto, using(crate::proofs::TextLemmas::prints))]
+fn put_digits<W: Write>(bytes: &[u8], out: &mut Printer<'_, W>)
+    ensures { PrintsText W.contents out.old out.new (codes "0x" ++ encode_lower bytes.now) }
+{
+    out.put(b"0x");
+    put_joined_hex(bytes, out);
+}
+
+/// The low fourteen bits of two bytes.
+fn aligned_address(bytes: &[u8]) -> u64
+    requires { 2 ≤ length bytes.now }
+    ensures { result ≡ big_number 2 bytes.now % 2 ^ 14 }
+{
+    u64::from(BigEndian::read_u16(bytes) % (1 << 14))
 }
 
 #[tactic(auto, using(crate::proofs::TextLemmas::prints))]

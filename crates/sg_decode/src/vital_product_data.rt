@@ -12,7 +12,7 @@ use crate::value::{Field, Value, number_of_two};
 use sg_wire::Printer;
 use std::io::Write;
 
-const HEADER: [&[Field]; 3] = [
+pub(crate) const HEADER: [&[Field]; 3] = [
     PERIPHERAL,
     &[Field(b"  page: ", Value::Code(1, 7, 0))],
     &[Field(b"  page length: ", Value::Number(2, 2))],
@@ -52,7 +52,7 @@ pub fn put_vpd<W: Write>(bytes: &[u8], out: &mut Printer<'_, W>)
 }
 
 /// Shows the bytes after the header, by the page code.
-fn show_page<W: Write>(code: u8, end: usize, bytes: &[u8], out: &mut Printer<'_, W>)
+pub(crate) fn show_page<W: Write>(code: u8, end: usize, bytes: &[u8], out: &mut Printer<'_, W>)
     requires end { end ≤ 2 ^ 17 }
     requires header { 4 ≤ length bytes.now }
     ensures { PrintsText W.contents out.old out.new

@@ -1,7 +1,10 @@
 -- Texts as C takes them: cut to a buffer, with a zero after the text.
-use Rattle.std.specs.Prelude.{◌≡◌, ◌⊎◌, ℕ, List, [], ◌∷◌, ◌++◌, MatchOption, codes, length, take}
+use Rattle.std.specs.Prelude.{◌≡◌, ◌⊎◌, ℕ, List, [], ◌∷◌, ◌++◌, Option, MatchOption, codes, length, take}
 use Rattle.sg_wire.specs.FirstBytes.{overwritten}
 use Rattle.sg_run.specs.AnswerText.{answer_text}
+use Rattle.sg_run.specs.FaultText.{faults_text}
+use Rattle.sg_embed.specs.Served.{target_of}
+use Rattle.sg_embed.specs.declared.kept.Kept.{Kept}
 use Rattle.sg_embed.specs.Kinds.{kind_numbered}
 
 -- A buffer with a text at its beginning, cut to the buffer, and a zero after the text.
@@ -25,9 +28,19 @@ IsUntouched before after result = (result ≡ no_text) × (after ≡ before)
 abbrev pub IsText : (text before after : List ℕ) → (result : ℕ) → Type 0
 IsText text before after result = (result ≡ length text) × (after ≡ text_in text before)
 
--- The text of an answer of the kind with a number is returned so, or memory was refused and the
--- buffer is as it was. No kind has another number.
+-- Or memory was refused for it.
+abbrev pub IsTextUnlessRefused : (text before after : List ℕ) → (result : ℕ) → Type 0
+IsTextUnlessRefused text before after result =
+    IsUntouched before after result ⊎ IsText text before after result
+
+-- The text of an answer of the kind with a number. No kind has another number.
 abbrev pub IsDecoded : (kind : ℕ) → (data_in before after : List ℕ) → (result : ℕ) → Type 0
 IsDecoded kind data_in before after result =
     MatchOption (kind_numbered kind) (IsUntouched before after result)
-    (λ show. IsUntouched before after result ⊎ IsText (answer_text show data_in) before after result)
+    (λ show. IsTextUnlessRefused (answer_text show data_in) before after result)
+
+-- The text of the faults that are armed on a disk, if there is a disk.
+abbrev pub IsFaultsText : Option Kept → (before after : List ℕ) → (result : ℕ) → Type 0
+IsFaultsText held before after result =
+    MatchOption held (IsUntouched before after result)
+    (λ kept. IsTextUnlessRefused (faults_text (target_of kept.target).faults) before after result)

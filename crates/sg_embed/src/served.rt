@@ -70,17 +70,18 @@ impl Served {
         ensures { result ≡ has_room_for happening.now (target_of self.now).faults }
     {
         match happening {
-            Happening::Arm(_) => self.has_free_number(),
+            Happening::Arm(_) => has_free_number(self.faults()),
             _ => true,
         }
     }
 
-    fn has_free_number(&self) -> bool
-        ensures { result ≡ has_free_number (target_of self.now).faults }
+    /// What is armed under each number.
+    pub(crate) fn faults(&self) -> &[Option<ArmedFault>]
+        ensures { result.now ≡ (target_of self.now).faults }
     {
         match self {
-            Served::Runs(target) => has_free_number(target.faults()),
-            Served::Extents(target) => has_free_number(target.faults()),
+            Served::Runs(target) => target.faults(),
+            Served::Extents(target) => target.faults(),
         }
     }
 

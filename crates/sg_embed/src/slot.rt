@@ -5,6 +5,7 @@ ghost use Rattle.sg_embed.specs.Holds.{holds};
 ghost use Rattle.sg_embed.specs.contracts.kept.Kept.{the_row};
 ghost use Rattle.sg_embed.specs.declared.kept.Kept.{Kept};
 
+use crate::answer::{NO_TEXT, list_faults};
 use crate::kept::Kept;
 use crate::outcome::Outcome;
 use crate::parts::Parts;
@@ -114,6 +115,7 @@ impl Slot {
     ghost use Rattle.sg_embed.specs.Executed.{disk_config, new_disk, registrants};
     ghost use Rattle.sg_embed.specs.Outcome.{IsUnlessOutOfMemory, execute_outcome, forget_outcome};
     ghost use Rattle.sg_embed.specs.Outcome.{happen_outcome, make_outcome};
+    ghost use Rattle.sg_embed.specs.Text.{IsFaultsText};
 
     /// Makes a disk as it is after power on, with `blocks` logical blocks. At most `pool` of them
     /// can be mapped at once. All memory is taken here. The disk stays as it was if the call
@@ -206,6 +208,20 @@ impl Slot {
     {
         let kept = self.kept()?;
         Some(u32::from(kept.target.registered_mask()))
+    }
+
+    /// Writes the text of the armed faults to the beginning of a buffer, as
+    /// [`decode`](crate::decode) does for an answer: each fault in the words that arm it, and what is
+    /// left of it. If there is no disk, or memory was refused, it returns
+    /// [`NO_TEXT`](crate::NO_TEXT), and the buffer is as it was.
+    pub fn list_faults(&mut self, alloc: Global, text: &mut [u8]) -> usize
+        ensures text { IsFaultsText self.old.held text.old text.new result }
+        ensures kept { self.new.held ≡ self.old.held }
+    {
+        match self.kept() {
+            Some(kept) => list_faults(alloc, kept.target.faults(), text),
+            None => NO_TEXT,
+        }
     }
 
     /// Clears the unit attentions that are pending for an initiator whose port is gone. The disk

@@ -191,9 +191,9 @@ impl Store for ExtentMap {
         self.remap(lba, count, &Content::Blocks(&Source::Repeated(block)))
     }
 
-    fn unmap(&mut self, lba: u64, count: u32) {
+    fn unmap(&mut self, lba: u64, count: u64) {
         disks_stay_well_formed();
-        let high = lba + u64::from(count);
+        let high = lba + count;
         gather(&mut self.table, &mut self.gathered, lba, high);
         unmap_range(
             &mut self.table,

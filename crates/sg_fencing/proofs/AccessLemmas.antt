@@ -1,5 +1,5 @@
 -- A command of a class that the reservation does not allow does not end with GOOD.
-use Rattle.std.proofs.Common.{◌≡◌, ℕ, false, List, [], ◌∷◌, Option, Some, None, Ok, refl, ap, sym}
+use Rattle.std.proofs.Common.{◌≡◌, ℕ, false, List, ◌∷◌, Option, Some, None, Ok, refl, ap, sym}
 use Rattle.std.proofs.Common.{◌∙◌}
 use Rattle.sg_wire.specs.Laws.{CommandsHaveTheirClass}
 use Rattle.sg_wire.specs.CdbDecoding.{class_in, class_of, command_in}
@@ -7,8 +7,8 @@ use Rattle.sg_wire.specs.declared.command.Class.{Class}
 use Rattle.sg_wire.specs.declared.profile.Profile.TheVariants.{Extended}
 use Rattle.sg_wire.proofs.ClassLemmas.{class-of_command}
 use Rattle.sg_units.specs.Access.{allows}
-use Rattle.sg_target.specs.Checks.{bad_field, cdb_checks, checked_cdb, empty_cdb, pending_attention}
-use Rattle.sg_target.specs.Checks.{reservation_conflict, short_cdb, unknown_opcode}
+use Rattle.sg_target.specs.Checks.{cdb_checks, checked_cdb, empty_cdb, outranking_attention}
+use Rattle.sg_target.specs.Checks.{reservation_conflict}
 use Rattle.sg_target.specs.Refusal.{first_some}
 use Rattle.sg_target.specs.State.{State, config_of, profile_of}
 use Rattle.sg_target.specs.Step.{Step, step}
@@ -25,22 +25,20 @@ module _ (state : State) (j : ℕ) where
       → reservation_conflict state j cdb ≡ Some Conflict
   conflict cdb class is not_allowed = rw (is, not_allowed) refl
 
-  no_conflict : (a b c d e f : Option Refusal)
-      → first_some (a ∷ b ∷ c ∷ d ∷ e ∷ f ∷ []) ≡ None → d ≡ Some Conflict → ⊥
-  no_conflict None None None (Some x) e f h k = cc
-  no_conflict None None None None e f h k = cc
-  no_conflict (Some x) b c d e f h k = cc
-  no_conflict None (Some x) c d e f h k = cc
-  no_conflict None None (Some x) d e f h k = cc
+  no_conflict : (a b c : Option Refusal) (rest : List (Option Refusal))
+      → first_some (a ∷ b ∷ c ∷ rest) ≡ None → c ≡ Some Conflict → ⊥
+  no_conflict None None (Some x) rest h k = cc
+  no_conflict None None None rest h k = cc
+  no_conflict (Some x) b c rest h k = cc
+  no_conflict None (Some x) c rest h k = cc
 
   -- a command that has passed the checks of its CDB is of a class that is allowed
   pub passed-is-allowed : (cdb : List ℕ) (class : Class) → first_some (cdb_checks state j cdb) ≡ None
       → class_in (profile_of state) cdb ≡ Some class → allows state.reservations j class ≡ false → ⊥
   passed-is-allowed cdb class passed is not_allowed =
       let command = command_in (profile_of state) cdb in
-      no_conflict (empty_cdb command) (pending_attention state j cdb) (unknown_opcode command)
-      (reservation_conflict state j cdb) (short_cdb command) (bad_field command) passed
-      (conflict cdb class is not_allowed)
+      no_conflict (empty_cdb command) (outranking_attention state j cdb)
+      (reservation_conflict state j cdb) _ passed (conflict cdb class is not_allowed)
 
   -- it does not ask for an operation of a class that is not allowed
   pub asked-is-allowed : CommandsHaveTheirClass → (cdb data_out : List ℕ) (operation : Operation)

@@ -29,11 +29,14 @@ use Rattle.sg_units.specs.declared.reservation_state.ReservationState.{Reservati
 use Rattle.sg_units.specs.declared.unit_attention.UnitAttention.{UnitAttention}
 use Rattle.sg_units.specs.declared.unit_attention.UnitAttention.TheVariants.{ModeParametersChanged}
 use Rattle.sg_units.specs.declared.unit_attention.UnitAttention.TheVariants.{ReportedLunsDataChanged}
-use Rattle.sg_target.specs.BlockCommands.{comparing, comparing_each, exchanging, reading, writing}
-use Rattle.sg_target.specs.Checks.{bad_field, cdb_checks, checked_parse, empty_cdb}
-use Rattle.sg_target.specs.Checks.{pending_attention, reservation_conflict, short_cdb}
+use Rattle.sg_target.specs.BlockCommands.{comparing, comparing_each, exchanging, or_writing, reading}
+use Rattle.sg_target.specs.BlockCommands.{writing}
+use Rattle.sg_target.specs.Checks.{attention_refusal, bad_field, blocking_attention, cdb_checks}
+use Rattle.sg_target.specs.Checks.{checked_parse, empty_cdb, if_it_outranks}
+use Rattle.sg_target.specs.Checks.{reservation_conflict, short_cdb}
 use Rattle.sg_target.specs.Checks.{unknown_opcode}
 use Rattle.sg_pages.specs.CapacityData.{capacity_10, capacity_16}
+use Rattle.sg_target.specs.Demands.{extent}
 use Rattle.sg_target.specs.Effect.{Effect, no_effect, returning, returning_up_to}
 use Rattle.sg_target.specs.ModeCommands.{attentions_after, changing_modes, mode_parameters}
 use Rattle.sg_target.specs.ModeCommands.{selected_modes}
@@ -42,13 +45,15 @@ use Rattle.sg_target.specs.PrimaryCommands.{returning_luns, returning_page, retu
 use Rattle.sg_target.specs.ProvisioningCommands.{anchoring, filling, reporting_status, unmapping}
 use Rattle.sg_target.specs.Refusal.{first_some, pending_sense, when_sound}
 use Rattle.sg_target.specs.ReservationCommands.{reporting}
+use Rattle.sg_target.specs.StartStop.{starting_or_stopping}
 use Rattle.sg_target.specs.State.{State, profile_of}
 use Rattle.sg_target.specs.Step.{Step, cut, executed, good, outcome, refused}
 use Rattle.sg_target.specs.Charge.{step_by}
 use Rattle.sg_target.specs.declared.operation.Operation.{Operation}
-use Rattle.sg_target.specs.declared.operation.Operation.TheVariants.{Compare, CompareAndWrite}
+use Rattle.sg_target.specs.declared.operation.Operation.TheVariants.{Compare, CompareAndWrite, OrWrite}
 use Rattle.sg_target.specs.declared.operation.Operation.TheVariants.{CompareEach, Verify}
 use Rattle.sg_target.specs.declared.operation.Operation.TheVariants.{Nothing, ReturnSense}
+use Rattle.sg_target.specs.declared.operation.Operation.TheVariants.{TestReady, StartStop}
 use Rattle.sg_target.specs.declared.operation.Operation.TheVariants.{ReturnInquiry, ReturnModes}
 use Rattle.sg_target.specs.declared.operation.Operation.TheVariants.{ChangeModes, ReturnCapacity10}
 use Rattle.sg_target.specs.declared.operation.Operation.TheVariants.{ReturnCapacity16, Read, Write}
@@ -56,7 +61,7 @@ use Rattle.sg_target.specs.declared.operation.Operation.TheVariants.{Synchronize
 use Rattle.sg_target.specs.declared.operation.Operation.TheVariants.{MarkBad, PreFetch}
 use Rattle.sg_target.specs.declared.operation.Operation.TheVariants.{ReturnLuns, ReturnReport}
 use Rattle.sg_target.specs.declared.operation.Operation.TheVariants.{Anchor, AnchorExtent}
-use Rattle.sg_target.specs.declared.operation.Operation.TheVariants.{UnmapExtent, ReturnLbaStatus}
+use Rattle.sg_target.specs.declared.operation.Operation.TheVariants.{UnmapAll, UnmapExtent, ReturnLbaStatus}
 use Rattle.sg_target.specs.declared.operation.Operation.TheVariants.{ReturnReservations}
 use Rattle.sg_target.specs.declared.operation.Operation.TheVariants.{ChangeReservations}
 use Rattle.sg_target.specs.declared.refusal.Reason.TheVariants.{UnitAttention as Attention}
@@ -253,7 +258,7 @@ module _ (Related : ReservationState → ReservationState → Type 0) (s : State
     answer =
         λ _. ap
         (λ (queue : List UnitAttention). good (cut (Some n)
-        (sense_data format (pending_sense (slice_get queue 0))))) own;
+        (sense_data format (pending_sense s.stopped (slice_get queue 0))))) own;
     found = refl;
   }
 
@@ -283,6 +288,9 @@ module _ (Related : ReservationState → ReservationState → Type 0) (s : State
   pub operation-agrees : (operation : Operation) → shows operation ≡ false
       → Steps false (step_by s i operation) (step_by t i operation)
   unfolding selected_modes
+  operation-agrees TestReady c = leaving (no_effect s) (no_effect t) refl refl refl refl refl
+  operation-agrees (StartStop start) c =
+      leaving (starting_or_stopping s start) (starting_or_stopping t start) refl refl refl refl refl
   operation-agrees Nothing c = leaving (no_effect s) (no_effect t) refl refl refl refl refl
   operation-agrees (ReturnSense format n) c =
       effect-agree false (returning_sense s i format n) (returning_sense t i format n) (sense-agree format n)
@@ -319,6 +327,7 @@ module _ (Related : ReservationState → ReservationState → Type 0) (s : State
       leaving (comparing_each s extent block) (comparing_each t extent block) refl refl refl refl refl
   operation-agrees (CompareAndWrite exchange) c =
       leaving (exchanging s exchange) (exchanging t exchange) refl refl refl refl refl
+  operation-agrees (OrWrite out) c = leaving (or_writing s out) (or_writing t out) refl refl refl refl refl
   operation-agrees (PreFetch extent) c = leaving (no_effect s) (no_effect t) refl refl refl refl refl
   operation-agrees (Synchronize extent) c = leaving (no_effect s) (no_effect t) refl refl refl refl refl
   operation-agrees (MarkBad lba cor_dis) c = leaving (no_effect s) (no_effect t) refl refl refl refl refl
@@ -328,6 +337,9 @@ module _ (Related : ReservationState → ReservationState → Type 0) (s : State
       leaving (unmapping s extents) (unmapping t extents) refl refl refl refl refl
   operation-agrees (UnmapExtent extent) c =
       leaving (unmapping s (extent ∷ [])) (unmapping t (extent ∷ [])) refl refl refl refl refl
+  operation-agrees (UnmapAll blocks) c =
+      leaving (unmapping s (extent 0 blocks ∷ [])) (unmapping t (extent 0 blocks ∷ [])) refl refl refl
+      refl refl
   operation-agrees (Anchor extents) c =
       leaving (anchoring s extents) (anchoring t extents) refl refl refl refl refl
   operation-agrees (AnchorExtent extent) c =
@@ -352,15 +364,15 @@ module _ (Related : ReservationState → ReservationState → Type 0) (s : State
         → first_some (cdb_checks s i cdb) ≡ first_some (cdb_checks t i cdb)
     checks-same cdb =
         let command = command_in (profile_of s) cdb in
-        let pending : pending_attention s i cdb ≡ pending_attention t i cdb =
+        let blocking : blocking_attention s i cdb ≡ blocking_attention t i cdb =
         ap
         (λ (queue : List UnitAttention).
-        cond {A = Option Refusal} (is_blocked_in (profile_of s) cdb)
-        (option_map (λ condition. CheckCondition (Attention condition)) (slice_get queue 0)) None) own in
+        cond {A = Option UnitAttention} (is_blocked_in (profile_of s) cdb) (slice_get queue 0) None) own in
         let conflict : reservation_conflict s i cdb ≡ reservation_conflict t i cdb =
         conflict-same (class_in (profile_of s) cdb) in
         λ d. first_some (
-        empty_cdb command ∷ pending d ∷ unknown_opcode command ∷ conflict d ∷ short_cdb command
+        empty_cdb command ∷ option_and_then (if_it_outranks s) (blocking d) ∷ conflict d
+        ∷ option_map attention_refusal (blocking d) ∷ unknown_opcode command ∷ short_cdb command
         ∷ bad_field command ∷ [])
 
   pub parse-same : (data_out : List ℕ) (parsed : Result Command CdbFault)

@@ -57,7 +57,7 @@ pub refused-leaves : (state : State) (i : ℕ) (refusal : Refusal)
 refused-leaves state i (CheckCondition (Attention condition)) = refl
 refused-leaves state i _ = refl
 
-effect-leaves : (state : State) (i : ℕ) (effect : Result Effect Refusal) → Leaves state.disk effect
+pub effect-leaves : (state : State) (i : ℕ) (effect : Result Effect Refusal) → Leaves state.disk effect
     → (outcome state i effect).state.disk ≡ state.disk
 effect-leaves state i (Ok effect) h =
     outcome-by state i (λ (done : Step). done.state.disk ≡ state.disk) effect (refused-leaves state i)

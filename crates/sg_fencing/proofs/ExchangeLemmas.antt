@@ -17,6 +17,7 @@ use Rattle.sg_store.specs.Disk.{Contents, IsWellFormed, Mapping, block, block_at
 use Rattle.sg_store.specs.Disk.{written, zero_block}
 use Rattle.sg_store.specs.Disk.Mapping.{Data, Anchored}
 use Rattle.sg_store.specs.Laws.{MapsEachAddress, WritesEachBlock}
+use Rattle.sg_store.proofs.ComparisonLemmas.{none-same}
 use Rattle.sg_store.proofs.DiskLemmas.{blocks-more, blocks-none, inside}
 use Rattle.sg_target.specs.BlockCommands.{blocks_at, bytes_of, exchange_out, exchanging, miscompare}
 use Rattle.sg_target.specs.Charge.{step_by}
@@ -33,45 +34,6 @@ use Rattle.sg_target.proofs.LiftLemmas.{lifted, not_good, outcome-by, request_ch
 use Rattle.sg_fencing.specs.Exchanges.{ExchangesOrLeaves, ExchangesReplaceWhatTheyExpect}
 use Rattle.sg_fencing.specs.Exchanges.{IsExchanged, blocks_to_exchange}
 use Rattle.sg_fencing.proofs.DiskLemmas.{refused-leaves}
-
--- ---- Bytes without a difference
-
-abbrev from : ℕ → (bytes others : List ℕ) → Option ℕ
-from i bytes others = position_from (λ (pair : ℕ × ℕ). not (pair.0 == pair.1)) i (zip bytes others)
-
-none_step : (b : Bool) (m : Option ℕ) (i : ℕ) → cond (not b) (Some i) m ≡ None
-    → (b ≡ true) × (m ≡ None)
-none_step true m i e = (refl, e)
-none_step false m i e = cc
-
-from-none : (xs ys : List ℕ) (i : ℕ) → length xs ≡ length ys → from i xs ys ≡ None → xs ≡ ys
-from-none [] [] i len e = refl
-from-none [] (y ∷ ys) i len e = absurd (omega arith)
-from-none (x ∷ xs) [] i len e = absurd (omega arith)
-from-none (x ∷ xs) (y ∷ ys) i len e =
-    let step = none_step (x == y) (from (i + 1) xs ys) i e in
-    ap₂ (λ z zs. z ∷ zs) ((Decides-eqb x y).0 step.0) (from-none xs ys (i + 1) (omega arith) step.1)
-
--- as many bytes with no difference are the same
-none-same : (xs ys : List ℕ) → length xs ≡ length ys → first_difference xs ys ≡ None → xs ≡ ys
-unfolding first_difference
-none-same xs ys len e =
-    from-none xs ys 0 len
-    (sym (position_from-zero (λ (pair : ℕ × ℕ). not (pair.0 == pair.1)) (zip xs ys)) ∙ e)
-
-equal : (n : ℕ) → (n == n) ≡ true
-equal n = (Decides-eqb n n).1 refl
-
-from-equal : (xs : List ℕ) (i : ℕ) → from i xs xs ≡ None
-from-equal [] i = refl
-from-equal (x ∷ xs) i =
-    ap (λ b. cond (not b) (Some i) (from (i + 1) xs xs)) (equal x) ∙ from-equal xs (i + 1)
-
--- bytes do not differ from the same bytes
-pub same-none : (xs : List ℕ) → first_difference xs xs ≡ None
-unfolding first_difference
-same-none xs =
-    position_from-zero (λ (pair : ℕ × ℕ). not (pair.0 == pair.1)) (zip xs xs) ∙ from-equal xs 0
 
 -- ---- Joined blocks
 

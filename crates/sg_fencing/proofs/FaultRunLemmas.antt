@@ -30,7 +30,7 @@ use Rattle.sg_fencing.specs.WithFaults.{IsFencedOut, NeverRegistersItself, Stays
 use Rattle.sg_fencing.proofs.FaultLemmas.{kept-away, left-without-writing}
 use Rattle.sg_fencing.proofs.FaultLemmas.{registers-itself-with-faults}
 use Rattle.sg_fencing.proofs.OperationLemmas.{listed}
-use Rattle.sg_fencing.proofs.OthersLemmas.{Keeps}
+use Rattle.sg_fencing.proofs.OthersLemmas.{Keeps, same}
 use Rattle.sg_fencing.proofs.OutsiderLemmas.{IsOutside, outsider-keeps, shut}
 use Rattle.sg_fencing.proofs.PowerLemmas.{unknown-after}
 use Rattle.sg_fencing.proofs.PreemptLemmas.{preempt-unregisters}
@@ -47,8 +47,8 @@ fenced-out drops stays refuses classes disk j h w cdb data_out =
       others =
           λ i apart. let other : j ≡ i → ⊥ = λ e. apart (sym e) in
           (left-without-writing drops disk j cdb data_out (λ (after : State). Keeps disk.state after i)
-          (record { identity = refl; view = refl })
-          (outsider-keeps refuses classes disk.state i j other h w cdb data_out) classes no.writes).view;
+          (same disk.state i)
+          (outsider-keeps refuses classes disk.state i j other h w cdb data_out) classes no.writes).left;
     }
 
 -- ---- Over events

@@ -170,11 +170,13 @@ first-writes-nothing n operation h = λ e. h (sym (first-class n operation) ∙ 
 
 no-writes : (o : Operation) → WritesNothing o → (medium_use o).writes ≡ false
 no-writes (operation.CompareAndWrite exchange) h = absurd (h refl)
+no-writes (operation.OrWrite out) h = absurd (h refl)
 no-writes (operation.Write out) h = absurd (h refl)
 no-writes (operation.Fill extent block) h = absurd (h refl)
 no-writes (operation.MarkBad lba cor_dis) h = absurd (h refl)
 no-writes (operation.Unmap extents) h = absurd (h refl)
 no-writes (operation.UnmapExtent extent) h = absurd (h refl)
+no-writes (operation.UnmapAll blocks) h = absurd (h refl)
 no-writes (operation.Anchor extents) h = absurd (h refl)
 no-writes (operation.AnchorExtent extent) h = absurd (h refl)
 no-writes _ h = refl

@@ -19,10 +19,11 @@ use Rattle.sg_wire.proofs.ProfileLemmas.{read-any}
 use Rattle.sg_store.specs.Comparison.{first_difference}
 use Rattle.sg_store.specs.Disk.{block_at, need}
 use Rattle.sg_store.specs.Disk.Mapping.{Data}
+use Rattle.sg_store.proofs.ComparisonLemmas.{same-none}
 use Rattle.sg_store.specs.Laws.{RemappingTakesWhatIsNeeded}
 use Rattle.sg_target.specs.BlockCommands.{blocks_at, bytes_of, exchange_out, exchanging, miscompare}
 use Rattle.sg_target.specs.Checks.{cdb_checks, checked_cdb, checked_effect, checked_operation}
-use Rattle.sg_target.specs.Checks.{checked_parse, medium_checks, out_of_range, requested}
+use Rattle.sg_target.specs.Checks.{checked_parse, medium_checks, not_ready, out_of_range, requested}
 use Rattle.sg_target.specs.Checks.{short_data_out, unsupported_value, write_protection}
 use Rattle.sg_target.specs.Demands.{extent, takes_no_data, wrong_length}
 use Rattle.sg_target.specs.Effect.{Effect, no_space}
@@ -38,8 +39,7 @@ use Rattle.sg_target.proofs.NeedLemmas.{inside}
 use Rattle.sg_target.proofs.Space.{space-left}
 use Rattle.sg_fencing.specs.Exchanges.{ExchangesThatNothingForbidsEndWithGood, NothingForbidsExchange}
 use Rattle.sg_fencing.specs.Exchanges.{blocks_to_exchange}
-use Rattle.sg_fencing.proofs.ExchangeLemmas.{same-none}
-use Rattle.sg_fencing.proofs.WriteLemmas.{cdb-none, first-none, protection-none, range-none}
+use Rattle.sg_fencing.proofs.WriteLemmas.{cdb-none, first-none, protection-none, range-none, ready-none}
 
 -- ---- The checks
 
@@ -65,10 +65,12 @@ module _ (state : State) (i : ℕ) (data_out : List ℕ) (named : Extent)
       (effect_of state i))
   by-request None h =
       by-medium (first_some (medium_checks state (medium_use asked)))
+      (first-none (not_ready state (medium_use asked)) _
+      (ready-none state (medium_use asked) free.write.ready)
       (first-none (out_of_range state.disk.capacity (named ∷ [])) _
       (range-none state.disk.capacity named free.write.on_disk)
       (first-none (write_protection (rules_of (profile_of state)) state.modes (medium_use asked)) []
-      (protection-none _ state.modes (medium_use asked) free.write.unprotected) refl))
+      (protection-none _ state.modes (medium_use asked) free.write.unprotected) refl)))
   by-request (Some refusal) h = cc
 
   abbrev OfExtent : Extent → Type 0

@@ -31,6 +31,7 @@ group-alike first second i cdb data_out identity view own =
       disk = (view d).disk;
       modes = (view d).modes;
       attentions = second.attentions;
+      stopped = (view d).stopped;
       reservations =
           record {
             registrations = (view d).registrations;

@@ -215,12 +215,14 @@ pub same-view : (first second : State) (i : ℕ) → first.disk ≡ second.disk
     → pending_for first.attentions i ≡ pending_for second.attentions i
     → key_of first.reservations.registrations i ≡ key_of second.reservations.registrations i
     → first.reservations.reservation ≡ second.reservations.reservation
+    → first.stopped ≡ second.stopped
     → view_of first i ≡ view_of second i
-same-view first second i disk modes attentions key reservation =
+same-view first second i disk modes attentions key reservation stopped =
     λ d. record {
       disk = disk d;
       modes = modes d;
       attentions = attentions d;
       key = key d;
       reservation = reservation d;
+      stopped = stopped d;
     }

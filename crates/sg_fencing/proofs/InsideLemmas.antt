@@ -35,7 +35,7 @@ use Rattle.sg_target.specs.declared.reply.Status.TheVariants.{Good}
 use Rattle.sg_fencing.specs.ChosenAnswers.{calls_among}
 use Rattle.sg_fencing.specs.Fencing.{View, view_of}
 use Rattle.sg_fencing.specs.Group.{IsAsIfInsideAlone, IsReservedFrom, answers_inside, calls_inside}
-use Rattle.sg_fencing.specs.Group.{NoneIsCounted, group_view, is_from_inside}
+use Rattle.sg_fencing.specs.Group.{NoneIsCounted, NoneStarts, group_view, is_from_inside}
 use Rattle.sg_fencing.specs.Laws.{RefusedChangesNothing}
 use Rattle.sg_fencing.specs.Registrants.{StaysUnregistered, is_registering, is_registrant}
 use Rattle.sg_fencing.specs.Registrants.{registering_list, rules_for}
@@ -43,7 +43,7 @@ use Rattle.sg_fencing.proofs.AgreeLemmas.{AreSame, steps-agree, with_attentions}
 use Rattle.sg_fencing.proofs.AlikeLemmas.{StepsAgree, with_others}
 use Rattle.sg_fencing.proofs.FencedRunLemmas.{answers_in}
 use Rattle.sg_fencing.proofs.NewcomerLemmas.{with-list}
-use Rattle.sg_fencing.proofs.OthersLemmas.{Keeps}
+use Rattle.sg_fencing.proofs.OthersLemmas.{Keeps, same-stopped}
 use Rattle.sg_fencing.proofs.OutsiderLemmas.{IsOutside, outsider-keeps}
 use Rattle.sg_fencing.proofs.PersistLemmas.{is_other, of-kind}
 use Rattle.sg_fencing.proofs.RegistrationLemmas.{IsIdle, outcome-idle}
@@ -144,14 +144,16 @@ idle : OthersAreRefused → CommandsHaveTheirClass → RefusedChangesNothing →
     → (counts state j h.unknown (registering_list (command_of cdb) data_out) ≡ true
     → (step state j cdb data_out).answer.status ≢ Good)
     → is_registrant (step state j cdb data_out).state j ≡ false
+    → (state.stopped ≡ true → (step state j cdb data_out).state.stopped ≡ true)
     → LeavesOthers j state (step state j cdb data_out).state
-idle refuses classes keeps_refused state j h w cdb data_out uncounted gone =
+idle refuses classes keeps_refused state j h w cdb data_out uncounted gone starts =
     let after = (step state j cdb data_out).state in
     let kept : (k : ℕ) (other : j ≡ k → ⊥) → Keeps state after k =
     λ k other. outsider-keeps refuses classes state k j other h w cdb data_out in
     let one = kept (suc j) (next-differs j) in
-    let disk = ap (λ (v : View). v.disk) (sym one.view) in
-    let modes = ap (λ (v : View). v.modes) (sym one.view) in
+    let disk = ap (λ (v : View). v.disk) (sym one.left.view) in
+    let modes = ap (λ (v : View). v.modes) (sym one.left.view) in
+    let stopped = same-stopped state.stopped after.stopped one.left.not_stopped starts in
     let same = reservations-stay state j h.unknown keeps_refused cdb data_out uncounted gone in
     let reservations = sym same in
     let identity = sym one.identity in
@@ -163,8 +165,9 @@ idle refuses classes keeps_refused state j h w cdb data_out uncounted gone =
             modes = modes d;
             attentions = after.attentions;
             reservations = reservations d;
+            stopped = stopped d;
           };
-      queues = λ k other. ap (λ (v : View). v.attentions) (kept k other).view;
+      queues = λ k other. ap (λ (v : View). v.attentions) (kept k other).left.view;
     }
 
 -- ---- Two runs
@@ -203,6 +206,7 @@ module _ (limits : LimitsAreKept) (refuses : OthersAreRefused) (classes : Comman
     stay : (k : ℕ) → outside k ≡ true → StaysUnregistered k s calls
     reserved : IsReservedFrom outside s calls
     uncounted : NoneIsCounted outside s calls
+    starts : NoneStarts outside s calls
 
   record Ends (s t : State) (calls own : List Call) : Type 0 where
     answers : answers_inside outside s calls ≡ answers t own
@@ -219,6 +223,7 @@ module _ (limits : LimitsAreKept) (refuses : OthersAreRefused) (classes : Comman
     stay = λ k o n other e from. h.stay k o (suc n) other e from;
     reserved = λ n other e o. h.reserved (suc n) other e o;
     uncounted = λ n other e o. h.uncounted (suc n) other e o;
+    starts = λ n other e o. h.starts (suc n) other e o;
   }
 
   abbrev exchanges : State → List Call → List (Call × Answer)
@@ -252,7 +257,7 @@ module _ (limits : LimitsAreKept) (refuses : OthersAreRefused) (classes : Comman
       let unknown = h.stay j e 0 call refl refl in
       let is_out : IsOutside s j = record { held = h.reserved 0 call refl e; unknown = unknown.0 } in
       let after = idle refuses classes keeps_refused s j is_out h.within call.cdb.now call.data_out.now
-      (h.uncounted 0 call refl e) unknown.1 in
+      (h.uncounted 0 call refl e) unknown.1 (h.starts 0 call refl e) in
       let same = one-next s t (step_of s call).state j h.same e after in
       let ends = rest (step_of s call).state t (begins-next s t t call calls h same) in
       let more = exchanges (step_of s call).state calls in
@@ -272,8 +277,8 @@ module _ (limits : LimitsAreKept) (refuses : OthersAreRefused) (classes : Comman
   pub left-out : (state : State) (calls : List Call) → IsWithinLimits state
       → ((k : ℕ) → outside k ≡ true → StaysUnregistered k state calls)
       → IsReservedFrom outside state calls → NoneIsCounted outside state calls
-      → IsAsIfInsideAlone outside state calls
-  left-out state calls w stay reserved uncounted =
+      → NoneStarts outside state calls → IsAsIfInsideAlone outside state calls
+  left-out state calls w stay reserved uncounted starts =
       let start : LookSame state state = record { rest = refl; queues = λ k i. refl } in
       let ends = run-alike calls state state (record {
         within = w;
@@ -281,6 +286,7 @@ module _ (limits : LimitsAreKept) (refuses : OthersAreRefused) (classes : Comman
         stay = stay;
         reserved = reserved;
         uncounted = uncounted;
+        starts = starts;
       }) in
       let all = state_after_all state calls in
       record {

@@ -39,6 +39,8 @@ mod FencedRunLemmas
 mod PowerLemmas
 mod PersistLemmas
 mod PoweredRunLemmas
+-- A stopped unit.
+mod StoppingLemmas
 -- Armed faults.
 mod FaultUnseenLemmas
 mod FaultsLeftLemmas

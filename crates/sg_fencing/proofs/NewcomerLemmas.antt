@@ -42,7 +42,7 @@ use Rattle.sg_fencing.specs.Group.{IsSeen}
 use Rattle.sg_fencing.specs.Registrants.{is_registering, is_registrant, registering_list, rules_for}
 use Rattle.sg_target.proofs.LiftLemmas.{lifted}
 use Rattle.sg_fencing.proofs.OperationLemmas.{listed}
-use Rattle.sg_fencing.proofs.OthersLemmas.{changed-keeps}
+use Rattle.sg_fencing.proofs.OthersLemmas.{changed-view}
 use Rattle.sg_fencing.proofs.RegistrationLemmas.{not_so, outcome-leaves}
 
 -- ---- The outcome
@@ -179,6 +179,7 @@ module _ (state : State) (j : ℕ) (unknown : is_registrant state j ≡ false) (
           λ d. record {
             disk = state.disk;
             modes = state.modes;
+            stopped = state.stopped;
             registrations = h.registrations d;
             generation = generation_after (h.increments d) state.reservations.generation;
             reservation = h.reservation d;
@@ -189,7 +190,7 @@ module _ (state : State) (j : ℕ) (unknown : is_registrant state j ≡ false) (
           let left =
           (outcome-leaves (rules_for state) state.reservations i j (ne_eqb j i other) unknown action
           scope_type list).shown change e in
-          (changed-keeps state i j w change left.key left.reservation left.unraised).view;
+          changed-view state i j w change left.key left.reservation left.unraised;
     }
 
     pub newcomer-seen : (cdb data_out : List ℕ) → registering_list (command_of cdb) data_out ≡ Some list

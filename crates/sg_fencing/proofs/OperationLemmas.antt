@@ -1,39 +1,42 @@
 -- The facts about a command that its operation shows. Of the laws' modules only this one knows
 -- commands. A command has a case only if its operation looks at more than its fields.
 use Rattle.std.proofs.Common.{◌≡◌, ℕ, Bool, true, false, List, Option, Some, None, Result, Ok, Err}
-use Rattle.std.proofs.Common.{◌==◌, refl, subst, cond, sym, ◌∙◌}
+use Rattle.std.proofs.Common.{◌==◌, ◌&&◌, refl, subst, ap, cond, sym, ◌∙◌}
 use Rattle.std.proofs.lemmas.Bool.{false≢true}
 use Rattle.std.specs.Prelude.{if◌then◌else◌, ok_or}
 use Rattle.sg_wire.specs.FirstBytes.{first_bytes}
 use Rattle.sg_wire.specs.Layout.{layout}
 use Rattle.sg_wire.specs.declared.command.Class.{Class}
-use Rattle.sg_wire.specs.declared.command.Class.TheVariants.{Reads, Writes}
+use Rattle.sg_wire.specs.declared.command.Class.TheVariants.{Always, Reads, Writes}
 use Rattle.sg_wire.specs.declared.command.Command.{Command}
 use Rattle.sg_wire.specs.declared.command.Command.TheVariants as command
 use Rattle.sg_wire.specs.declared.command.CdbFault.{CdbFault}
+use Rattle.sg_wire.specs.declared.command.format.FormatUnit.{FormatUnit}
 use Rattle.sg_wire.specs.declared.command.out_action.OutAction.{OutAction}
 use Rattle.sg_wire.specs.declared.extent.Extent.{Extent}
 use Rattle.sg_wire.specs.declared.out_list.OutList.{OutList}
+use Rattle.sg_wire.specs.declared.command.start_stop.StartStopUnit.{StartStopUnit}
 use Rattle.sg_wire.specs.declared.command.verify.ByteCheck.{ByteCheck}
 use Rattle.sg_wire.specs.declared.command.verify.ByteCheck.TheVariants as check
 use Rattle.sg_pages.specs.BlockDescriptor.{logical_block_length}
 use Rattle.sg_target.specs.Demands.{extent, takes, too_long, verify, verify_only}
 use Rattle.sg_target.specs.Armed.{first_blocks}
 use Rattle.sg_target.specs.Config.{ConfigFields}
-use Rattle.sg_target.specs.Demands.{demands, unmap_extent, unmap_extents}
+use Rattle.sg_target.specs.Demands.{demands, list_refusal, unmap_extent, unmap_extents}
 use Rattle.sg_target.specs.PrimaryCommands.{inquiry_page}
-use Rattle.sg_target.specs.ProvisioningCommands.{block_out, listed_extents, unmaps}
+use Rattle.sg_target.specs.ProvisioningCommands.{block_out, unmaps}
+use Rattle.sg_target.specs.Demands.{extents_out}
 use Rattle.sg_wire.specs.SupportedOperations.{requested_report}
 use Rattle.sg_pages.specs.Reports.{lists_unit, log_page_with}
 use Rattle.sg_pages.specs.declared.reports.Report.TheVariants as report
-use Rattle.sg_target.specs.Refusal.{or_refused, when_sound}
+use Rattle.sg_target.specs.Refusal.{or_refused, unless_refused, when_sound}
 use Rattle.sg_target.specs.ReservationCommands.{fields_out}
 use Rattle.sg_target.specs.declared.operation.Operation.{Operation}
-use Rattle.sg_target.specs.declared.operation.Operation.TheVariants.{Compare, CompareAndWrite}
+use Rattle.sg_target.specs.declared.operation.Operation.TheVariants.{Compare, CompareAndWrite, OrWrite}
 use Rattle.sg_target.specs.declared.operation.Operation.TheVariants.{CompareEach, Verify}
 use Rattle.sg_target.specs.declared.operation.Operation.TheVariants.{ChangeModes, Read, Write, Fill}
 use Rattle.sg_target.specs.declared.operation.Operation.TheVariants.{Unmap, UnmapExtent, Anchor, AnchorExtent}
-use Rattle.sg_target.specs.declared.operation.Operation.TheVariants.{MarkBad}
+use Rattle.sg_target.specs.declared.operation.Operation.TheVariants.{MarkBad, StartStop, UnmapAll}
 use Rattle.sg_target.specs.declared.operation.Operation.TheVariants.{ReturnInquiry, ReturnLbaStatus}
 use Rattle.sg_target.specs.declared.operation.Operation.TheVariants.{ReturnLuns, ReturnReport}
 use Rattle.sg_target.specs.declared.operation.Operation.TheVariants.{ReturnReservations}
@@ -54,14 +57,17 @@ class_for (Verify extent) = Some Reads
 class_for (Compare out) = Some Reads
 class_for (CompareEach extent block) = Some Reads
 class_for (CompareAndWrite exchange) = Some Writes
+class_for (OrWrite out) = Some Writes
 class_for (Write out) = Some Writes
 class_for (Fill extent block) = Some Writes
 class_for (MarkBad lba cor_dis) = Some Writes
 class_for (Unmap extents) = Some Writes
 class_for (UnmapExtent extent) = Some Writes
+class_for (UnmapAll blocks) = Some Writes
 class_for (Anchor extents) = Some Writes
 class_for (AnchorExtent extent) = Some Writes
 class_for (ChangeModes width sp list) = Some Writes
+class_for (StartStop false) = Some Writes
 class_for _ = None
 
 -- the first blocks of an operation are of its class
@@ -93,6 +99,9 @@ pub record Suits (command : Command) (operation : Operation) : Type 0 where
   pub of_kind : (kind : OutAction → Bool) → is_of_kind kind (Ok command) ≡ true
       → fits kind operation ≡ true
   pub shown : shows_others (Ok command) ≡ shows operation
+
+some-same : {class : Class} → Some Writes ≡ Some class → Writes ≡ class
+some-same h = cc
 
 abbrev SuitsIf : Command → Result Operation Refusal → Type 0
 SuitsIf command (Ok operation) = Suits command operation
@@ -142,6 +151,23 @@ module _ (command : Command) (r : (layout command).class ≡ Reads)
       record { class = λ class h. cc; of_kind = λ kind k. refl; shown = s }
   verify-suits check.OneBlock data_out = each-suits (block_out data_out) (extent.count == 0)
 
+-- FORMAT UNIT writes
+format-suits : (c : FormatUnit) (refused : Option Refusal) (blocks : ℕ)
+    → SuitsIf (command.FormatUnit c) (unless_refused refused (Ok (UnmapAll blocks)))
+format-suits c None blocks =
+    record { class = λ class h. cc; of_kind = λ kind k. refl; shown = refl }
+format-suits c (Some refusal) blocks = tt
+
+-- START STOP UNIT is a command that writes if it stops the unit
+start-suits : (c : StartStopUnit) (start : Bool) → c.start ≡ start
+    → Suits (command.StartStopUnit c) (StartStop start)
+start-suits c true e = record { class = λ class h. cc; of_kind = λ kind k. refl; shown = refl }
+start-suits c false e = record {
+  class = λ class h. ap (λ b. if b && c.power_condition == 0 then Always else Writes) e ∙ some-same h;
+  of_kind = λ kind k. refl;
+  shown = refl;
+}
+
 pub suits : (config : ConfigFields) (command : Command) (data_out : List ℕ)
     → SuitsIf command (demands config command data_out).operation
 suits config (command.Inquiry c) data_out =
@@ -159,6 +185,8 @@ suits config (command.Verify12 c) data_out =
 suits config (command.Verify16 c) data_out =
     verify-suits (command.Verify16 c) refl refl config (extent c.extent.lba c.extent.count) 10
     c.byte_check data_out
+suits config (command.FormatUnit c) data_out =
+    format-suits c (list_refusal c data_out) config.blocks
 suits config (command.LogSense c) data_out =
     sound-suits (command.LogSense c)
     (or_refused (λ byte. CheckCondition (InvalidFieldInCdb byte))
@@ -175,6 +203,7 @@ suits config (command.ReportLuns c) data_out =
     (ok_or (lists_unit c.select) (CheckCondition (InvalidFieldInCdb 2)))
     (λ listed. ReturnLuns listed c.allocation_length)
     (λ listed. record { class = λ class h. cc; of_kind = λ kind k. refl; shown = refl })
+suits config (command.StartStopUnit c) data_out = start-suits c c.start refl
 suits config (command.WriteSame10 c) data_out =
     same-suits (command.WriteSame10 c) refl refl c.anchor
     (unmaps c.unmap (block_out data_out)) _ (block_out data_out)
@@ -182,7 +211,7 @@ suits config (command.WriteSame16 c) data_out =
     same-suits (command.WriteSame16 c) refl refl c.anchor
     (unmaps c.unmap (block_out data_out)) _ (block_out data_out)
 suits config (command.Unmap c) data_out =
-    sound-suits (command.Unmap c) (listed_extents (first_bytes c.list_length data_out))
+    sound-suits (command.Unmap c) (extents_out config c.list_length data_out)
     (unmap_extents c.anchor) (unmap-suits (command.Unmap c) refl refl c.anchor)
 suits config (command.PersistentReserveOut c) data_out =
     sound-suits (command.PersistentReserveOut c)
@@ -274,6 +303,19 @@ reads-if config (command.WriteAndVerify16 c) data_out =
 reads-if config (command.CompareAndWrite c) data_out =
     changing-reads (command.CompareAndWrite c)
     (demands config (command.CompareAndWrite c) data_out).operation refl
+reads-if config (command.FormatUnit c) data_out =
+    changing-reads (command.FormatUnit c) (demands config (command.FormatUnit c) data_out).operation refl
+reads-if config (command.SanitizeBlockErase c) data_out =
+    changing-reads (command.SanitizeBlockErase c)
+    (demands config (command.SanitizeBlockErase c) data_out).operation refl
+reads-if config (command.SanitizeCryptographicErase c) data_out =
+    changing-reads (command.SanitizeCryptographicErase c)
+    (demands config (command.SanitizeCryptographicErase c) data_out).operation refl
+reads-if config (command.OrWrite16 c) data_out =
+    changing-reads (command.OrWrite16 c) (demands config (command.OrWrite16 c) data_out).operation refl
+reads-if config (command.WriteAtomic16 c) data_out =
+    changing-reads (command.WriteAtomic16 c)
+    (demands config (command.WriteAtomic16 c) data_out).operation refl
 reads-if config (command.Verify10 c) data_out =
     verify-reads (command.Verify10 c) config (extent c.extent.lba c.extent.count) 7 c.byte_check data_out
 reads-if config (command.Verify12 c) data_out =

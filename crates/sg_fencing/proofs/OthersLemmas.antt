@@ -1,5 +1,5 @@
 -- The effect of others' commands on the holder's view.
-use Rattle.std.proofs.Common.{◌≡◌, ℕ, true, false, List}
+use Rattle.std.proofs.Common.{◌≡◌, ℕ, Bool, true, false, List}
 use Rattle.std.proofs.Common.{Some, None, Result, Ok, Err, refl, sym, ◌∙◌, subst}
 use Rattle.std.specs.Result.{result_map_both}
 use Rattle.std.proofs.lemmas.Bool.{ne_eqb}
@@ -27,18 +27,19 @@ use Rattle.sg_target.specs.Semantics.{effect_of}
 use Rattle.sg_target.specs.State.{IsWithinLimits, State}
 use Rattle.sg_target.specs.Step.{Step, outcome as step_outcome, refused, step}
 use Rattle.sg_target.specs.declared.operation.Operation.{Operation}
-use Rattle.sg_target.specs.declared.operation.Operation.TheVariants.{CompareAndWrite}
+use Rattle.sg_target.specs.declared.operation.Operation.TheVariants.{CompareAndWrite, OrWrite}
 use Rattle.sg_target.specs.declared.operation.Operation.TheVariants.{ReturnSense, ReturnModes}
-use Rattle.sg_target.specs.declared.operation.Operation.TheVariants.{ReturnLuns}
+use Rattle.sg_target.specs.declared.operation.Operation.TheVariants.{ReturnLuns, StartStop}
 use Rattle.sg_target.specs.declared.operation.Operation.TheVariants.{ChangeModes, Write, Fill, Unmap}
 use Rattle.sg_target.specs.declared.operation.Operation.TheVariants.{Anchor, AnchorExtent}
-use Rattle.sg_target.specs.declared.operation.Operation.TheVariants.{UnmapExtent, ChangeReservations}
+use Rattle.sg_target.specs.declared.operation.Operation.TheVariants.{ChangeReservations, UnmapAll}
+use Rattle.sg_target.specs.declared.operation.Operation.TheVariants.{UnmapExtent}
 use Rattle.sg_target.specs.declared.refusal.Reason.TheVariants.{UnitAttention as Attention}
 use Rattle.sg_target.specs.declared.refusal.Refusal.{Refusal}
 use Rattle.sg_target.specs.declared.refusal.Refusal.TheVariants.{CheckCondition}
 use Rattle.sg_target.proofs.LiftLemmas.{lifted, outcome-by}
 use Rattle.sg_target.specs.Laws.{LimitsAreKept}
-use Rattle.sg_fencing.specs.Fencing.{holds_alone, view_of}
+use Rattle.sg_fencing.specs.Fencing.{IsLeft, holds_alone, view_of}
 use Rattle.sg_fencing.proofs.AccessLemmas.{asked-is-allowed}
 use Rattle.sg_fencing.proofs.HolderLemmas.{HoldsAlone, alone, cleared-other, one-holder}
 use Rattle.sg_fencing.proofs.HolderLemmas.{raised-none, raised-others, refuses-others, same-view}
@@ -46,41 +47,62 @@ use Rattle.sg_fencing.proofs.HolderLemmas.{without-other}
 use Rattle.sg_fencing.proofs.OperationLemmas.{class_for}
 use Rattle.sg_fencing.specs.Registrants.{rules_for}
 
--- the view of i and the identity of the disk are as they were
+-- the view of i and the identity of the disk are as they were, but the unit may have been started
 pub record Keeps (before after : State) (i : ℕ) : Type 0 where
   pub identity : after.identity ≡ before.identity
-  pub view : view_of after i ≡ view_of before i
+  pub left : IsLeft before after i
 
-same : (state : State) (i : ℕ) → Keeps state state i
-same state i = record { identity = refl; view = refl }
+pub nothing-left : (state : State) (i : ℕ) → IsLeft state state i
+nothing-left state i = record { view = refl; not_stopped = λ h. h }
+
+-- a unit that is neither stopped nor started
+pub same-stopped : (before after : Bool) → (before ≡ false → after ≡ false)
+    → (before ≡ true → after ≡ true) → before ≡ after
+same-stopped true after stays starts = sym (starts refl)
+same-stopped false after stays starts = sym (stays refl)
+
+pub same : (state : State) (i : ℕ) → Keeps state state i
+same state i = record { identity = refl; left = nothing-left state i }
 
 refused-keeps : (state : State) (i j : ℕ) → (j ≡ i → ⊥) → (refusal : Refusal)
     → Keeps state (refused state j refusal).state i
 refused-keeps state i j other (CheckCondition (Attention condition)) = record {
   identity = refl;
-  view =
-      same-view (refused state j (CheckCondition (Attention condition))).state state i refl refl
-      (cleared-other state.attentions i j other) refl refl;
+  left = record {
+    view =
+        same-view (refused state j (CheckCondition (Attention condition))).state state i refl refl
+        (cleared-other state.attentions i j other) refl refl refl;
+    not_stopped = λ h. h;
+  };
 }
 refused-keeps state i j other _ = same state i
 
 -- a change that leaves the key of i and the reservation, and raises nothing for i
+pub changed-view : (state : State) (i j : ℕ) → IsWithinLimits state → (change : ReservationChange)
+    → key_of change.registrations i ≡ key_of state.reservations.registrations i
+    → change.reservation ≡ state.reservations.reservation
+    → raised_for state.reservations.registrations j change i ≡ None
+    → view_of (changing_reservations state j change).after i ≡ view_of state i
+unfolding raised_by
+changed-view state i j w change key reservation unraised =
+    let raised = raised_for state.reservations.registrations j change in
+    same-view (changing_reservations state j change).after state i refl refl
+    (raised-others state.attentions (raised_by state.reservations.registrations j change) i
+    w.pending.one_for_each (raised-none raised i unraised))
+    key reservation refl
+
 pub changed-keeps : (state : State) (i j : ℕ) → IsWithinLimits state → (change : ReservationChange)
     → key_of change.registrations i ≡ key_of state.reservations.registrations i
     → change.reservation ≡ state.reservations.reservation
     → raised_for state.reservations.registrations j change i ≡ None
     → Keeps state (changing_reservations state j change).after i
-unfolding raised_by
-changed-keeps state i j w change key reservation unraised =
-    let raised = raised_for state.reservations.registrations j change in
-    record {
-      identity = refl;
-      view =
-          same-view (changing_reservations state j change).after state i refl refl
-          (raised-others state.attentions (raised_by state.reservations.registrations j change) i
-          w.pending.one_for_each (raised-none raised i unraised))
-          key reservation;
-    }
+changed-keeps state i j w change key reservation unraised = record {
+  identity = refl;
+  left = record {
+    view = changed-view state i j w change key reservation unraised;
+    not_stopped = λ h. h;
+  };
+}
 
 -- ---- The command
 
@@ -112,27 +134,40 @@ module _ (Where : State → Type 0) (state : State) (i j : ℕ) (other : j ≡ i
       (when_sound (reservation_change state j action scope_type list) (changing_reservations state j))) where
     operation-keeps : (operation : Operation) → (class_for operation ≡ Some Writes → ⊥)
         → EffectKeeps (effect_of state j operation)
+    operation-keeps (StartStop true) c = λ _. record {
+      identity = refl;
+      left = record { view = refl; not_stopped = λ h. refl };
+    }
+    operation-keeps (StartStop false) c = absurd (c refl)
     operation-keeps (ReturnSense format n) c = λ _. record {
       identity = refl;
-      view =
-          same-view (without_attention state j) state i refl refl
-          (cleared-other state.attentions i j other) refl refl;
+      left = record {
+        view =
+            same-view (without_attention state j) state i refl refl
+            (cleared-other state.attentions i j other) refl refl refl;
+        not_stopped = λ h. h;
+      };
     }
     operation-keeps (ReturnLuns listed n) c = λ _. record {
       identity = refl;
-      view =
-          same-view (returning_luns state j listed n).after state i refl refl
-          (without-other state.attentions i j other ReportedLunsDataChanged) refl refl;
+      left = record {
+        view =
+            same-view (returning_luns state j listed n).after state i refl refl
+            (without-other state.attentions i j other ReportedLunsDataChanged) refl refl refl;
+        not_stopped = λ h. h;
+      };
     }
     operation-keeps (ReturnModes request n) c =
         sound-keeps (mode_parameters state.modes request) (returning_up_to state n)
         (λ list _. same state i)
     operation-keeps (ChangeModes width sp list) c = absurd (c refl)
     operation-keeps (CompareAndWrite exchange) c = absurd (c refl)
+    operation-keeps (OrWrite out) c = absurd (c refl)
     operation-keeps (Write out) c = absurd (c refl)
     operation-keeps (Fill extent block) c = absurd (c refl)
     operation-keeps (Unmap extents) c = absurd (c refl)
     operation-keeps (UnmapExtent extent) c = absurd (c refl)
+    operation-keeps (UnmapAll blocks) c = absurd (c refl)
     operation-keeps (Anchor extents) c = absurd (c refl)
     operation-keeps (AnchorExtent extent) c = absurd (c refl)
     operation-keeps (ChangeReservations action scope_type list) c =

@@ -17,10 +17,11 @@ use Rattle.sg_target.specs.Step.{Answer}
 use Rattle.sg_target.specs.declared.call.Call.{Call}
 use Rattle.sg_target.specs.declared.reply.Status.TheVariants.{Good}
 use Rattle.sg_target.specs.Laws.{LimitsAreKept}
-use Rattle.sg_fencing.specs.Fencing.{View, is_from, view_of}
+use Rattle.sg_fencing.specs.Fencing.{IsLeft, View, is_from}
 use Rattle.sg_fencing.specs.Registrants.{NoneIsServed, StaysUnregistered, excludes_reading}
 use Rattle.sg_fencing.specs.Registrants.{is_registrant, is_reserved}
 use Rattle.sg_fencing.proofs.AccessLemmas.{shut-out}
+use Rattle.sg_fencing.proofs.OthersLemmas.{nothing-left}
 use Rattle.sg_fencing.proofs.OutsiderLemmas.{outsider-keeps, shut}
 
 -- ---- Nothing is written, nor read
@@ -73,8 +74,8 @@ module _ (condition : State → Bool) (class : Class) (refuses : IsRefusedWhere 
 pub nothing-changed : LimitsAreKept → OthersAreRefused → CommandsHaveTheirClass
     → (state : State) (i : ℕ) (calls : List Call) → IsWithinLimits state → is_reserved state ≡ true
     → ((j : ℕ) → StaysUnregistered j state calls) → list_any (is_from i) calls ≡ false
-    → view_of (state_after_all state calls) i ≡ view_of state i
-nothing-changed limits refuses classes state i [] w held stay others = refl
+    → IsLeft state (state_after_all state calls) i
+nothing-changed limits refuses classes state i [] w held stay others = nothing-left state i
 nothing-changed limits refuses classes state i (call ∷ calls) w held stay others =
     let j = call.initiator in
     let cdb = call.cdb.now in
@@ -83,8 +84,13 @@ nothing-changed limits refuses classes state i (call ∷ calls) w held stay othe
     let kept =
     outsider-keeps refuses classes state i j (eqb-false j i other.0)
     (record { held = held; unknown = (stay j 0 call refl refl).0 }) w cdb data_out in
+    let rest =
     nothing-changed limits refuses classes (step_of state call).state i calls
     (limits.command state j cdb data_out w)
-    (ap (λ (v : View). is_some v.reservation) kept.view ∙ held)
-    (λ k n next e from. stay k (suc n) next e from) other.1
-    ∙ kept.view
+    (ap (λ (v : View). is_some v.reservation) kept.left.view ∙ held)
+    (λ k n next e from. stay k (suc n) next e from) other.1 in
+    let stopped = (state_after_all state (call ∷ calls)).stopped in
+    record {
+      view = rest.view ∙ ap (λ (v : View). record v { stopped = stopped }) kept.left.view;
+      not_stopped = λ h. rest.not_stopped (kept.left.not_stopped h);
+    }

@@ -50,6 +50,7 @@ view_with state i left = record {
   attentions = pending_for state.attentions i;
   key = left.0;
   reservation = left.1;
+  stopped = state.stopped;
 }
 
 -- a state after the command
@@ -88,6 +89,7 @@ module _ (state : State) (i : ℕ) (w : IsWithinLimits state) where
               attentions = attentions d;
               key = key_of change.registrations i;
               reservation = change.reservation;
+              stopped = state.stopped;
             };
       }
 
@@ -169,6 +171,7 @@ module _ (one : OneKeyEach) (s : State) (a : Pending) (r : ReservationState) (i 
         attentions = attentions d;
         key = (left d).0;
         reservation = (left d).1;
+        stopped = s.stopped;
       } in
       record {
         identity = first.identity ∙ sym second.identity;
@@ -187,7 +190,7 @@ module _ (one : OneKeyEach) (s : State) (a : Pending) (r : ReservationState) (i 
     view =
         same-view first.state second.state i (ap (λ (x : State). x.disk) agree.rest)
         (ap (λ (x : State). x.modes) agree.rest) (agree.queues i attentions) agree.reservations.0
-        agree.reservations.1;
+        agree.reservations.1 (ap (λ (x : State). x.stopped) agree.rest);
     answer = agree.answer;
   }
 
@@ -229,6 +232,7 @@ own-alike one first second i cdb data_out w w' identity view held =
     let r = second.reservations in
     let disk = ap (λ (v : View). v.disk) view in
     let modes = ap (λ (v : View). v.modes) view in
+    let stopped = ap (λ (v : View). v.stopped) view in
     let to : with_others first a r ≡ second =
     λ d. record {
       identity = identity d;
@@ -236,6 +240,7 @@ own-alike one first second i cdb data_out w w' identity view held =
       modes = modes d;
       attentions = a;
       reservations = r;
+      stopped = stopped d;
     } in
     subst
     (λ (x : State). StepsAlike (shows_others (command_of cdb)) i (step first i cdb data_out)

@@ -24,7 +24,7 @@ use Rattle.sg_units.specs.Reservations.{has_type, is_holder}
 use Rattle.sg_units.specs.declared.reservation_state.ReservationState.{ReservationState}
 use Rattle.sg_units.specs.declared.types.ReservationType.TheVariants.{ExclusiveAccess}
 use Rattle.sg_units.specs.declared.types.ReservationType.TheVariants.{WriteExclusive}
-use Rattle.sg_fencing.specs.Fencing.{IsAsIfAlone, View, calls_of, holds_alone}
+use Rattle.sg_fencing.specs.Fencing.{IsAsIfAlone, NobodyElseStarts, View, calls_of, holds_alone}
 use Rattle.sg_fencing.specs.Fencing.{is_compared, is_from, shows_others, view_of}
 use Rattle.sg_fencing.specs.ChosenAnswers.{answers_among, calls_among}
 use Rattle.sg_fencing.specs.PowerCycles.{events_of, persists, PersistAtPowerCycles}
@@ -46,7 +46,7 @@ use Rattle.sg_target.specs.Laws.{LimitsAreKept, is_power_cycle}
 use Rattle.sg_target.proofs.GrowthLemmas.{by-growth}
 use Rattle.sg_fencing.proofs.AlikeLemmas.{raised-equal, raised_one-equal}
 use Rattle.sg_fencing.proofs.FencedRunLemmas.{both-more, none-more, own-step}
-use Rattle.sg_fencing.proofs.OthersLemmas.{others-keep}
+use Rattle.sg_fencing.proofs.OthersLemmas.{others-keep, same-stopped}
 use Rattle.sg_fencing.proofs.OwnLemmas.{StepsAlike}
 use Rattle.sg_fencing.proofs.PowerLemmas.{keeps}
 
@@ -89,6 +89,7 @@ module _ (limits : LimitsAreKept) (refuses : OthersAreRefused) (one : OneKeyEach
     attentions = pending_for power_on_pending i;
     key = view.key;
     reservation = view.reservation;
+    stopped = false;
   }
 
   view-powered : (state : State) → persists state ≡ true
@@ -127,6 +128,7 @@ module _ (limits : LimitsAreKept) (refuses : OthersAreRefused) (one : OneKeyEach
       → view_of (after_reset condition first) i ≡ view_of (after_reset condition second) i
   view-reset first second condition h = λ d. record (h.view d) {
     modes = pages_after_power_on (h.view d).modes;
+    stopped = false;
     attentions = raised-alike first second (raised_for_all condition) h d;
   }
 
@@ -227,13 +229,14 @@ module _ (limits : LimitsAreKept) (refuses : OthersAreRefused) (one : OneKeyEach
   abbrev AreAlike : (events own : List Event) → Type 0
   AreAlike events own =
       (first second : State) → LookAlike first second i → HoldsThroughout first events
-      → PersistAtPowerCycles second own → EventsAlike first second i events own
+      → NobodyElseStarts i first events → PersistAtPowerCycles second own
+      → EventsAlike first second i events own
 
   -- the events go on by a command of i or of another
   by-caller : (call : Call) (events own : List Event) (is_own : Bool) → is_from i call ≡ is_own
       → AreAlike events own
       → AreAlike (event.Call call ∷ events) (cond is_own (event.Call call ∷ own) own)
-  by-caller call events own true e rest first second a held persist =
+  by-caller call events own true e rest first second a held starts persist =
       let h = own-step one i first second call a.first_within a.second_within a.identity a.view (held 0)
       (eqb-true call.initiator i e) in
       let next : LookAlike (step_of first call).state (step_of second call).state i = record {
@@ -244,33 +247,39 @@ module _ (limits : LimitsAreKept) (refuses : OthersAreRefused) (one : OneKeyEach
       } in
       own-more first second call events own h
       (rest (step_of first call).state (step_of second call).state next (λ n. held (suc n))
-      (λ n at. persist (suc n) at))
-  by-caller call events own false e rest first second a held persist =
+      (λ n other at. starts (suc n) other at) (λ n at. persist (suc n) at))
+  by-caller call events own false e rest first second a held starts persist =
       let h = others-keep limits refuses classes first i call.initiator call.cdb.now call.data_out.now
       a.first_within (eqb-false call.initiator i e) (held 0) (held 1) in
+      let stopped = same-stopped first.stopped (step_of first call).state.stopped h.left.not_stopped
+      (starts 0 call refl (eqb-false call.initiator i e)) in
+      let view : view_of (step_of first call).state i ≡ view_of first i =
+      h.left.view ∙ ap (λ b. record (view_of first i) { stopped = b }) (sym stopped) in
       let next : LookAlike (step_of first call).state second i = record {
         first_within = limits.command first call.initiator call.cdb.now call.data_out.now a.first_within;
         second_within = a.second_within;
         identity = h.identity ∙ a.identity;
-        view = h.view ∙ a.view;
+        view = view ∙ a.view;
       } in
       other-more first second call events own e
-      (rest (step_of first call).state second next (λ n. held (suc n)) persist)
+      (rest (step_of first call).state second next (λ n. held (suc n))
+      (λ n other at. starts (suc n) other at) persist)
 
   pub events-alike : (events : List Event) → AreAlike events (events_of i events)
-  events-alike [] first second a held persist = record { view = a.view; answers = refl }
-  events-alike (event.Call call ∷ events) first second a held persist =
+  events-alike [] first second a held starts persist = record { view = a.view; answers = refl }
+  events-alike (event.Call call ∷ events) first second a held starts persist =
       by-caller call events (events_of i events) (is_from i call) refl (events-alike events) first second
-      a held persist
-  events-alike (event.Happen Power ∷ events) first second a held persist =
+      a held starts persist
+  events-alike (event.Happen Power ∷ events) first second a held starts persist =
       let next = cycle-alike first second a (persisted first (held 1)) (persist 0 refl) in
       let rest = events-alike events (after_power_cycle first) (after_power_cycle second) next
-      (λ n. held (suc n)) (λ n at. persist (suc n) at) in
+      (λ n. held (suc n)) (λ n other at. starts (suc n) other at) (λ n at. persist (suc n) at) in
       record { view = rest.view; answers = rest.answers }
-  events-alike (event.Happen happening ∷ events) first second a held persist =
+  events-alike (event.Happen happening ∷ events) first second a held starts persist =
       let next = happening-alike happening first second refl a in
       let rest = events-alike events (after_happening happening first)
-      (after_happening happening second) next (λ n. held (suc n)) (λ n at. persist (suc n) at) in
+      (after_happening happening second) next (λ n. held (suc n))
+      (λ n other at. starts (suc n) other at) (λ n at. persist (suc n) at) in
       record { view = rest.view; answers = rest.answers }
 
   -- ---- commands alone are events
@@ -294,8 +303,8 @@ module _ (limits : LimitsAreKept) (refuses : OthersAreRefused) (one : OneKeyEach
 
   pub calls-alike : (state : State) (calls : List Call) → IsWithinLimits state
       → ((n : ℕ) → holds_alone (state_after_all state (take n calls)) i ≡ true)
-      → IsAsIfAlone state i calls
-  calls-alike state calls w held =
+      → NobodyElseStarts i state (all_calls calls) → IsAsIfAlone state i calls
+  calls-alike state calls w held starts =
       let same : LookAlike state state i = record {
         first_within = w;
         second_within = w;
@@ -307,7 +316,7 @@ module _ (limits : LimitsAreKept) (refuses : OthersAreRefused) (one : OneKeyEach
       λ n. rw (take-map (λ (call : Call). event.Call call) n calls) (held n) in
       let persist : PersistAtPowerCycles state (events_of i (all_calls calls)) =
       rw own (λ n at. absurd (no-power (calls_of i calls) n at)) in
-      let h = events-alike (all_calls calls) state state same throughout persist in
+      let h = events-alike (all_calls calls) state state same throughout starts persist in
       record {
         view = h.view ∙ ap (λ events. view_of (state_after_events state events) i) own;
         answers = h.answers ∙ ap (answers_among (is_compared i) state) own;

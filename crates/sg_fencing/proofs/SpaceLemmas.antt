@@ -5,7 +5,7 @@ use Rattle.std.proofs.lemmas.Bool.{false≢true}
 use Rattle.std.specs.Prelude.{◌==◌, if◌then◌else◌, ◌+◌, ◌^◌, ◌&&◌, nat_lt, length}
 use Rattle.std.specs.Prelude.{option_and_then, slice_index}
 use Rattle.std.specs.Option.{option_map}
-use Rattle.sg_wire.specs.CdbDecoding.{class_in, command_in, command_of, is_blocked_in}
+use Rattle.sg_wire.specs.CdbDecoding.{class_in, command_in, command_of}
 use Rattle.sg_wire.specs.Profile.{rules_of}
 use Rattle.sg_wire.specs.SenseData.{SenseFields, fixed_data, sense_data}
 use Rattle.sg_wire.specs.declared.command.CdbFault.{CdbFault}
@@ -19,11 +19,13 @@ use Rattle.sg_wire.specs.declared.sense.Format.TheVariants.{Fixed, Descriptor}
 use Rattle.sg_wire.specs.declared.profile.Rules.{Rules}
 use Rattle.sg_pages.specs.ModePage.{ModeState, write_protected}
 use Rattle.sg_units.specs.Access.{allows}
-use Rattle.sg_units.specs.Attentions.{oldest}
+use Rattle.sg_units.specs.declared.unit_attention.UnitAttention.{UnitAttention}
 use Rattle.sg_target.specs.BlockCommands.{blocks_out, bytes_of}
 use Rattle.sg_wire.proofs.ProfileLemmas.{read-any}
-use Rattle.sg_target.specs.Checks.{bad_field, cdb_checks, checked_cdb, checked_effect}
-use Rattle.sg_target.specs.Checks.{checked_operation, checked_parse, empty_cdb, medium_checks}
+use Rattle.sg_target.specs.Checks.{attention_refusal, bad_field, blocking_attention, cdb_checks}
+use Rattle.sg_target.specs.Checks.{checked_cdb, checked_effect, if_it_outranks, outranking_attention}
+use Rattle.sg_target.specs.Checks.{outranks}
+use Rattle.sg_target.specs.Checks.{checked_operation, checked_parse, empty_cdb, medium_checks, not_ready}
 use Rattle.sg_target.specs.Checks.{out_of_range, past_capacity, pending_attention, requested}
 use Rattle.sg_target.specs.Checks.{reservation_conflict, short_cdb, short_data_out, unknown_opcode}
 use Rattle.sg_target.specs.Checks.{unsupported_value, write_protection, writes_some}
@@ -206,6 +208,9 @@ data-other config n data_out =
     if-other (nat_lt (length data_out) n) _
     (reason-other config (rules_of config.identity.profile).short_data_out_is_illegal)
 
+ready-other : (state : State) (medium : MediumUse) → IsOtherIfAny (not_ready state medium)
+ready-other state medium = if-other (state.stopped && medium.needs_ready) _ refl
+
 range-other : (capacity : ℕ) (e : Extent) → IsOtherIfAny (out_of_range capacity (e ∷ []))
 unfolding out_of_range
 range-other capacity e =
@@ -223,16 +228,22 @@ protection-other rules modes medium =
     if-other (write_protected modes && writes_some rules medium) _
     (protected-other rules.protects_only_writes)
 
+ranked-other : (state : State) (found : Option UnitAttention)
+    → IsOtherIfAny (option_and_then (if_it_outranks state) found)
+ranked-other state None = tt
+ranked-other state (Some condition) =
+    if-other (outranks state condition) (Some (attention_refusal condition)) refl
+
 cdb-other : (state : State) (i : ℕ) (cdb : List ℕ) → IsOtherIfAny (first_some (cdb_checks state i cdb))
 cdb-other state i cdb =
     let c = command_in (profile_of state) cdb in
+    let blocking = blocking_attention state i cdb in
     first-other (empty_cdb c) _ (empty-other c)
-    (first-other (pending_attention state i cdb) _
-    (if-other (is_blocked_in (profile_of state) cdb) _
-    (mapped-other (oldest state.attentions i) _ (λ condition. refl)))
-    (first-other (unknown_opcode c) _ (unknown-other c)
+    (first-other (outranking_attention state i cdb) _ (ranked-other state blocking)
     (first-other (reservation_conflict state i cdb) _ (class-other state i (class_in (profile_of state) cdb))
-    (first-other (short_cdb c) _ (short-other c) (first-other (bad_field c) [] (field-other c) tt)))))
+    (first-other (pending_attention state i cdb) _ (mapped-other blocking _ (λ condition. refl))
+    (first-other (unknown_opcode c) _ (unknown-other c)
+    (first-other (short_cdb c) _ (short-other c) (first-other (bad_field c) [] (field-other c) tt))))))
 
 -- ---- The command
 
@@ -253,12 +264,14 @@ module _ (state : State) (i : ℕ) (data_out : List ℕ) where
   by-request out None h =
       by-medium out
       (first_some (medium_checks state (medium_use (operation.Write (blocks_out out data_out)))))
+      (first-other (not_ready state (medium_use (operation.Write (blocks_out out data_out)))) _
+      (ready-other state (medium_use (operation.Write (blocks_out out data_out))))
       (first-other (out_of_range state.disk.capacity (out ∷ [])) _
       (range-other state.disk.capacity out)
       (first-other
       (write_protection (rules_of (profile_of state)) state.modes
       (medium_use (operation.Write (blocks_out out data_out)))) []
-      (protection-other _ state.modes (medium_use (operation.Write (blocks_out out data_out)))) tt))
+      (protection-other _ state.modes (medium_use (operation.Write (blocks_out out data_out)))) tt)))
   by-request out (Some refusal) h = h
 
   write-other : (out : Extent) (unsupported : Option ℕ)

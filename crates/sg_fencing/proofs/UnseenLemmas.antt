@@ -15,11 +15,11 @@ use Rattle.sg_target.specs.State.{State}
 use Rattle.sg_target.specs.Step.{Step, outcome, step}
 use Rattle.sg_target.specs.Charge.{step_by}
 use Rattle.sg_target.specs.declared.operation.Operation.{Operation}
-use Rattle.sg_target.specs.declared.operation.Operation.TheVariants.{Compare, CompareAndWrite}
+use Rattle.sg_target.specs.declared.operation.Operation.TheVariants.{Compare, CompareAndWrite, OrWrite}
 use Rattle.sg_target.specs.declared.operation.Operation.TheVariants.{CompareEach, Verify}
 use Rattle.sg_target.specs.declared.operation.Operation.TheVariants.{ReturnModes, ChangeModes}
 use Rattle.sg_target.specs.declared.operation.Operation.TheVariants.{Read, Write, Fill, Unmap}
-use Rattle.sg_target.specs.declared.operation.Operation.TheVariants.{UnmapExtent, ReturnLbaStatus}
+use Rattle.sg_target.specs.declared.operation.Operation.TheVariants.{UnmapAll, UnmapExtent, ReturnLbaStatus}
 use Rattle.sg_target.specs.declared.operation.Operation.TheVariants.{Anchor, AnchorExtent}
 use Rattle.sg_target.specs.declared.operation.Operation.TheVariants.{ChangeReservations}
 use Rattle.sg_target.specs.declared.refusal.Refusal.{Refusal}
@@ -50,10 +50,12 @@ module _ (s : State) (x : Contents) (j : ℕ) where
   operation-alike (Compare out) r w = absurd (r refl)
   operation-alike (CompareEach extent block) r w = absurd (r refl)
   operation-alike (CompareAndWrite exchange) r w = absurd (w refl)
+  operation-alike (OrWrite out) r w = absurd (w refl)
   operation-alike (Write out) r w = absurd (w refl)
   operation-alike (Fill extent block) r w = absurd (w refl)
   operation-alike (Unmap extents) r w = absurd (w refl)
   operation-alike (UnmapExtent extent) r w = absurd (w refl)
+  operation-alike (UnmapAll blocks) r w = absurd (w refl)
   operation-alike (Anchor extents) r w = absurd (w refl)
   operation-alike (AnchorExtent extent) r w = absurd (w refl)
   operation-alike (ChangeModes width sp list) r w = absurd (w refl)

@@ -22,8 +22,9 @@ use Rattle.sg_units.specs.Access.{allows}
 use Rattle.sg_units.specs.Attentions.{oldest}
 use Rattle.sg_target.specs.BlockCommands.{blocks_out, bytes_of, writing}
 use Rattle.sg_wire.proofs.ProfileLemmas.{read-any}
-use Rattle.sg_target.specs.Checks.{bad_field, cdb_checks, checked_cdb, checked_effect}
-use Rattle.sg_target.specs.Checks.{checked_operation, checked_parse, empty_cdb, medium_checks}
+use Rattle.sg_target.specs.Checks.{attention_refusal, bad_field, cdb_checks, checked_cdb}
+use Rattle.sg_target.specs.Checks.{checked_effect, if_it_outranks, outranking_attention}
+use Rattle.sg_target.specs.Checks.{checked_operation, checked_parse, empty_cdb, medium_checks, not_ready}
 use Rattle.sg_target.specs.Checks.{out_of_range, past_capacity, pending_attention, requested}
 use Rattle.sg_target.specs.Checks.{reservation_conflict, short_cdb, short_data_out, unknown_opcode}
 use Rattle.sg_target.specs.Checks.{unsupported_value, write_protection, writes_some}
@@ -51,9 +52,9 @@ if-none : {A : Type 0} (b : Bool) (check : Option A) → b ≡ false → (if b t
 if-none true check h = cc
 if-none false check h = refl
 
-none-if : (b : Bool) (check : Option Refusal) → check ≡ None → (if b then check else None) ≡ None
-none-if true check h = h
-none-if false check h = refl
+none-if : {A : Type 0} (b : Bool) (found : Option A) → found ≡ None → (if b then found else None) ≡ None
+none-if true found h = h
+none-if false found h = refl
 
 at-most : (a b : ℕ) → a ≤ b → nat_lt b a ≡ false
 at-most a b h = grind (arith, nat_tests)
@@ -78,14 +79,20 @@ pub cdb-none : (state : State) (i : ℕ) (cdb : List ℕ) (c : Command)
 cdb-none state i cdb c is class none allowed =
     let parse = command_in (profile_of state) cdb in
     let passed = parsed-none parse c is in
+    let blocking = none-if (is_blocked_in (profile_of state) cdb) (oldest state.attentions i) none in
     first-none (empty_cdb parse) _ passed.0
-    (first-none (pending_attention state i cdb) _
-    (none-if (is_blocked_in (profile_of state) cdb) _ (ap (option_map _) none))
-    (first-none (unknown_opcode parse) _ passed.1.0
+    (first-none (outranking_attention state i cdb) _ (ap (option_and_then (if_it_outranks state)) blocking)
     (first-none (reservation_conflict state i cdb) _
     (conflict-none state i (class_in (profile_of state) cdb) class allowed)
+    (first-none (pending_attention state i cdb) _ (ap (option_map attention_refusal) blocking)
+    (first-none (unknown_opcode parse) _ passed.1.0
     (first-none (short_cdb parse) _ passed.1.1.0
-    (first-none (bad_field parse) [] passed.1.1.1 refl)))))
+    (first-none (bad_field parse) [] passed.1.1.1 refl))))))
+
+pub ready-none : (state : State) (medium : MediumUse) → state.stopped ≡ false
+    → not_ready state medium ≡ None
+ready-none state medium h =
+    if-none (state.stopped && medium.needs_ready) _ (ap (λ b. b && medium.needs_ready) h)
 
 pub range-none : (capacity : ℕ) (out : Extent) → out.lba + out.count ≤ capacity
     → out_of_range capacity (out ∷ []) ≡ None
@@ -122,10 +129,12 @@ module _ (state : State) (i : ℕ) (data_out : List ℕ) (out : Extent)
       (effect_of state i))
   by-request None h =
       by-medium (first_some (medium_checks state (medium_use asked)))
+      (first-none (not_ready state (medium_use asked)) _
+      (ready-none state (medium_use asked) free.ready)
       (first-none (out_of_range state.disk.capacity (out ∷ [])) _
       (range-none state.disk.capacity out free.on_disk)
       (first-none (write_protection (rules_of (profile_of state)) state.modes (medium_use asked)) []
-      (protection-none _ state.modes (medium_use asked) free.unprotected) refl))
+      (protection-none _ state.modes (medium_use asked) free.unprotected) refl)))
   by-request (Some refusal) h = cc
 
   write-effect : (unsupported : Option ℕ) → unsupported ≡ None

@@ -20,23 +20,26 @@ use Rattle.sg_units.specs.declared.types.ReservationType.TheVariants.{WriteExclu
 use Rattle.sg_units.specs.declared.types.ReservationType.TheVariants.{ExclusiveAccess}
 use Rattle.sg_units.specs.declared.unit_attention.UnitAttention.{UnitAttention}
 use Rattle.sg_target.specs.Effect.{with_contents}
-use Rattle.sg_target.specs.Runs.{answers, state_after_all}
+use Rattle.sg_target.specs.Runs.{all_calls, answers, state_after_all, state_after_events, step_of}
 use Rattle.sg_target.specs.State.{IsWithinLimits, State}
 use Rattle.sg_target.specs.Step.{Answer, Step, step}
 use Rattle.sg_target.specs.declared.call.Call.{Call}
+use Rattle.sg_target.specs.declared.event.Event.{Event}
+use Rattle.sg_target.specs.declared.event.Event.TheVariants as event
 use Rattle.sg_target.specs.declared.reply.Status.TheVariants.{Good}
 use Rattle.sg_fencing.specs.ChosenAnswers.{answers_where}
 
 -- ---- Words
 
 -- The view that an initiator has of the disk: the blocks, the mode pages, its pending unit
--- attentions, its reservation key, and the reservation.
+-- attentions, its reservation key, and the reservation; and whether the unit is stopped.
 pub record View : Type 0 where
   pub disk : Disk
   pub modes : ModeState
   pub attentions : List UnitAttention
   pub key : Option ℕ
   pub reservation : Option Reservation
+  pub stopped : Bool
 
 abbrev pub view_of : State → (initiator : ℕ) → View
 view_of state initiator = record {
@@ -45,7 +48,14 @@ view_of state initiator = record {
   attentions = pending_for state.attentions initiator;
   key = key_of state.reservations.registrations initiator;
   reservation = state.reservations.reservation;
+  stopped = state.stopped;
 }
+
+-- An initiator's view is left as it was, but a stopped unit may have been started: each initiator may start
+-- it, whatever reservation is held (SBC-3, 4.17). The unit has not been stopped.
+pub record IsLeft (before after : State) (initiator : ℕ) : Type 0 where
+  pub view : view_of after initiator ≡ record (view_of before initiator) { stopped = after.stopped }
+  pub not_stopped : before.stopped ≡ false → after.stopped ≡ false
 
 -- An initiator holds a reservation of a type.
 abbrev pub holds_type : State → (initiator : ℕ) → ReservationType → Bool
@@ -66,13 +76,13 @@ shows_others _ = false
 -- ---- One command
 
 -- A command of another initiator, after which the holder still holds such a reservation, leaves the
--- holder's view as it was.
+-- holder's view as it was. Only a stopped unit may be started.
 abbrev pub OthersLeaveTheView : Type 0
 OthersLeaveTheView =
     (state : State) (holder other : ℕ) (cdb data_out : List ℕ) → IsWithinLimits state
     → other ≢ holder → holds_alone state holder ≡ true
     → holds_alone (step state other cdb data_out).state holder ≡ true
-    → view_of (step state other cdb data_out).state holder ≡ view_of state holder
+    → IsLeft state (step state other cdb data_out).state holder
 
 -- Suppose that the holder has equal views in two states of one disk. Then its command ends with
 -- equal views in both, and with equal answers, except to PERSISTENT RESERVE IN and PERSISTENT
@@ -147,11 +157,22 @@ pub record IsAsIfAlone (state : State) (initiator : ℕ) (calls : List Call) : T
   pub answers : answers_where (is_compared initiator) state calls
       ≡ answers_where (is_compared initiator) state (calls_of initiator calls)
 
--- This holds if the initiator holds such a reservation before and after each call.
+-- A command of another initiator that finds the unit stopped leaves it stopped. On a base disk the unit is
+-- never stopped.
+abbrev pub NobodyElseStarts : (initiator : ℕ) → State → List Event → Type 0
+NobodyElseStarts initiator state events =
+    (n : ℕ) (call : Call) → slice_get events n ≡ Some (event.Call call)
+    → call.initiator ≢ initiator →
+    (let before = state_after_events state (take n events) in
+    before.stopped ≡ true → (step_of before call).state.stopped ≡ true)
+
+-- This holds if the initiator holds such a reservation before and after each call, and no other initiator
+-- starts the unit.
 abbrev pub HolderIsAsIfAlone : Type 0
 HolderIsAsIfAlone =
     (state : State) (holder : ℕ) (calls : List Call) → IsWithinLimits state
     → ((n : ℕ) → holds_alone (state_after_all state (take n calls)) holder ≡ true)
+    → NobodyElseStarts holder state (all_calls calls)
     → IsAsIfAlone state holder calls
 
 -- While an initiator holds a reservation for exclusive access, no command of another that reads,

@@ -24,7 +24,7 @@ use Rattle.sg_fencing.specs.Registrants.{asks_to_unregister, registering_list, r
 -- ---- What a group sees
 
 -- The registrants of a disk see these together (SPC-4, 6.15):
--- - the blocks and the mode pages.
+-- - the blocks and the mode pages, and whether the unit is stopped.
 -- - by READ KEYS and READ FULL STATUS, who is registered under which key, in the order of
 --   registration, and PRGENERATION.
 -- - by READ RESERVATION, the reservation.
@@ -33,6 +33,7 @@ use Rattle.sg_fencing.specs.Registrants.{asks_to_unregister, registering_list, r
 pub record GroupView : Type 0 where
   pub disk : Disk
   pub modes : ModeState
+  pub stopped : Bool
   pub registrations : List Registration
   pub generation : ℕ
   pub reservation : Option Reservation
@@ -42,6 +43,7 @@ abbrev pub group_view : State → GroupView
 group_view state = record {
   disk = state.disk;
   modes = state.modes;
+  stopped = state.stopped;
   registrations = state.reservations.registrations;
   generation = state.reservations.generation;
   reservation = state.reservations.reservation;
@@ -154,6 +156,13 @@ NoneIsCounted outside state calls =
     (let before = state_after_all state (take n calls) in
     is_counted before call ≡ true → (step_of before call).answer.status ≢ Good)
 
+-- No call from outside starts a stopped unit. On a base disk the unit is never stopped.
+abbrev pub NoneStarts : (outside : ℕ → Bool) → State → List Call → Type 0
+NoneStarts outside state calls =
+    (n : ℕ) (call : Call) → slice_get calls n ≡ Some call → outside call.initiator ≡ true →
+    (let before = state_after_all state (take n calls) in
+    before.stopped ≡ true → (step_of before call).state.stopped ≡ true)
+
 -- This holds over each list of commands, of registrants and others in any order, for any initiators
 -- that stay unregistered.
 abbrev pub OutsidersMayBeLeftOut : Type 0
@@ -161,4 +170,5 @@ OutsidersMayBeLeftOut =
     (outside : ℕ → Bool) (state : State) (calls : List Call) → IsWithinLimits state
     → ((initiator : ℕ) → outside initiator ≡ true → StaysUnregistered initiator state calls)
     → IsReservedFrom outside state calls → NoneIsCounted outside state calls
+    → NoneStarts outside state calls
     → IsAsIfInsideAlone outside state calls

@@ -16,6 +16,7 @@ use Rattle.sg_pages.specs.ModePage.{write_protected}
 use Rattle.sg_units.specs.Access.{allows}
 use Rattle.sg_units.specs.Attentions.{oldest, without_oldest}
 use Rattle.sg_target.specs.BlockCommands.{bytes_of}
+use Rattle.sg_target.specs.Checks.{outranking_attention}
 use Rattle.sg_target.specs.CommandLaws.{AreUsed, blocks_to_write}
 use Rattle.sg_target.specs.Effect.{Effect, with_contents}
 use Rattle.sg_target.specs.Semantics.{effect_of, medium_use}
@@ -55,9 +56,11 @@ OnlyReadsReturnData =
     ≡ (outcome state initiator (effect_of state initiator operation)).answer
 
 -- The commands that may change blocks: each WRITE, WRITE AND VERIFY and WRITE SAME, COMPARE AND WRITE,
--- and UNMAP.
+-- ORWRITE, WRITE ATOMIC, UNMAP, FORMAT UNIT and the erases of SANITIZE.
 abbrev pub may_change_blocks : Result Command CdbFault → Bool
 may_change_blocks (Ok (command.CompareAndWrite c)) = true
+may_change_blocks (Ok (command.OrWrite16 c)) = true
+may_change_blocks (Ok (command.WriteAtomic16 c)) = true
 may_change_blocks (Ok (command.Write6 c)) = true
 may_change_blocks (Ok (command.Write10 c)) = true
 may_change_blocks (Ok (command.Write12 c)) = true
@@ -68,6 +71,9 @@ may_change_blocks (Ok (command.WriteAndVerify16 c)) = true
 may_change_blocks (Ok (command.WriteSame10 c)) = true
 may_change_blocks (Ok (command.WriteSame16 c)) = true
 may_change_blocks (Ok (command.Unmap c)) = true
+may_change_blocks (Ok (command.FormatUnit c)) = true
+may_change_blocks (Ok (command.SanitizeBlockErase c)) = true
+may_change_blocks (Ok (command.SanitizeCryptographicErase c)) = true
 may_change_blocks _ = false
 
 -- Every other command leaves the disk as it was, whatever its answer is: the capacity, the pool,
@@ -90,13 +96,14 @@ WritesOverUsedAddressesAreNeverRefusedForSpace =
     ≢ refusal_answer format (CheckCondition SpaceAllocationFailed)
 
 -- Nothing forbids an initiator a WRITE of some blocks. No unit attention is pending for it, and
--- the reservation, if there is one, lets it write. The blocks are on the disk, and the page Block
--- Limits allows their number. The data-out has their bytes. SWP is not set. Each address has a
--- block of the pool.
+-- the reservation, if there is one, lets it write. The unit is not stopped. The blocks are on the disk,
+-- and the page Block Limits allows their number. The data-out has their bytes. SWP is not set. Each
+-- address has a block of the pool.
 pub record NothingForbids (state : State) (initiator : ℕ) (data_out : List ℕ) (out : Extent)
     : Type 0 where
   pub attention : oldest state.attentions initiator ≡ None
   pub reservation : allows state.reservations initiator Writes ≡ true
+  pub ready : state.stopped ≡ false
   pub on_disk : out.lba + out.count ≤ state.disk.capacity
   pub not_too_long : out.count ≤ (limits_of (profile_of state)).transfer_length
   pub has_data : bytes_of out ≤ length data_out
@@ -118,11 +125,12 @@ pub record IsKept (before after : State) (initiator : ℕ) : Type 0 where
   pub disk : after.disk ≡ before.disk
   pub modes : after.modes ≡ before.modes
   pub reservations : after.reservations ≡ before.reservations
+  pub stopped : after.stopped ≡ before.stopped
   pub attentions : (after.attentions ≡ before.attentions)
       ⊎ (after.attentions ≡ without_oldest before.attentions initiator)
 
 -- A command that does not end with GOOD leaves blocks, mode pages, registrations, reservation and
--- PRGENERATION as they are.
+-- PRGENERATION as they are, and neither starts nor stops the unit.
 abbrev pub RefusedChangesNothing : Type 0
 RefusedChangesNothing =
     (state : State) (initiator : ℕ) (cdb data_out : List ℕ)
@@ -144,11 +152,12 @@ ConflictChangesNothing =
     → (step state initiator cdb data_out).state ≡ state
 
 -- A command of a class that the reservation forbids its initiator ends with RESERVATION CONFLICT,
--- unless a unit attention is pending for the initiator. Other faults of the command do not matter.
+-- unless a unit attention that outranks it is pending for the initiator. Other faults of the command
+-- do not matter.
 abbrev pub RefusedByReservation : Type 0
 RefusedByReservation =
     (state : State) (initiator : ℕ) (cdb data_out : List ℕ) (class : Class)
     → class_in (profile_of state) cdb ≡ Some class
     → allows state.reservations initiator class ≡ false
-    → oldest state.attentions initiator ≡ None
+    → outranking_attention state initiator cdb ≡ None
     → (step state initiator cdb data_out).answer.status ≡ ReservationConflict

@@ -7,3 +7,4 @@ pub mod Registrants
 pub mod Group
 pub mod PowerCycles
 pub mod WithFaults
+pub mod Stopping

@@ -17,7 +17,7 @@ use Rattle.sg_target.specs.declared.event.Event.TheVariants as event
 use Rattle.sg_target.specs.declared.happening.Happening.TheVariants.{Power}
 use Rattle.sg_target.specs.declared.reply.Status.TheVariants.{Good}
 use Rattle.sg_fencing.specs.ChosenAnswers.{answers_among}
-use Rattle.sg_fencing.specs.Fencing.{holds_alone, is_compared, is_from, view_of}
+use Rattle.sg_fencing.specs.Fencing.{NobodyElseStarts, holds_alone, is_compared, is_from, view_of}
 use Rattle.sg_fencing.specs.Registrants.{IsNeverGranted, is_registrant, is_reserved}
 use Rattle.sg_fencing.specs.Registrants.{registering_list, rules_for}
 
@@ -135,13 +135,14 @@ pub record IsAsIfAloneAmong (state : State) (initiator : ℕ) (events : List Eve
   pub answers : answers_among (is_compared initiator) state events
       ≡ answers_among (is_compared initiator) state (events_of initiator events)
 
--- This holds under two conditions. The initiator holds a reservation of a type that nobody shares
--- before and after each event. In a run of only its own commands and the power cycles,
--- registrations and reservation persist at each power cycle. The first condition does not imply the
--- second: a REGISTER of another initiator sets APTPL for all.
+-- This holds under three conditions. The initiator holds a reservation of a type that nobody shares
+-- before and after each event. No other initiator starts the unit. In a run of only its own commands
+-- and the power cycles, registrations and reservation persist at each power cycle. The first condition
+-- does not imply the last: a REGISTER of another initiator sets APTPL for all.
 abbrev pub HolderIsAsIfAloneThroughPowerCycles : Type 0
 HolderIsAsIfAloneThroughPowerCycles =
     (state : State) (holder : ℕ) (events : List Event) → IsWithinLimits state
     → ((n : ℕ) → holds_alone (state_after_events state (take n events)) holder ≡ true)
+    → NobodyElseStarts holder state events
     → PersistAtPowerCycles state (events_of holder events)
     → IsAsIfAloneAmong state holder events

@@ -34,7 +34,7 @@ use Rattle.sg_target.specs.declared.event.Event.{Event}
 use Rattle.sg_target.specs.declared.event.Event.TheVariants as event
 use Rattle.sg_target.specs.declared.reply.Status.TheVariants.{Good}
 use Rattle.sg_fencing.specs.ChosenAnswers.{answers_where}
-use Rattle.sg_fencing.specs.Fencing.{is_from, view_of}
+use Rattle.sg_fencing.specs.Fencing.{IsLeft, is_from}
 
 -- ---- Words
 
@@ -114,12 +114,13 @@ FencedOffAreKeptOut =
     (state : State) (initiator : ℕ) (cdb data_out : List ℕ)
     → is_fenced_off state initiator ≡ true → IsKeptOut state initiator cdb data_out
 
--- Its command leaves the view of every other initiator, registered or not, as it was.
+-- Its command leaves the view of every other initiator, registered or not, as it was. It may only start a
+-- stopped unit.
 abbrev pub FencedOffLeaveTheView : Type 0
 FencedOffLeaveTheView =
     (state : State) (initiator other : ℕ) (cdb data_out : List ℕ) → IsWithinLimits state
     → other ≢ initiator → is_fenced_off state other ≡ true
-    → view_of (step state other cdb data_out).state initiator ≡ view_of state initiator
+    → IsLeft state (step state other cdb data_out).state initiator
 
 -- Under exclusive access the answer to it is the same whatever the blocks are, and whichever are
 -- mapped.
@@ -287,10 +288,10 @@ PreemptedWriteNothing =
 
 -- A reservation is held, and each sender of a list of commands stays unregistered. Then the list
 -- leaves the view of every other initiator as it was: the blocks, the mode pages, unit attentions,
--- key and reservation.
+-- key and reservation. Only a stopped unit may be started.
 abbrev pub OutsidersChangeNothing : Type 0
 OutsidersChangeNothing =
     (state : State) (initiator : ℕ) (calls : List Call) → IsWithinLimits state
     → is_reserved state ≡ true → ((sender : ℕ) → StaysUnregistered sender state calls)
     → list_any (is_from initiator) calls ≡ false
-    → view_of (state_after_all state calls) initiator ≡ view_of state initiator
+    → IsLeft state (state_after_all state calls) initiator

@@ -18,7 +18,7 @@ use Rattle.sg_target.specs.declared.call.Call.{Call}
 use Rattle.sg_target.specs.declared.event.Event.{Event}
 use Rattle.sg_target.specs.declared.event.Event.TheVariants as event
 use Rattle.sg_target.specs.declared.reply.Status.TheVariants.{Good}
-use Rattle.sg_fencing.specs.Fencing.{holds_alone, holds_type, view_of}
+use Rattle.sg_fencing.specs.Fencing.{IsLeft, holds_alone, holds_type}
 use Rattle.sg_fencing.specs.Registrants.{IsPreempted, RegistersItself, excludes_reading, is_fenced_off}
 use Rattle.sg_fencing.specs.Registrants.{is_registrant, is_reserved}
 
@@ -67,12 +67,12 @@ pub record IsKeptAway (disk : Armed) (initiator : ℕ) (cdb data_out : List ℕ)
 -- ---- One command
 
 -- An initiator is kept away from the blocks. Its command leaves the view of every other initiator,
--- registered or not, as it was.
+-- registered or not, as it was. It may only start a stopped unit.
 pub record IsFencedOut (disk : Armed) (initiator : ℕ) (cdb data_out : List ℕ) : Type 0 where
   pub kept : IsKeptAway disk initiator cdb data_out
       (excludes_reading disk.state.reservations.reservation)
   pub others : (other : ℕ) → other ≢ initiator
-      → view_of (armed_step disk initiator cdb data_out).after.state other ≡ view_of disk.state other
+      → IsLeft disk.state (armed_step disk initiator cdb data_out).after.state other
 
 -- This holds for an initiator that is fenced off, whatever faults are armed.
 abbrev pub FaultsLetNobodyThrough : Type 0
@@ -81,12 +81,13 @@ FaultsLetNobodyThrough =
     → is_fenced_off disk.state initiator ≡ true → IsFencedOut disk initiator cdb data_out
 
 -- Another initiator than the holder is kept away from the blocks. If the holder still holds such a
--- reservation after its command, that command leaves the holder's view as it was.
+-- reservation after its command, that command leaves the holder's view as it was. It may only start a
+-- stopped unit.
 pub record IsShutOutWithFaults (disk : Armed) (holder other : ℕ) (cdb data_out : List ℕ)
     : Type 0 where
   pub kept : IsKeptAway disk other cdb data_out (holds_type disk.state holder ExclusiveAccess)
   pub view : holds_alone (armed_step disk other cdb data_out).after.state holder ≡ true
-      → view_of (armed_step disk other cdb data_out).after.state holder ≡ view_of disk.state holder
+      → IsLeft disk.state (armed_step disk other cdb data_out).after.state holder
 
 -- This holds while an initiator holds a reservation of a type that nobody shares, whatever faults are
 -- armed.

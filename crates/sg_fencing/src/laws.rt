@@ -71,9 +71,9 @@ pub fn writes_over_used_addresses_are_never_refused_for_space()
 }
 
 /// A WRITE ends with GOOD if nothing forbids it. No unit attention is pending for its initiator,
-/// and the reservation, if there is one, lets the initiator write. The blocks are on the disk, and
-/// the page Block Limits allows their number. The data-out has their bytes. SWP is not set. Each
-/// address is mapped or anchored.
+/// and the reservation, if there is one, lets the initiator write. The unit is not stopped. The
+/// blocks are on the disk, and the page Block Limits allows their number. The data-out has their
+/// bytes. SWP is not set. Each address is mapped or anchored.
 pub fn writes_that_nothing_forbids_end_with_good()
     ensures { WritesThatNothingForbidsEndWithGood }
 {
@@ -137,15 +137,16 @@ pub fn conflict_changes_nothing()
     ensures { ConflictChangesNothing }
 {}
 
-/// If no unit attention is pending for an initiator, each of its commands that the reservation does
-/// not allow ends with RESERVATION CONFLICT.
+/// Each command that the reservation does not allow to its initiator ends with RESERVATION CONFLICT,
+/// unless a unit attention that outranks a conflict is pending for the initiator.
 pub fn refused_by_reservation()
     ensures { RefusedByReservation }
 {}
 
 /// Fencing. An initiator holds a write exclusive or an exclusive access reservation before and
 /// after a command of another initiator. Then that command leaves the holder's view as it was: the
-/// blocks, the mode pages, its unit attentions, its reservation key and the reservation.
+/// blocks, the mode pages, its unit attentions, its reservation key and the reservation. It may only
+/// start a unit that is stopped.
 pub fn others_leave_the_view_of_a_holder()
     ensures { OthersLeaveTheView }
 {
@@ -188,7 +189,7 @@ pub fn others_see_no_block()
 
 /// An initiator holds such a reservation before and after each command of a list. Then its view in
 /// the end is the view after its own commands only. So are the answers to its commands, except to
-/// PERSISTENT RESERVE IN and PERSISTENT RESERVE OUT.
+/// PERSISTENT RESERVE IN and PERSISTENT RESERVE OUT. No other initiator may start a stopped unit.
 pub fn a_holder_is_served_as_if_alone()
     ensures { HolderIsAsIfAlone }
 {
@@ -217,7 +218,7 @@ pub fn the_unregistered_are_kept_out()
 }
 
 /// While a reservation of any type is held, an unregistered initiator's command leaves the view of
-/// every other initiator as it was.
+/// every other initiator as it was. It may only start a unit that is stopped.
 pub fn the_unregistered_leave_every_view()
     ensures { FencedOffLeaveTheView }
 {
@@ -280,7 +281,8 @@ pub fn the_unregistered_see_no_block_over_a_list()
 }
 
 /// A reservation of any type is held, and each sender of a list of commands stays unregistered.
-/// Then the list leaves the view of every initiator that sends none of them as it was.
+/// Then the list leaves the view of every initiator that sends none of them as it was. It may only
+/// start a unit that is stopped.
 pub fn the_unregistered_change_nothing()
     ensures { OutsidersChangeNothing }
 {
@@ -312,8 +314,9 @@ pub fn a_new_registration_is_seen()
 
 /// Some initiators stay unregistered over a list of commands of registrants and others. Whenever
 /// one of them sends a command, a reservation of any type is held. The disk counts no REGISTER of
-/// theirs with key 0; a base disk never does. Then their commands may be left out. Without these, the
-/// answers to all others are the same, and so is what the others see in the end.
+/// theirs with key 0, and none of them starts a stopped unit; on a base disk both are so. Then their
+/// commands may be left out. Without these, the answers to all others are the same, and so is what
+/// the others see in the end.
 pub fn outsiders_may_be_left_out()
     ensures { OutsidersMayBeLeftOut }
 {

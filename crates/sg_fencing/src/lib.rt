@@ -1,5 +1,6 @@
 //! Laws of the target's definitions: what a refused command leaves, and what others can do to the
-//! holder of a persistent reservation (SPC-4, 5.13). Nothing here runs.
+//! holder of a persistent reservation (SPC-4, 5.13). Others are of a stopped unit. Nothing here runs.
 #![tactic(auto)]
 
 pub mod laws;
+pub mod stopping;

@@ -1,6 +1,6 @@
 -- The changes of an accepted list.
 use Rattle.std.proofs.Common.{◌≡◌, ℕ, ◌+◌, List, [], ◌∷◌, ◌++◌, length, drop, Bool, true, false}
-use Rattle.std.proofs.Common.{cond, refl, sym, ap, ◌∙◌}
+use Rattle.std.proofs.Common.{cond, refl, sym, ap, Option, ◌∙◌}
 use Rattle.std.specs.Prelude.{Some, Result, Ok, Err, bit_or, unwrap_or, ◌==◌}
 use Rattle.std.specs.List.{flat_map}
 use Rattle.std.specs.Option.{option_map_or}
@@ -144,7 +144,7 @@ unfolding first_fault
 no-fault n [] values after e = (refl, cc)
 no-fault n (offset ∷ offsets) values after e = absurd (cc)
 
-values-kept : (current after : PageValues) (width : CdbWidth) (blocks : ℕ) (list : List ℕ)
+values-kept : (current after : PageValues) (width : CdbWidth) (blocks : Option ℕ) (list : List ℕ)
     (page : ModePage) → selected_values current width blocks list ≡ Ok after
     → Kept current page (values_of after page)
 unfolding selected_values

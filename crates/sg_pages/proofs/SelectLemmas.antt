@@ -16,6 +16,7 @@ use Rattle.sg_pages.specs.BlockDescriptor.{number_length, descriptor_length, blo
 use Rattle.sg_pages.specs.ModeSelect.{part_at, header_length, header_in, length_offset}
 use Rattle.sg_pages.specs.ModeLaws.{IsInside}
 use Rattle.sg_pages.specs.ModeSelect.{block_descriptor_length, has_longlba, descriptor_in, pages_in}
+use Rattle.sg_pages.specs.ModeSelect.{ignored_descriptor_bits}
 use Rattle.sg_pages.specs.ModeSelect.{differences, truncation_of, part_faults, ignored_header_bits}
 use Rattle.sg_pages.specs.ModeSelect.{zeros_for, is_descriptor_length, length_faults, header_faults}
 use Rattle.sg_pages.specs.ModeSelect.{accepted_blocks, descriptor_faults, page_faults, list_faults}
@@ -124,13 +125,13 @@ other-length width list whole e =
 -- ---- The block descriptor
 
 -- the faults of a descriptor, by the bytes of its number of blocks
-abbrev against : (offset blocks : ℕ) (list : List ℕ) → (long : Bool) (size : ℕ) (number : List ℕ)
+abbrev against : (offset : ℕ) (blocks : Option ℕ) (list : List ℕ) → (long : Bool) (size : ℕ) (number : List ℕ)
     → List ℕ
 against offset blocks list long size number =
-    let expected = block_descriptor long (accepted_blocks blocks number) in
-    part_faults expected (zeros_for expected) (part_at offset size list)
+    part_faults (block_descriptor long (accepted_blocks blocks number))
+    (ignored_descriptor_bits long blocks) (part_at offset size list)
 
-pub descriptor_faults-at : (width : CdbWidth) (long : Bool) (blocks size : ℕ) (list : List ℕ)
+pub descriptor_faults-at : (width : CdbWidth) (long : Bool) (blocks : Option ℕ) (size : ℕ) (list : List ℕ)
     → has_longlba width list ≡ long → block_descriptor_length width list ≡ size
     → number_length long ≤ size →
     descriptor_faults width blocks list
@@ -146,19 +147,20 @@ descriptor_faults-at width long blocks size list e f h =
     (take-take (number_length long) size rest h))
 
 -- no descriptor
-pub no-descriptor : (width : CdbWidth) (blocks : ℕ) (list : List ℕ)
+pub no-descriptor : (width : CdbWidth) (blocks : Option ℕ) (list : List ℕ)
     → block_descriptor_length width list ≡ 0
     → first_fault (length list) (descriptor_faults width blocks list) ≡ None
 unfolding first_fault
 no-descriptor width blocks list e =
     let expected = λ (sent : List ℕ). block_descriptor (has_longlba width list)
     (accepted_blocks blocks (take (number_length (has_longlba width list)) sent)) in
+    let ignored = ignored_descriptor_bits (has_longlba width list) blocks in
     let rest = drop (header_length width) list in
     ap (λ n. let bytes = take n rest in
-    first_fault (length list) (part_faults (expected bytes) (zeros_for (expected bytes))
+    first_fault (length list) (part_faults (expected bytes) ignored
     (part_at (header_length width) n list))) e
     ∙ ap (λ xs. first_fault (length list) (xs ++ []))
-    (differences-nil (header_length width) (expected []) (zeros_for (expected [])))
+    (differences-nil (header_length width) (expected []) ignored)
 
 -- the descriptor that its length announces
 long-by : (n : ℕ) (long : Bool) → n ≡ descriptor_length long
@@ -189,25 +191,24 @@ announced-16 width list e h k =
     (long-by (block_descriptor_length width list) (has_longlba width list)
     (announced-long width list e h)).1 k
 
-pub short-faults : (width : CdbWidth) (blocks : ℕ) (list : List ℕ)
+pub short-faults : (width : CdbWidth) (blocks : Option ℕ) (list : List ℕ)
     → is_descriptor_length width list ≡ true
     → block_descriptor_length width list ≡ 8 →
     descriptor_faults width blocks list
     ≡ part_faults (block_descriptor false
     (accepted_blocks blocks (take 4 (drop (header_length width) list))))
-    (0 ∷ 0 ∷ 0 ∷ 0 ∷ 0 ∷ 0 ∷ 0 ∷ 0 ∷ []) (part_at (header_length width) 8 list)
+    (ignored_descriptor_bits false blocks) (part_at (header_length width) 8 list)
 unfolding block_descriptor
 short-faults width blocks list e h =
     descriptor_faults-at width false blocks 8 list (announced-8 width list e h) h (omega arith)
 
-pub long-faults : (width : CdbWidth) (blocks : ℕ) (list : List ℕ)
+pub long-faults : (width : CdbWidth) (blocks : Option ℕ) (list : List ℕ)
     → is_descriptor_length width list ≡ true
     → (block_descriptor_length width list ≡ 0 → ⊥) → (block_descriptor_length width list ≡ 8 → ⊥) →
     descriptor_faults width blocks list
     ≡ part_faults (block_descriptor true
     (accepted_blocks blocks (take 8 (drop (header_length width) list))))
-    (0 ∷ 0 ∷ 0 ∷ 0 ∷ 0 ∷ 0 ∷ 0 ∷ 0 ∷ 0 ∷ 0 ∷ 0 ∷ 0 ∷ 0 ∷ 0 ∷ 0 ∷ 0 ∷ [])
-    (part_at (header_length width) 16 list)
+    (ignored_descriptor_bits true blocks) (part_at (header_length width) 16 list)
 unfolding block_descriptor
 long-faults width blocks list e h k =
     let long = announced-16 width list e h k in
@@ -228,7 +229,7 @@ header_faults-below width list =
     (nat_lt (length list) (header_length width) || is_descriptor_length width list)
     (length_offset width) (header_length width) (offset-inside width))
 
-pub faults-split : (current : PageValues) (width : CdbWidth) (blocks : ℕ) (list : List ℕ)
+pub faults-split : (current : PageValues) (width : CdbWidth) (blocks : Option ℕ) (list : List ℕ)
     → first_fault (length list) (list_faults current width blocks list)
     ≡ option_or (first_fault (length list) (header_faults width list))
     (option_or (first_fault (length list) (descriptor_faults width blocks list))
@@ -239,25 +240,26 @@ faults-split current width blocks list =
     let sent = descriptor_in width list in
     let expected = block_descriptor (has_longlba width list)
     (accepted_blocks blocks (take (number_length (has_longlba width list)) sent.bytes)) in
+    let ignored = ignored_descriptor_bits (has_longlba width list) blocks in
     let descriptor = descriptor_faults width blocks list in
     let pages = flat_map (page_faults current) (pages_in width list) in
     let from : From (offset + block_descriptor_length width list) pages =
     pages_from-from current (offset + block_descriptor_length width list) list in
     let behind : From offset (descriptor ++ pages) =
     From-append offset descriptor pages
-    (part_faults-from expected (zeros_for expected) offset
+    (part_faults-from expected ignored offset
     (block_descriptor_length width list) list)
     (From-weaker (offset + block_descriptor_length width list) offset pages (omega arith) from) in
     first_fault-append n offset (header_faults width list) (descriptor ++ pages)
     (header_faults-below width list) behind
     ∙ ap (option_or (first_fault n (header_faults width list)))
     (first_fault-append n (offset + block_descriptor_length width list) descriptor pages
-    (part_faults-below expected (zeros_for expected) offset
+    (part_faults-below expected ignored offset
     (block_descriptor_length width list) list)
     from)
 
 -- a list that is not empty
-pub selected_values-some : (current : PageValues) (width : CdbWidth) (blocks : ℕ) (list : List ℕ)
+pub selected_values-some : (current : PageValues) (width : CdbWidth) (blocks : Option ℕ) (list : List ℕ)
     → 0 < length list →
     unless_fault (first_fault (length list) (list_faults current width blocks list))
     (values_after current (pages_in width list)) ≡ selected_values current width blocks list
@@ -297,7 +299,7 @@ inside-or : {A : Type 0} (n : ℕ) (c : Bool) (value : A) (r : Result A ModeSele
 inside-or n true value r h = tt
 inside-or n false value r h = h
 
-pub selected_values-inside : (current : PageValues) (width : CdbWidth) (blocks : ℕ) (list : List ℕ)
+pub selected_values-inside : (current : PageValues) (width : CdbWidth) (blocks : Option ℕ) (list : List ℕ)
     → IfErr (selected_values current width blocks list) (IsInside (length list))
 unfolding selected_values first_fault
 selected_values-inside current width blocks list =

@@ -105,12 +105,14 @@ scsi_ports =
 abbrev rotation_rate : Field
 rotation_rate = field 2 0x0001
 
--- PRODUCT TYPE, byte 6; and WABEREQ, WACEREQ and NOMINAL FORM FACTOR, byte 7: not reported.
+-- PRODUCT TYPE, byte 6: not reported.
 abbrev product_type : Field
 product_type = field 1 0
 
-abbrev form_factor : Field
-form_factor = field 1 0x00
+-- WABEREQ 01b and WACEREQ 01b, byte 7: after a BLOCK ERASE or a CRYPTOGRAPHIC ERASE of SANITIZE, a block
+-- is read without an error before it is written. NOMINAL FORM FACTOR 0: not reported.
+abbrev reads_after_erase : Field
+reads_after_erase = field 1 0x50
 
 -- FUAB and VBULS 1, byte 8: FUA and SYNCHRONIZE CACHE are as in SBC-3, and a verification may
 -- compare blocks that are not mapped.
@@ -126,7 +128,7 @@ block_device_characteristics =
     fields_bytes (
     rotation_rate
     ∷ product_type
-    ∷ form_factor
+    ∷ reads_after_erase
     ∷ cache_and_verify_bits
     ∷ reserved
     ∷ []

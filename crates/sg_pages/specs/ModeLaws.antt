@@ -1,5 +1,5 @@
 -- Laws of the mode pages, in the subject's words.
-use Rattle.std.specs.Prelude.{◌≡◌, ℕ, List, [], Bool, true, false, Ok, ◌<◌, ⊤}
+use Rattle.std.specs.Prelude.{◌≡◌, ℕ, List, [], Bool, true, false, Ok, Option, ◌<◌, ⊤}
 use Rattle.sg_wire.specs.declared.command.mode.CdbWidth.{CdbWidth}
 use Rattle.sg_pages.specs.declared.mode_pages.mode_page.ModePage.{ModePage}
 use Rattle.sg_pages.specs.ModePage.{ModeState, row_of, values_of}
@@ -17,7 +17,7 @@ IsInside list_length (Field offset) = offset < list_length
 -- another bit.
 abbrev pub OnlyChangeableBitsChange : Type 0
 OnlyChangeableBitsChange =
-    (before after : ModeState) (list : List ℕ) (width : CdbWidth) (save : Bool) (blocks : ℕ)
+    (before after : ModeState) (list : List ℕ) (width : CdbWidth) (save : Bool) (blocks : Option ℕ)
     (page : ModePage)
     → mode_select before list width save blocks ≡ Ok after
     → differences 2 (values_of before.current page) (row_of page).changeable
@@ -27,13 +27,13 @@ OnlyChangeableBitsChange =
 -- A MODE SELECT without SP leaves the saved values as they are.
 abbrev pub OnlySpSaves : Type 0
 OnlySpSaves =
-    (before after : ModeState) (list : List ℕ) (width : CdbWidth) (blocks : ℕ)
+    (before after : ModeState) (list : List ℕ) (width : CdbWidth) (blocks : Option ℕ)
     → mode_select before list width false blocks ≡ Ok after
     → after.saved ≡ before.saved
 
 -- A MODE SELECT with SP saves the current values of all pages, as they are afterwards.
 abbrev pub SpSavesAll : Type 0
 SpSavesAll =
-    (before after : ModeState) (list : List ℕ) (width : CdbWidth) (blocks : ℕ)
+    (before after : ModeState) (list : List ℕ) (width : CdbWidth) (blocks : Option ℕ)
     → mode_select before list width true blocks ≡ Ok after
     → after.saved ≡ after.current

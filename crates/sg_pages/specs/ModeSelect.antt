@@ -1,5 +1,5 @@
 -- The effect of MODE SELECT with a mode parameter list (SPC-4, 7.5).
-use Rattle.std.specs.Prelude.{ℕ, zero, suc, ◌+◌, min, nat_lt, bit_or}
+use Rattle.std.specs.Prelude.{ℕ, zero, suc, ◌+◌, ◌-◌, min, nat_lt, bit_or, replicate}
 use Rattle.std.specs.Prelude.{List, [], ◌∷◌, ◌++◌, length, take, drop, slice_index}
 use Rattle.std.specs.Prelude.{map, find, reverse, Bool, false, not, ◌&&◌, ◌||◌, ◌==◌, if◌then◌else◌}
 use Rattle.std.specs.Prelude.{Option, Some, None, unwrap_or, Result, Ok, Err}
@@ -128,20 +128,30 @@ header_faults width list =
     part_faults (zeros_for ignored) ignored (header_in width list) ++ length_faults width list
 
 -- The block descriptor has to be the disk's own. A NUMBER OF LOGICAL BLOCKS of zero is accepted
--- too: its bytes are zero, as far as the list has them.
-abbrev pub accepted_blocks : (blocks : ℕ) → (number : List ℕ) → ℕ
-accepted_blocks blocks number = if list_all (λ byte. byte == 0) number then 0 else blocks
+-- too: its bytes are zero, as far as the list has them. If it is ignored, no number is compared.
+abbrev pub accepted_blocks : (blocks : Option ℕ) → (number : List ℕ) → ℕ
+accepted_blocks None number = 0
+accepted_blocks (Some blocks) number = if list_all (λ byte. byte == 0) number then 0 else blocks
 
-abbrev pub accepted_descriptor : (long : Bool) (blocks : ℕ) → (sent : List ℕ) → List ℕ
+abbrev pub accepted_descriptor : (long : Bool) (blocks : Option ℕ) → (sent : List ℕ) → List ℕ
 accepted_descriptor long blocks sent =
     block_descriptor long (accepted_blocks blocks (take (number_length long) sent))
 
--- Departure (SBC-3, 6.4.2): NUMBER OF LOGICAL BLOCKS is ignored there.
-abbrev pub descriptor_faults : (width : CdbWidth) (blocks : ℕ) → List ℕ → List ℕ
+-- The bits of the descriptor that are ignored: those of NUMBER OF LOGICAL BLOCKS, or none.
+abbrev pub ignored_number_bits : (blocks : Option ℕ) → ℕ
+ignored_number_bits None = 0xFF
+ignored_number_bits (Some blocks) = 0x00
+
+abbrev pub ignored_descriptor_bits : (long : Bool) (blocks : Option ℕ) → List ℕ
+ignored_descriptor_bits long blocks =
+    replicate (number_length long) (ignored_number_bits blocks)
+    ++ replicate (descriptor_length long - number_length long) 0x00
+
+abbrev pub descriptor_faults : (width : CdbWidth) (blocks : Option ℕ) → List ℕ → List ℕ
 descriptor_faults width blocks list =
     let sent = descriptor_in width list in
-    let expected = accepted_descriptor (has_longlba width list) blocks sent.bytes in
-    part_faults expected (zeros_for expected) sent
+    let long = has_longlba width list in
+    part_faults (accepted_descriptor long blocks sent.bytes) (ignored_descriptor_bits long blocks) sent
 
 -- PAGE CODE of a page that was sent.
 abbrev pub sent_code : Part → ℕ
@@ -161,7 +171,7 @@ page_faults current sent =
     option_map_or (faults_against current sent) (page_with_code (sent_code sent)) (sent.offset ∷ [])
 
 -- Every fault of a list.
-abbrev pub list_faults : (current : PageValues) (width : CdbWidth) (blocks : ℕ) → List ℕ → List ℕ
+abbrev pub list_faults : (current : PageValues) (width : CdbWidth) (blocks : Option ℕ) → List ℕ → List ℕ
 list_faults current width blocks list =
     header_faults width list
     ++ (descriptor_faults width blocks list ++ flat_map (page_faults current) (pages_in width list))
@@ -197,8 +207,9 @@ abbrev pub values_after : (current : PageValues) → List Part → PageValues
 values_after current sent =
     by_page (λ page. unwrap_or (last_sent (code_of page) sent) (values_of current page))
 
--- The current values after a list, or its first fault. The empty list is accepted.
-unfoldable pub selected_values : (current : PageValues) (width : CdbWidth) (blocks : ℕ) → List ℕ
+-- The current values after a list, or its first fault. The empty list is accepted. `blocks` is the
+-- number of blocks that the block descriptor has to have; with None the field is ignored.
+unfoldable pub selected_values : (current : PageValues) (width : CdbWidth) (blocks : Option ℕ) → List ℕ
     → Result PageValues ModeSelectFault
 selected_values current width blocks list =
     if length list == 0 then Ok current
@@ -211,7 +222,7 @@ saved_after save state current =
     record { current = current; saved = if save then current else state.saved }
 
 -- The pages after a MODE SELECT, or the first fault of its list.
-abbrev pub mode_select : ModeState → (list : List ℕ) (width : CdbWidth) (save : Bool) (blocks : ℕ)
+abbrev pub mode_select : ModeState → (list : List ℕ) (width : CdbWidth) (save : Bool) (blocks : Option ℕ)
     → Result ModeState ModeSelectFault
 mode_select state list width save blocks =
     result_map_both (saved_after save state) (λ fault. fault)

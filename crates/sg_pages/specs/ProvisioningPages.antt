@@ -51,9 +51,16 @@ unmap_alignment = field 4 0
 abbrev write_same_length : Limits → Field
 write_same_length limits = field 8 limits.write_same_length
 
--- Bytes 44 to 63.
+-- MAXIMUM ATOMIC TRANSFER LENGTH, bytes 44 to 47, in blocks: 0 on a disk without WRITE ATOMIC. It is a
+-- field of SBC-4.
+-- Choice (SBC-4, WRITE ATOMIC): a disk that follows SBC-3 need not have the command or the field.
+abbrev atomic_transfer_length : Limits → Field
+atomic_transfer_length limits = field 4 limits.atomic_transfer_length
+
+-- Bytes 48 to 63. SBC-4 has there how atomic writes have to be aligned, and the limits for atomic
+-- boundaries: none.
 abbrev reserved : Field
-reserved = field 20 0
+reserved = field 16 0
 
 unfoldable pub block_limits : Limits → List ℕ
 block_limits limits =
@@ -69,6 +76,7 @@ block_limits limits =
     ∷ unmap_granularity
     ∷ unmap_alignment
     ∷ write_same_length limits
+    ∷ atomic_transfer_length limits
     ∷ reserved
     ∷ []
     )

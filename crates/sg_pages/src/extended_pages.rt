@@ -17,6 +17,10 @@ const LUICLR: u8 = 0x01;
 /// not mapped (VBULS).
 const FUAB_AND_VBULS: u8 = 0x02 | 0x01;
 
+/// After a BLOCK ERASE and after a CRYPTOGRAPHIC ERASE, a block is read without an error (WABEREQ and
+/// WACEREQ 01b).
+const WABEREQ_AND_WACEREQ: u8 = 0x40 | 0x10;
+
 /// The content of Extended INQUIRY Data: fields that are not named here are zero.
 #[tactic(auto, unfolding(crate::specs::ExtendedPages::extended_inquiry_data))]
 pub(crate) fn extended_inquiry_data() -> [u8; 60]
@@ -55,6 +59,7 @@ pub(crate) fn block_device_characteristics() -> [u8; 60]
     let mut bytes = [0; 60];
     // MEDIUM ROTATION RATE: the medium does not rotate
     bytes[1] = 1;
+    bytes[3] = WABEREQ_AND_WACEREQ;
     bytes[4] = FUAB_AND_VBULS;
     bytes
 }

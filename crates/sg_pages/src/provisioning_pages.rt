@@ -32,6 +32,7 @@ pub(crate) fn block_limits(limits: Limits) -> [u8; 60]
     // OPTIMAL UNMAP GRANULARITY
     BigEndian::write_u32(&mut bytes[24..], 1);
     BigEndian::write_u64(&mut bytes[32..], u64::from(limits.write_same_length));
+    BigEndian::write_u32(&mut bytes[40..], limits.atomic_transfer_length);
     bytes
 }
 

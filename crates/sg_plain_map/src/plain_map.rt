@@ -167,10 +167,10 @@ impl Store for PlainMap {
         self.remap(lba, count, &Content::Blocks(&Source::Repeated(block)))
     }
 
-    fn unmap(&mut self, lba: u64, count: u32) {
+    fn unmap(&mut self, lba: u64, count: u64) {
         disks_stay_well_formed();
         let from = lower_bound(&mut self.table, lba);
-        let to = lower_bound(&mut self.table, lba + u64::from(count));
+        let to = lower_bound(&mut self.table, lba + count);
         unmap_records(&mut self.table, &mut self.pool, from, to, lba, count);
     }
 

@@ -15,7 +15,7 @@ pub(crate) fn unmap_records(
     from: usize,
     to: usize,
     lba: u64,
-    count: u32,
+    count: u64,
 )
     requires ready { IsReady table.old pool.old from lba count }
     requires end { IsLowerBound table.old.records to (lba + count) }

@@ -12,6 +12,7 @@ use Rattle.std.proofs.Math.Seq.{take-add}
 use Rattle.sg_store.specs.Comparison.{compared, compared_by, first_difference, repeated}
 use Rattle.sg_store.specs.Disk.{Contents, block, block_at, blocks}
 use Rattle.sg_store.specs.declared.store.Miscompare.{Miscompare}
+use Rattle.sg_store.proofs.ComparisonLemmas.{equal, from, is-from, none-same, same-none}
 use Rattle.sg_store.proofs.DiskLemmas.{blocks-more, range-more}
 use Rattle.sg_pool.specs.Comparison.{compared_at}
 use Rattle.sg_pool.specs.Source.{HasBlocks, block_of, joined_blocks}
@@ -19,35 +20,6 @@ use Rattle.sg_pool.specs.declared.source.Source.{Source}
 use Rattle.sg_pool.specs.declared.source.Source.TheVariants.{Joined, Repeated}
 
 -- ---- The first difference
-
--- the first pair from an index on whose bytes differ
-abbrev from : ℕ → (bytes others : List ℕ) → Option ℕ
-from i bytes others = position_from (λ (pair : ℕ × ℕ). not (pair.0 == pair.1)) i (zip bytes others)
-
-is-from : (xs ys : List ℕ) → first_difference xs ys ≡ from 0 xs ys
-unfolding first_difference
-is-from xs ys = position_from-zero (λ (pair : ℕ × ℕ). not (pair.0 == pair.1)) (zip xs ys)
-
-equal : (n : ℕ) → (n == n) ≡ true
-equal n = (Decides-eqb n n).1 refl
-
-from-equal : (xs : List ℕ) (i : ℕ) → from i xs xs ≡ None
-from-equal [] i = refl
-from-equal (x ∷ xs) i = ap (λ b. cond (not b) (Some i) (from (i + 1) xs xs)) (equal x)
-    ∙ from-equal xs (i + 1)
-
-none_step : (b : Bool) (m : Option ℕ) (i : ℕ) → cond (not b) (Some i) m ≡ None
-    → (b ≡ true) × (m ≡ None)
-none_step true m i e = (refl, e)
-none_step false m i e = cc
-
-from-none : (xs ys : List ℕ) (i : ℕ) → length xs ≡ length ys → from i xs ys ≡ None → xs ≡ ys
-from-none [] [] i len e = refl
-from-none [] (y ∷ ys) i len e = absurd (omega arith)
-from-none (x ∷ xs) [] i len e = absurd (omega arith)
-from-none (x ∷ xs) (y ∷ ys) i len e =
-    let step = none_step (x == y) (from (i + 1) xs ys) i e in
-    ap₂ (λ z zs. z ∷ zs) ((Decides-eqb x y).0 step.0) (from-none xs ys (i + 1) (omega arith) step.1)
 
 from-after : (zs xs ys : List ℕ) (i : ℕ) → from i (zs ++ xs) (zs ++ ys) ≡ from (i + length zs) xs ys
 from-after [] xs ys i = let e : i ≡ i + 0 = omega arith in ap (λ j. from j xs ys) e
@@ -81,14 +53,6 @@ from-some (x ∷ xs) [] us vs i o e = cc
 from-some (x ∷ xs) (y ∷ ys) us vs i o e =
     some_step (not (x == y)) (from (i + 1) xs ys) (from (i + 1) (xs ++ us) (ys ++ vs)) i o
     (from-some xs ys us vs (i + 1) o) e
-
--- bytes do not differ from the same bytes
-pub same-none : (xs : List ℕ) → first_difference xs xs ≡ None
-same-none xs = is-from xs xs ∙ from-equal xs 0
-
--- as many bytes with no difference are the same
-pub none-same : (xs ys : List ℕ) → length xs ≡ length ys → first_difference xs ys ≡ None → xs ≡ ys
-none-same xs ys len e = from-none xs ys 0 len (sym (is-from xs ys) ∙ e)
 
 -- the difference comes after bytes that are the same
 after-same : (zs xs ys : List ℕ) → first_difference (zs ++ xs) (zs ++ ys)

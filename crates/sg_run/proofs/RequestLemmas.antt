@@ -96,7 +96,7 @@ request-by_happening profile text verb operands lets_happen w none named =
 pub request-by_tool : (profile : Profile) (text verb : List ℕ) (operands : List (List ℕ)) (initiator : ℕ)
     → HasFirstWords text verb operands → initiator_of verb ≡ Some initiator
     → (operands ≡ take 5 (tool_words text))
-    × (tool_line initiator (tool_words text) ≡ text_request profile text)
+    × (tool_line profile initiator (tool_words text) ≡ text_request profile text)
 unfolding text_request
 request-by_tool profile text verb operands initiator w some =
     let all : List (List ℕ) = words text in

@@ -10,6 +10,8 @@ use Rattle.sg_tools.specs.Requests.{request, Request as ToolRequest}
 use Rattle.sg_tools.specs.declared.tool.Tool.{Tool}
 use Rattle.sg_tools.specs.declared.tool_fault.ToolFault.TheVariants as tool_fault
 use Rattle.sg_tools.specs.declared.tool_name.ToolName.{ToolName}
+use Rattle.sg_wire.specs.declared.profile.Profile.{Profile}
+use Rattle.sg_wire.specs.declared.profile.Profile.TheVariants.{Extended}
 use Rattle.sg_run.specs.Limits.{word_limit}
 use Rattle.sg_run.specs.Request.{first_tool, is_allowed, named_tool, tool_line}
 use Rattle.sg_run.specs.ToolText.{IsReadUnlessOutOfMemory, asked_of, in_text, names_tool, tool_of_text}
@@ -19,16 +21,17 @@ use Rattle.sg_run.proofs.RequestLemmas.{few-words}
 
 -- ---- the first of them is the name of the tool
 
-first-take : (tool : List (List ℕ)) → first_tool (take 5 tool) ≡ first_tool tool
-first-take [] = refl
-first-take (word ∷ words) = refl
+first-take : (profile : Profile) (tool : List (List ℕ))
+    → first_tool profile (take 5 tool) ≡ first_tool profile tool
+first-take profile [] = refl
+first-take profile (word ∷ words) = refl
 
 -- of the words that are kept
-pub name_of : (initiator : ℕ) (name : Option ToolName) (kept tool : List (List ℕ))
-    → name ≡ first_tool kept → kept ≡ take 5 tool
-    → named_tool initiator name tool ≡ tool_line initiator tool
-name_of initiator name kept tool is same =
-    ap (λ n. named_tool initiator n tool) (is ∙ (ap first_tool same ∙ first-take tool))
+pub name_of : (profile : Profile) (initiator : ℕ) (name : Option ToolName) (kept tool : List (List ℕ))
+    → name ≡ first_tool profile kept → kept ≡ take 5 tool
+    → named_tool initiator name tool ≡ tool_line profile initiator tool
+name_of profile initiator name kept tool is same =
+    ap (λ n. named_tool initiator n tool) (is ∙ (ap (first_tool profile) same ∙ first-take profile tool))
 
 -- ---- all of them, as texts
 
@@ -79,11 +82,11 @@ all-others text kept same few =
 
 pub asked-in_text : (text : List ℕ) (kept : List (List ℕ)) (name : ToolName)
     → list_all is_allowed text ≡ true → length (words text) ≤ word_limit → kept ≡ words text
-    → first_tool kept ≡ Some name → tool_of_text text ≡ in_text (request name kept)
+    → first_tool Extended kept ≡ Some name → tool_of_text text ≡ in_text (request name kept)
 unfolding tool_of_text
 asked-in_text text kept name allowed few same named =
     rw (allowed, few-words (length (words text)) few)
-    (ap (λ n. asked_of n (words text)) (ap first_tool (sym same) ∙ named)
+    (ap (λ n. asked_of n (words text)) (ap (first_tool Extended) (sym same) ∙ named)
     ∙ ap (λ ws. in_text (request name ws)) (sym same))
 
 names-in_text : (asked : ToolRequest) → names_tool (in_text asked) ≡ true

@@ -24,6 +24,7 @@ use Rattle.sg_target.specs.declared.reply.Status.TheVariants.{Good, CheckConditi
 use Rattle.sg_target.specs.declared.reply.Status.TheVariants.{Busy, TaskSetFull, NoReply}
 use Rattle.sg_tools.specs.ParameterLists.{parameter_list}
 use Rattle.sg_tools.specs.Requests.{Request as ToolRequest}
+use Rattle.sg_tools.specs.ShowKinds.{shown_in}
 use Rattle.sg_tools.specs.declared.show.Show.{Show}
 use Rattle.sg_tools.specs.declared.show.Show.TheVariants.{Hex, Nothing}
 use Rattle.sg_tools.specs.declared.tool.Tool.{Tool}
@@ -135,10 +136,11 @@ abbrev pub tool_step : Armed → (initiator : ℕ) → Tool → ArmedStep
 tool_step disk initiator tool =
     armed_step disk initiator (cdb_of tool.command) (parameter_list tool.parameters)
 
+-- The profile of the disk says how the answer is shown.
 abbrev pub tool_outcome : (number : ℕ) → Armed → (initiator : ℕ) → ToolRequest → Outcome
 tool_outcome number disk initiator (Err fault) = fault_outcome number disk (fault_of_tool fault)
 tool_outcome number disk initiator (Ok tool) =
-    reply_outcome number tool.show (tool_step disk initiator tool)
+    reply_outcome number (shown_in (profile_of disk.state) tool.show) (tool_step disk initiator tool)
 
 -- Only a tool takes memory, to read its words.
 abbrev pub by_request : (number : ℕ) → (out_of_memory : Bool) → Armed → LineRequest → Outcome

@@ -5,6 +5,7 @@ use Rattle.sg_tools.specs.Requests.{request, Request as ToolRequest}
 use Rattle.sg_tools.specs.declared.tool.Tool.{Tool}
 use Rattle.sg_tools.specs.declared.tool_fault.ToolFault.TheVariants.{OutOfMemory}
 use Rattle.sg_tools.specs.declared.tool_name.ToolName.{ToolName}
+use Rattle.sg_wire.specs.declared.profile.Profile.TheVariants.{Extended}
 use Rattle.sg_run.specs.Request.{first_tool, unless_faulty}
 use Rattle.sg_run.specs.Words.{words}
 use Rattle.sg_run.specs.declared.request.text_fault.TextFault.{TextFault}
@@ -22,9 +23,10 @@ asked_of (Some name) words = in_text (request name words)
 
 abbrev pub by_tool_words : (text : List ℕ) → List (List ℕ) → Result Tool TextFault
 by_tool_words text words =
-    unless_faulty text words (Err BadByte) (Err TooManyWords) (asked_of (first_tool words) words)
+    unless_faulty text words (Err BadByte) (Err TooManyWords)
+    (asked_of (first_tool Extended words) words)
 
--- The first word is the tool's name.
+-- The first word is the tool's name. A text belongs to no disk, so each tool can be named.
 unfoldable pub tool_of_text : List ℕ → Result Tool TextFault
 tool_of_text text = by_tool_words text (words text)
 

@@ -242,7 +242,8 @@ fn run_tool<W: Write, S: Store>(
                 cdb: plan.cdb.as_slice(),
                 data_out: &data_out[..plan.data_out],
             };
-            send(number, &call, plan.show, buffer, target, out)
+            let show = plan.show.in_profile(target.profile());
+            send(number, &call, show, buffer, target, out)
         }
         Err(fault) => put_fault(number, LineFault::of_tool(fault), out),
     }

@@ -1,4 +1,5 @@
--- For stores: ranges of a disk, one block at a time, and the descriptors of an answer.
+-- For stores: comparisons, ranges of a disk, one block at a time, and the descriptors of an answer.
+pub mod ComparisonLemmas
 pub mod DiskLemmas
 pub mod WellFormedLemmas
 pub mod DescriptorLemmas

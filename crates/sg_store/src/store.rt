@@ -180,8 +180,9 @@ pub trait Store: Drop {
             (meter self.old) (meter self.new) };
 
     /// Unmaps the addresses from one on (SBC-3, 5.28). Their blocks read as zeros from then on, and
-    /// the pool has room for as many others.
-    fn unmap(&mut self, lba: u64, count: u32)
+    /// the pool has room for as many others. A whole disk can have more addresses than a descriptor
+    /// names.
+    fn unmap(&mut self, lba: u64, count: u64)
         requires range { lba + count ≤ (disk self.old).capacity }
         requires headroom { HasHeadroom (meter self.old).counts }
 

@@ -1,8 +1,8 @@
 -- Each command leaves the mapped addresses within the capacity, and their blocks of 512 bytes.
 use Rattle.std.proofs.Common.{◌≡◌, ◌≤◌, ◌<◌, ℕ, ◌+◌, ◌*◌, List, [], ◌∷◌, length, take, drop, map}
 use Rattle.std.proofs.Common.{Bool, true, false, cond, Option, Some, None, Result, Ok, Err, refl}
-use Rattle.std.proofs.Common.{◌==◌, arith, eqb-true, length-take, length-drop}
-use Rattle.std.specs.Prelude.{max, nat_lt, ok_or}
+use Rattle.std.proofs.Common.{◌==◌, ◌∙◌, arith, eqb-true, length-take, length-drop}
+use Rattle.std.specs.Prelude.{max, min, nat_lt, ok_or}
 use Rattle.sg_wire.specs.Profile.{rules_of}
 use Rattle.sg_wire.specs.FirstBytes.{first_bytes}
 use Rattle.sg_target.specs.PrimaryCommands.{inquiry_page}
@@ -15,27 +15,30 @@ use Rattle.sg_wire.specs.declared.command.Command.TheVariants as command
 use Rattle.sg_wire.specs.declared.command.CdbFault.{CdbFault}
 use Rattle.sg_wire.specs.declared.extent.Extent.{Extent}
 use Rattle.sg_wire.specs.CdbDecoding.{command_in}
-use Rattle.sg_store.specs.Disk.{Contents, IsWellFormed, anchored, block_at, unmapped}
+use Rattle.sg_store.specs.Disk.{Contents, IsWellFormed, anchored, block, block_at, unmapped}
 use Rattle.sg_store.specs.Disk.Mapping.{Data, Anchored}
 use Rattle.sg_store.specs.Laws.{DisksStayWellFormed}
 use Rattle.sg_wire.specs.declared.command.verify.ByteCheck.{ByteCheck}
 use Rattle.sg_wire.specs.declared.command.verify.ByteCheck.TheVariants as check
-use Rattle.sg_target.specs.BlockCommands.{blocks_out, bytes_of, exchange_out}
+use Rattle.sg_target.specs.BlockCommands.{blocks_out, bytes_of, exchange_out, ored_block}
+use Rattle.sg_target.proofs.OrWriteLemmas.{length-block, length-or}
 use Rattle.sg_pages.specs.BlockDescriptor.{logical_block_length}
 use Rattle.sg_wire.specs.SupportedOperations.{requested_report}
 use Rattle.sg_pages.specs.Reports.{lists_unit, log_page_with}
 use Rattle.sg_pages.specs.declared.reports.Report.TheVariants as report
 use Rattle.sg_target.specs.Checks.{cdb_checks, checked_cdb, checked_operation}
-use Rattle.sg_target.specs.Checks.{checked_parse, out_of_range, past_capacity}
+use Rattle.sg_target.specs.Checks.{checked_parse, not_ready, out_of_range, past_capacity}
 use Rattle.sg_target.specs.Checks.{requested, short_data_out, unsupported_value, write_protection}
 use Rattle.sg_target.specs.Config.{ConfigFields}
-use Rattle.sg_target.specs.Demands.{DataOutNeed, Demands, bad_comparison, bad_count, demands, extent}
+use Rattle.sg_target.specs.Demands.{DataOutNeed, Demands, bad_atomic, bad_comparison, bad_count}
+use Rattle.sg_target.specs.Demands.{demands, extent, list_refusal}
 use Rattle.sg_target.specs.Demands.{need, takes, takes_no_data, verify, verify_only}
 use Rattle.sg_target.specs.Demands.{too_long, bad_anchor, unmap_extent, unmap_extents}
 use Rattle.sg_target.specs.Demands.{unmap_or_fill}
 use Rattle.sg_target.specs.Effect.{Effect}
 use Rattle.sg_target.specs.Extents.{AreOnDisk}
-use Rattle.sg_target.specs.ProvisioningCommands.{block_out, changed_in_turn, listed_extents, unmaps}
+use Rattle.sg_target.specs.ProvisioningCommands.{block_out, changed_in_turn, unmaps}
+use Rattle.sg_target.specs.Demands.{extents_out}
 use Rattle.sg_target.specs.Refusal.{checked_next, first_some, or_refused, unless_refused, when_sound}
 use Rattle.sg_target.specs.Semantics.{effect_of, medium_use}
 use Rattle.sg_target.specs.State.{State, config_of, profile_of}
@@ -49,6 +52,7 @@ use Rattle.sg_target.specs.declared.refusal.Refusal.{Refusal}
 abbrev pub IsSound : Operation → Type 0
 IsSound (operation.Write out) = length out.bytes ≡ bytes_of out.extent
 IsSound (operation.CompareAndWrite exchange) = length exchange.replacement ≡ bytes_of exchange.extent
+IsSound (operation.OrWrite out) = length out.bytes ≡ bytes_of out.extent
 IsSound (operation.Fill extent block) = length block ≡ logical_block_length
 IsSound _ = Unit {0}
 
@@ -98,6 +102,14 @@ write-sound : (config : ConfigFields) (extent : Extent) (unsupported : Option �
 write-sound config extent unsupported data_out =
     takes-sound config (bytes_of extent) unsupported
     (Ok (operation.Write (blocks_out extent data_out))) data_out (whole (bytes_of extent) data_out)
+
+or-sound : (config : ConfigFields) (extent : Extent) (unsupported : Option ℕ) (data_out : List ℕ)
+    → Sound (requested (takes config (bytes_of extent) unsupported (Ok
+    (operation.OrWrite (blocks_out extent data_out))))
+    data_out)
+or-sound config extent unsupported data_out =
+    takes-sound config (bytes_of extent) unsupported
+    (Ok (operation.OrWrite (blocks_out extent data_out))) data_out (whole (bytes_of extent) data_out)
 
 fill-or-unmap : (anchor is_unmap : Bool) (extent : Extent) (block : List ℕ)
     → length block ≡ logical_block_length
@@ -152,6 +164,12 @@ exchange-sound extent data_out true e =
     let whole = eqb-true (length data_out) (2 * bytes_of extent) e in
     omega (arith, whole, length-drop (bytes_of extent) data_out)
 
+-- FORMAT UNIT brings nothing that has to be sound
+format-sound : (refused : Option Refusal) (blocks : ℕ)
+    → Sound (unless_refused refused (Ok (operation.UnmapAll blocks)))
+format-sound None blocks = tt
+format-sound (Some refusal) blocks = tt
+
 command-sound : (config : ConfigFields) (c : Command) (data_out : List ℕ)
     → Sound (requested (demands config c data_out) data_out)
 command-sound config (command.Write6 short) data_out =
@@ -174,12 +192,19 @@ command-sound config (command.WriteAndVerify16 c) data_out =
 command-sound config (command.CompareAndWrite c) data_out =
     let named = extent c.lba c.count in
     exchange-sound named data_out (length data_out == 2 * bytes_of named) refl
+command-sound config (command.OrWrite16 c) data_out =
+    or-sound config (extent c.lba c.count) (too_long config c.count 10) data_out
+command-sound config (command.WriteAtomic16 c) data_out =
+    write-sound config (extent c.lba c.count) (bad_atomic config c.boundary c.count) data_out
 command-sound config (command.Verify10 c) data_out =
     verify-sound config c.byte_check (extent c.extent.lba c.extent.count) 7 data_out
 command-sound config (command.Verify12 c) data_out =
     verify-sound config c.byte_check (extent c.extent.lba c.extent.count) 6 data_out
 command-sound config (command.Verify16 c) data_out =
     verify-sound config c.byte_check (extent c.extent.lba c.extent.count) 10 data_out
+command-sound config (command.FormatUnit c) data_out =
+    requested-sound (demands config (command.FormatUnit c) data_out) data_out
+    (format-sound (list_refusal c data_out) config.blocks)
 command-sound config (command.LogSense c) data_out =
     requested-sound (demands config (command.LogSense c) data_out) data_out
     (when
@@ -209,7 +234,7 @@ command-sound config (command.Inquiry c) data_out =
     (λ page. operation.ReturnInquiry page c.allocation_length) (λ page. tt))
 command-sound config (command.Unmap c) data_out =
     requested-sound (demands config (command.Unmap c) data_out) data_out
-    (when (listed_extents (first_bytes c.list_length data_out)) (unmap_extents c.anchor)
+    (when (extents_out config c.list_length data_out) (unmap_extents c.anchor)
     (extents-sound c.anchor))
 command-sound config (command.PersistentReserveOut c) data_out =
     requested-sound (demands config (command.PersistentReserveOut c) data_out) data_out
@@ -246,17 +271,18 @@ abbrev pub Ready : State → Result Operation Refusal → Type 0
 Ready state (Ok o) = IsReady state o
 Ready state (Err refusal) = Unit {0}
 
-passes : (state : State) (o : Operation) (range protection : Option Refusal)
+passes : (state : State) (o : Operation) (idle range protection : Option Refusal)
     → (range ≡ None → IsReady state o)
-    → Ready state (unless_refused (first_some (range ∷ protection ∷ [])) (Ok o))
-passes state o None None h = h refl
-passes state o None (Some refusal) h = tt
-passes state o (Some refusal) protection h = tt
+    → Ready state (unless_refused (first_some (idle ∷ range ∷ protection ∷ [])) (Ok o))
+passes state o None None None h = h refl
+passes state o None None (Some refusal) h = tt
+passes state o None (Some refusal) protection h = tt
+passes state o (Some refusal) range protection h = tt
 
 operation-ready : (state : State) (o : Operation) → IsSound o → Ready state (checked_operation state o)
 operation-ready state o h =
     let medium = medium_use o in
-    passes state o (out_of_range state.disk.capacity medium.extents)
+    passes state o (not_ready state medium) (out_of_range state.disk.capacity medium.extents)
     (write_protection (rules_of (profile_of state)) state.modes medium)
     (λ e. record { sound = h; on_disk = on_disk state.disk.capacity medium.extents e })
 
@@ -305,6 +331,9 @@ block-length : (bytes : List ℕ) (count i : ℕ) → length bytes ≡ 512 * cou
 block-length bytes count i h below =
     omega (arith, length-take 512 (drop (512 * i) bytes), length-drop (512 * i) bytes)
 
+both-whole : {m n : ℕ} → m ≡ 512 → n ≡ 512 → min m n ≡ 512
+both-whole h k = omega (arith, h, k)
+
 unmapped-keeps : DisksStayWellFormed → (capacity : ℕ) (extents : List Extent) (contents : Contents)
     → IsWellFormed capacity contents → IsWellFormed capacity (changed_in_turn unmapped contents extents)
 unmapped-keeps disks capacity [] contents h = h
@@ -331,6 +360,12 @@ operation-keeps disks state i (operation.CompareAndWrite exchange) h ready =
     disks.mapping state.disk.capacity state.disk.contents exchange.extent.lba exchange.extent.count
     (λ index. Data (block_at exchange.replacement index)) h ready.on_disk.0
     (λ k below. block-length exchange.replacement exchange.extent.count k ready.sound below)
+operation-keeps disks state i (operation.OrWrite out) h ready =
+    disks.mapping state.disk.capacity state.disk.contents out.extent.lba out.extent.count
+    (λ index. Data (ored_block state.disk.contents out index)) h ready.on_disk.0
+    (λ k below. length-or (block state.disk.contents (out.extent.lba + k)) (block_at out.bytes k)
+    ∙ both-whole (length-block state.disk.capacity state.disk.contents (out.extent.lba + k) h)
+    (block-length out.bytes out.extent.count k ready.sound below))
 operation-keeps disks state i (operation.Fill extent block) h ready =
     disks.mapping state.disk.capacity state.disk.contents extent.lba extent.count
     (λ index. Data block) h ready.on_disk.0 (λ k below. ready.sound)
@@ -338,6 +373,8 @@ operation-keeps disks state i (operation.Unmap extents) h ready =
     unmapped-keeps disks state.disk.capacity extents state.disk.contents h
 operation-keeps disks state i (operation.UnmapExtent extent) h ready =
     unmapped-keeps disks state.disk.capacity (extent ∷ []) state.disk.contents h
+operation-keeps disks state i (operation.UnmapAll blocks) h ready =
+    unmapped-keeps disks state.disk.capacity (extent 0 blocks ∷ []) state.disk.contents h
 operation-keeps disks state i (operation.Anchor extents) h ready =
     anchored-keeps disks state.disk.capacity extents state.disk.contents h ready.on_disk
 operation-keeps disks state i (operation.AnchorExtent extent) h ready =

@@ -6,10 +6,13 @@ use Rattle.std.proofs.lemmas.Bool.{and_parts, eqb-true}
 use Rattle.std.proofs.lemmas.Bool.Decides.{nat_tests}
 use Rattle.std.proofs.lemmas.List.{drop-take, take-take}
 use Rattle.std.specs.List.{list_all}
+use Rattle.std.specs.Prelude.{nat_lt, ◌||◌}
+use Rattle.std.specs.Result.{result_map_both}
 use Rattle.std.specs.Option.{option_map_or}
 use Rattle.sg_wire.specs.FirstBytes.{first_bytes}
 use Rattle.sg_wire.specs.CdbDecoding.{command_of}
-use Rattle.sg_wire.specs.UnmapList.{unmap_list}
+use Rattle.sg_wire.specs.Profile.{rules_of}
+use Rattle.sg_wire.specs.UnmapList.{named_extents, unmap_list}
 use Rattle.sg_wire.specs.declared.command.CdbFault.{CdbFault}
 use Rattle.sg_wire.specs.declared.command.Command.{Command}
 use Rattle.sg_wire.specs.declared.command.Command.TheVariants as command
@@ -27,7 +30,7 @@ use Rattle.std.specs.FinMap.{contains_key, get, len}
 use Rattle.std.proofs.Common.{zero, suc, ap₂, is_some}
 use Rattle.sg_target.specs.Checks.{checked_cdb}
 use Rattle.sg_target.specs.CommandLaws.{WritesOverUsedAddressesHaveSpace}
-use Rattle.sg_target.specs.Refusal.{checked_next, first_some, or_refused, when_sound}
+use Rattle.sg_target.specs.Refusal.{checked_next, first_some, when_sound}
 use Rattle.sg_target.proofs.NeedLemmas.{inside}
 use Rattle.sg_target.proofs.Space.{space-left}
 use Rattle.sg_store.specs.Laws.{AnchorsEachAddress, AnchorZeroesEachBlock, FillMapsEachAddress}
@@ -65,12 +68,12 @@ use Rattle.sg_target.proofs.LiftLemmas.{Asked, asked, lifted, not_good, outcome-
 
 -- the operation that it asks for has its effect
 module _ (state : State) (i : ℕ) (cdb data_out : List ℕ) where
-  record Done (done : Step) : Type 0 where
-    operation : Operation
-    asked : Asked state i cdb data_out operation
-    effect : Effect
-    effect_is : effect_of state i operation ≡ Ok effect
-    done_is : executed effect ≡ done
+  pub record Done (done : Step) : Type 0 where
+    pub operation : Operation
+    pub asked : Asked state i cdb data_out operation
+    pub effect : Effect
+    pub effect_is : effect_of state i operation ≡ Ok effect
+    pub done_is : executed effect ≡ done
 
   abbrev DoneIfGood : Step → Type 0
   DoneIfGood done = done.answer.status ≡ Good → Done done
@@ -90,7 +93,7 @@ module _ (state : State) (i : ℕ) (cdb data_out : List ℕ) where
       good
   by-effect operation k (Err refusal) e good = absurd (not_good state i refusal good)
 
-  done-well : EndsWithGood state i cdb data_out → Done (step state i cdb data_out)
+  pub done-well : EndsWithGood state i cdb data_out → Done (step state i cdb data_out)
   done-well =
       lifted state i cdb data_out DoneIfGood (λ refusal good. absurd (not_good state i refusal good))
       (λ operation k. by-effect operation k (effect_of state i operation) refl)
@@ -100,7 +103,7 @@ same-effect : (found : Result Effect Refusal) (first second : Effect) → found 
     → found ≡ Ok second → first ≡ second
 same-effect found first second e f = cc
 
-by-operation : (P : Step → Type 0) (state : State) (i : ℕ) (operation : Operation) (effect : Effect)
+pub by-operation : (P : Step → Type 0) (state : State) (i : ℕ) (operation : Operation) (effect : Effect)
     (done : Step) (known : Operation) (its : Effect) → known ≡ operation
     → effect_of state i known ≡ Ok its
     → effect_of state i operation ≡ Ok effect → executed effect ≡ done → P (executed its) → P done
@@ -266,24 +269,49 @@ used-have-space law state i cdb data_out out effect w is used e =
 
 -- ---- UNMAP
 
-record Listed (anchor : Bool) (found : Result (List Extent) UnmapListFault) (o : Operation) : Type 0 where
+record Listed (only anchor : Bool) (found : Result (List Extent) UnmapListFault) (o : Operation)
+    : Type 0 where
   extents : List Extent
   listed : found ≡ Ok extents
-  is : unmap_extents anchor extents ≡ o
+  is : unmap_extents anchor (named_extents only extents) ≡ o
 
-listed : (anchor : Bool) (found : Result (List Extent) UnmapListFault) (o : Operation)
-    → when_sound (or_refused unmap_list_refusal found) (unmap_extents anchor) ≡ Ok o
-    → Listed anchor found o
-listed anchor (Ok extents) o e = record { extents = extents; listed = refl; is = cc }
-listed anchor (Err fault) o e = cc
+listed : (only anchor : Bool) (found : Result (List Extent) UnmapListFault) (o : Operation)
+    → when_sound (result_map_both (named_extents only) unmap_list_refusal found) (unmap_extents anchor)
+    ≡ Ok o → Listed only anchor found o
+listed only anchor (Ok extents) o e = record { extents = extents; listed = refl; is = cc }
+listed only anchor (Err fault) o e = cc
+
+abbrev ignores_empty : ConfigFields → Bool
+ignores_empty config = (rules_of config.identity.profile).unmap_ignores_empty_extents
+
+-- an extent of no block has no address
+empty-apart : (lba count address : ℕ) → nat_lt 0 count ≡ false → lies_in lba count address ≡ false
+empty-apart lba count address h = grind (arith, nat_tests)
+
+lies-in-rest : (first : Extent) (rest : List Extent) (address : ℕ) (names : Bool)
+    → nat_lt 0 first.count ≡ names
+    → lies_in_any (named_extents true rest) address ≡ lies_in_any rest address
+    → lies_in_any (cond names (first ∷ named_extents true rest) (named_extents true rest)) address
+    ≡ lies_in_any (first ∷ rest) address
+lies-in-rest first rest address true is h = ap (λ b. lies_in first.lba first.count address || b) h
+lies-in-rest first rest address false is h =
+    h ∙ ap (λ b. b || lies_in_any rest address)
+    (sym (empty-apart first.lba first.count address is))
+
+lies-in-named : (only : Bool) (extents : List Extent) (address : ℕ)
+    → lies_in_any (named_extents only extents) address ≡ lies_in_any extents address
+lies-in-named false extents address = refl
+lies-in-named true [] address = refl
+lies-in-named true (first ∷ rest) address =
+    lies-in-rest first rest address (nat_lt 0 first.count) refl (lies-in-named true rest address)
 
 unmap-asked : (config : ConfigFields) (k : Command) (c : Unmap) (data_out : List ℕ) (o : Operation)
     → (demands config k data_out).operation ≡ Ok o → (parsed : Result Command CdbFault)
     → parsed ≡ Ok k → parsed ≡ Ok (command.Unmap c)
-    → Listed c.anchor (unmap_list (first_bytes c.list_length data_out)) o
+    → Listed (ignores_empty config) c.anchor (unmap_list (first_bytes c.list_length data_out)) o
 unmap-asked config k c data_out o e parsed h is =
     let same : k ≡ command.Unmap c = cc in
-    listed c.anchor (unmap_list (first_bytes c.list_length data_out)) o
+    listed (ignores_empty config) c.anchor (unmap_list (first_bytes c.list_length data_out)) o
     (subst (λ (other : Command). (demands config other data_out).operation ≡ Ok o) same e)
 
 module _ (state : State) (i : ℕ) where
@@ -314,17 +342,23 @@ unmaps-follow unmaps anchors state i cdb data_out c is good =
     let d = done-well state i cdb data_out good in
     let known = unmap-asked (config_of state) d.asked.command c data_out d.operation
     d.asked.operation_is (command_of cdb) d.asked.command_is is in
+    let only = ignores_empty (config_of state) in
+    let named = named_extents only known.extents in
     record {
       extents = known.extents;
       listed = known.listed;
       unmapped =
-          by-operation
-          (λ (done : Step). Changes state done.state (lies_in_any known.extents)
+          subst
+          (λ (inside : ℕ → Bool). Changes state (step state i cdb data_out).state inside
+          (unmapped_status c.anchor) (λ address. zero_block))
+          (λ d address. lies-in-named only known.extents address d)
+          (by-operation
+          (λ (done : Step). Changes state done.state (lies_in_any named)
           (unmapped_status c.anchor) (λ address. zero_block))
           state i d.operation d.effect (step state i cdb data_out)
-          (unmap_extents c.anchor known.extents) (effect_of_unmap state i c.anchor known.extents)
-          known.is (unmap-effect state i c.anchor known.extents) d.effect_is d.done_is
-          (unmap-changes state i unmaps anchors c.anchor known.extents);
+          (unmap_extents c.anchor named) (effect_of_unmap state i c.anchor named)
+          known.is (unmap-effect state i c.anchor named) d.effect_is d.done_is
+          (unmap-changes state i unmaps anchors c.anchor named));
     }
 
 -- ---- WRITE SAME

@@ -1,5 +1,6 @@
 -- Data-in within its length: a longer allocation length cuts nothing more.
 use Rattle.std.proofs.Common.{◌≡◌, ◌≤◌, ℕ, min, List, length, take, Option, Some, None, refl, ap, sym}
+use Rattle.std.proofs.Common.{Bool, true, false}
 use Rattle.std.proofs.Common.{◌∙◌, arith, lit≤}
 use Rattle.std.proofs.lemmas.List.{take_min}
 use Rattle.sg_wire.specs.FirstBytes.{first_bytes}
@@ -27,13 +28,15 @@ pub whole-capacity_10 : (capacity : ℕ) → first_bytes 8 (capacity_10 capacity
 unfolding capacity_10
 whole-capacity_10 capacity = refl
 
--- a unit attention has neither INFORMATION nor a field pointer
-pub sense-within : (format : Format) (condition : Option UnitAttention)
-    → length (sense_data format (pending_sense condition)) ≤ longest_sense
+-- a unit attention has neither INFORMATION nor a field pointer, and neither has a stopped unit
+pub sense-within : (format : Format) (stopped : Bool) (condition : Option UnitAttention)
+    → length (sense_data format (pending_sense stopped condition)) ≤ longest_sense
 unfolding sense_data
-sense-within Fixed None = lit≤ tt
-sense-within Fixed (Some condition) = lit≤ tt
-sense-within Descriptor None = lit≤ tt
-sense-within Descriptor (Some condition) = lit≤ tt
+sense-within Fixed true None = lit≤ tt
+sense-within Fixed false None = lit≤ tt
+sense-within Fixed stopped (Some condition) = lit≤ tt
+sense-within Descriptor true None = lit≤ tt
+sense-within Descriptor false None = lit≤ tt
+sense-within Descriptor stopped (Some condition) = lit≤ tt
 
 pub ruleset data_lengths = (whole-capacity_10, sense-within)

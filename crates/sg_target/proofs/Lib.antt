@@ -13,7 +13,9 @@ pub mod ExtentLemmas
 pub mod UnmapLemmas
 mod InTurnLemmas
 mod EachExtentLemmas
+pub mod OrWriteLemmas
 pub mod CommandLemmas
+mod EmptyingLemmas
 mod JoiningLemmas
 pub mod NeedLemmas
 pub mod Space

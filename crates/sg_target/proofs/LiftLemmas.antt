@@ -1,6 +1,6 @@
 -- From the operation that a command asks for to its step.
 use Rattle.std.proofs.Common.{◌≡◌, ℕ, List, [], ◌∷◌, Option, Some, None, Result, Ok, Err}
-use Rattle.std.proofs.Common.{refl, ap, subst, ◌∙◌}
+use Rattle.std.proofs.Common.{refl, sym, ap, subst, ◌∙◌}
 use Rattle.std.specs.Option.{option_map_or}
 use Rattle.sg_wire.specs.CdbDecoding.{command_in, command_of}
 use Rattle.sg_wire.specs.declared.command.CdbFault.{CdbFault}
@@ -60,6 +60,7 @@ pub record Asked (state : State) (i : ℕ) (cdb data_out : List ℕ) (operation 
   pub accepted : first_some
       (request_checks (demands (config_of state) command data_out) data_out) ≡ None
   pub operation_is : (demands (config_of state) command data_out).operation ≡ Ok operation
+  pub on_medium : first_some (medium_checks state (medium_use operation)) ≡ None
 
 record Passed {A : Type 0} (refusal : Option Refusal) (result : Result A Refusal) (value : A) : Type 0 where
   none : refusal ≡ None
@@ -70,12 +71,24 @@ unless-ok : {A : Type 0} (refusal : Option Refusal) (result : Result A Refusal) 
 unless-ok None result value e = record { none = refl; is = e }
 unless-ok (Some refusal) result value e = cc
 
+ok-same : (found : Result Operation Refusal) (asked operation : Operation) → found ≡ Ok asked
+    → found ≡ Ok operation → asked ≡ operation
+ok-same found asked operation e f = cc
+
 -- the request of a command that passes the checks of its use of the medium
 requested-ok : (state : State) (request : Result Operation Refusal) (operation : Operation)
-    → checked_next request (checked_operation state) ≡ Ok operation → request ≡ Ok operation
+    → checked_next request (checked_operation state) ≡ Ok operation
+    → Passed (first_some (medium_checks state (medium_use operation))) request operation
 requested-ok state (Err refusal) operation e = cc
 requested-ok state (Ok asked) operation e =
-    (unless-ok (first_some (medium_checks state (medium_use asked))) (Ok asked) operation e).is
+    let passed = unless-ok (first_some (medium_checks state (medium_use asked))) (Ok asked) operation e in
+    let same : asked ≡ operation = ok-same (Ok asked) asked operation refl passed.is in
+    record {
+      none =
+          ap (λ (o : Operation). first_some (medium_checks state (medium_use o))) (sym same)
+          ∙ passed.none;
+      is = passed.is;
+    }
 
 record Parsed (state : State) (parsed : Result Command CdbFault) (data_out : List ℕ)
     (operation : Operation) : Type 0 where
@@ -84,6 +97,7 @@ record Parsed (state : State) (parsed : Result Command CdbFault) (data_out : Lis
   accepted : first_some
       (request_checks (demands (config_of state) command data_out) data_out) ≡ None
   asks : (demands (config_of state) command data_out).operation ≡ Ok operation
+  on_medium : first_some (medium_checks state (medium_use operation)) ≡ None
 
 parsed-ok : (state : State) (parsed : Result Command CdbFault) (data_out : List ℕ)
     (operation : Operation) → checked_parse state parsed data_out ≡ Ok operation
@@ -91,9 +105,15 @@ parsed-ok : (state : State) (parsed : Result Command CdbFault) (data_out : List 
 parsed-ok state (Err fault) data_out operation e = cc
 parsed-ok state (Ok command) data_out operation e =
     let d = demands (config_of state) command data_out in
-    let passed = unless-ok (first_some (request_checks d data_out)) d.operation operation
-    (requested-ok state (requested d data_out) operation e) in
-    record { command = command; is = refl; accepted = passed.none; asks = passed.is }
+    let medium = requested-ok state (requested d data_out) operation e in
+    let passed = unless-ok (first_some (request_checks d data_out)) d.operation operation medium.is in
+    record {
+      command = command;
+      is = refl;
+      accepted = passed.none;
+      asks = passed.is;
+      on_medium = medium.none;
+    }
 
 module _ (state : State) (i : ℕ) (cdb data_out : List ℕ) where
   pub asked : (operation : Operation) → checked_cdb state i cdb data_out ≡ Ok operation
@@ -109,6 +129,7 @@ module _ (state : State) (i : ℕ) (cdb data_out : List ℕ) where
         command_is = read-any (profile_of state) cdb parsed.command parsed.is;
         accepted = parsed.accepted;
         operation_is = parsed.asks;
+        on_medium = parsed.on_medium;
       }
 
   by-checked : (P : Step → Type 0) → ((refusal : Refusal) → P (refused state i refusal))

@@ -1,5 +1,5 @@
 -- Only WRITE LONG marks a block as bad.
-use Rattle.std.proofs.Common.{◌≡◌, ℕ, List, Bool, true, false, Option, None, Result, Ok, Err}
+use Rattle.std.proofs.Common.{◌≡◌, ℕ, List, Bool, true, false, Option, Some, None, Result, Ok, Err}
 use Rattle.std.proofs.Common.{refl, sym, ap, ◌∙◌, not, ◌&&◌, ◌==◌, cond, if◌then◌else◌}
 use Rattle.std.specs.Prelude.{is_some, ok_or}
 use Rattle.sg_wire.specs.CdbDecoding.{command_in}
@@ -20,17 +20,18 @@ use Rattle.sg_target.specs.Armed.{Attempt, fault_by, marked_by, with_room}
 use Rattle.sg_target.specs.Checks.{checked_cdb}
 use Rattle.sg_target.specs.Config.{ConfigFields}
 use Rattle.sg_target.specs.Demands.{demands, extent, takes, too_long, unmap_extent, unmap_extents}
-use Rattle.sg_target.specs.Demands.{verify, verify_only}
+use Rattle.sg_target.specs.Demands.{list_refusal, verify, verify_only}
 use Rattle.sg_target.specs.FaultLaws.{is_write_long}
 use Rattle.sg_target.specs.PrimaryCommands.{inquiry_page}
-use Rattle.sg_target.specs.ProvisioningCommands.{block_out, listed_extents, unmaps}
-use Rattle.sg_target.specs.Refusal.{or_refused, when_sound}
+use Rattle.sg_target.specs.Demands.{extents_out}
+use Rattle.sg_target.specs.ProvisioningCommands.{block_out, unmaps}
+use Rattle.sg_target.specs.Refusal.{or_refused, unless_refused, when_sound}
 use Rattle.sg_target.specs.ReservationCommands.{fields_out}
 use Rattle.sg_target.specs.State.{State, config_of, profile_of}
 use Rattle.sg_target.specs.declared.operation.Operation.{Operation}
 use Rattle.sg_target.specs.declared.operation.Operation.TheVariants.{ChangeReservations, CompareEach, Fill}
 use Rattle.sg_target.specs.declared.operation.Operation.TheVariants.{ReturnInquiry, ReturnLuns}
-use Rattle.sg_target.specs.declared.operation.Operation.TheVariants.{ReturnReport}
+use Rattle.sg_target.specs.declared.operation.Operation.TheVariants.{ReturnReport, UnmapAll}
 use Rattle.sg_target.specs.declared.refusal.Reason.TheVariants.{InsufficientResources, InvalidFieldInCdb}
 use Rattle.sg_target.specs.declared.refusal.Refusal.{Refusal}
 use Rattle.sg_target.specs.declared.refusal.Refusal.TheVariants.{CheckCondition}
@@ -77,6 +78,11 @@ verify-unmarked config check.DataOut extent byte data_out = refl
 verify-unmarked config check.OneBlock extent byte data_out =
     each-unmarked config extent byte (block_out data_out) (extent.count == 0)
 
+format-unmarked : (refused : Option Refusal) (blocks : ℕ)
+    → marked_by (unless_refused refused (Ok (UnmapAll blocks))) ≡ None
+format-unmarked None blocks = refl
+format-unmarked (Some refusal) blocks = refl
+
 unmarked : (config : ConfigFields) (command : Command) (data_out : List ℕ)
     → is_write_long (Ok command) ≡ false
     → marked_by (demands config command data_out).operation ≡ None
@@ -103,13 +109,15 @@ unmarked config (command.ReportSupportedOperationCodes c) data_out other =
 unmarked config (command.ReportLuns c) data_out other =
     sound-unmarked (ok_or (lists_unit c.select) (CheckCondition (InvalidFieldInCdb 2)))
     (λ listed. ReturnLuns listed c.allocation_length) (λ listed. refl)
+unmarked config (command.FormatUnit c) data_out other =
+    format-unmarked (list_refusal c data_out) config.blocks
 unmarked config (command.WriteLong10 c) data_out other = cc
 unmarked config (command.WriteSame10 c) data_out other =
     same-unmarked c.anchor (unmaps c.unmap (block_out data_out)) _ (block_out data_out)
 unmarked config (command.WriteSame16 c) data_out other =
     same-unmarked c.anchor (unmaps c.unmap (block_out data_out)) _ (block_out data_out)
 unmarked config (command.Unmap c) data_out other =
-    sound-unmarked (listed_extents (first_bytes c.list_length data_out)) (unmap_extents c.anchor)
+    sound-unmarked (extents_out config c.list_length data_out) (unmap_extents c.anchor)
     (unmap-unmarked c.anchor)
 unmarked config (command.PersistentReserveOut c) data_out other =
     sound-unmarked (fields_out (first_bytes c.list_length data_out))

@@ -15,6 +15,7 @@ use Rattle.sg_store.specs.Laws.{RemappingTakesWhatIsNeeded, UnmapsEachAddress, U
 use Rattle.sg_target.specs.Checks.{checked_cdb}
 use Rattle.sg_target.specs.Effect.{Effect, no_space}
 use Rattle.sg_target.specs.ProvisioningCommands.{changed_in_turn}
+use Rattle.sg_target.specs.Demands.{extent}
 use Rattle.sg_target.specs.Refusal.{checked_next, first_some, when_sound}
 use Rattle.sg_target.specs.Semantics.{effect_of}
 use Rattle.sg_target.specs.BlockCommands.{miscompare}
@@ -127,6 +128,7 @@ module _ (law : RemappingTakesWhatIsNeeded) (addresses : UnmapsEachAddress)
   operation-keeps state i (operation.Write out) h = fits _
   operation-keeps state i (operation.CompareAndWrite exchange) h =
       λ none. fits _ (exchange-none _ _ none)
+  operation-keeps state i (operation.OrWrite out) h = fits _
   operation-keeps state i (operation.Fill extent block) h = fits _
   operation-keeps state i (operation.Anchor extents) h = fits _
   operation-keeps state i (operation.AnchorExtent extent) h = fits _
@@ -134,6 +136,8 @@ module _ (law : RemappingTakesWhatIsNeeded) (addresses : UnmapsEachAddress)
       λ none. let fewer = in-turn state.disk.contents extents in omega (arith, fewer, h)
   operation-keeps state i (operation.UnmapExtent extent) h =
       λ none. let fewer = in-turn state.disk.contents (extent ∷ []) in omega (arith, fewer, h)
+  operation-keeps state i (operation.UnmapAll blocks) h =
+      λ none. let fewer = in-turn state.disk.contents (extent 0 blocks ∷ []) in omega (arith, fewer, h)
   operation-keeps state i (operation.ReturnModes request n) h = sound-keeps _ _ (λ list. h)
   operation-keeps state i (operation.ChangeModes width sp list) h = sound-keeps _ _ (λ modes. h)
   operation-keeps state i (operation.ChangeReservations action scope_type list) h =

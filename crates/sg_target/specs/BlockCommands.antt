@@ -1,10 +1,10 @@
 -- The effects of the block commands (SBC-3, 5).
-use Rattle.std.specs.Prelude.{ℕ, ◌*◌, ◌%◌, List, [], ◌∷◌, drop, Option}
+use Rattle.std.specs.Prelude.{ℕ, ◌+◌, ◌*◌, ◌%◌, List, [], ◌∷◌, drop, map, zip, bit_or, Option}
 use Rattle.std.specs.Option.{option_map}
 use Rattle.sg_wire.specs.FirstBytes.{first_bytes}
 use Rattle.sg_wire.specs.declared.extent.Extent.{Extent}
 use Rattle.sg_store.specs.Comparison.{first_difference, repeated}
-use Rattle.sg_store.specs.Disk.{blocks, written}
+use Rattle.sg_store.specs.Disk.{Contents, block, block_at, blocks, replaced, written}
 use Rattle.sg_pages.specs.BlockDescriptor.{logical_block_length}
 use Rattle.sg_target.specs.Effect.{Effect, no_effect, returning, storing}
 use Rattle.sg_target.specs.Refusal.{first_some}
@@ -35,6 +35,22 @@ blocks_out extent data_out =
 abbrev pub writing : State → BlocksOutFields → Effect
 writing state out =
     storing state (written state.disk.contents out.extent.lba out.extent.count out.bytes)
+
+-- ORWRITE replaces each of its blocks by the block with the bits of data-out set, too: a bit is 1 if it
+-- was 1 or is 1 in the bytes (SBC-3, 5.5).
+abbrev pub or_bytes : (old bytes : List ℕ) → List ℕ
+or_bytes old bytes = map (λ (pair : ℕ × ℕ). bit_or pair.0 pair.1) (zip old bytes)
+
+abbrev pub ored_block : Contents → BlocksOutFields → (index : ℕ) → List ℕ
+ored_block contents out index =
+    or_bytes (block contents (out.extent.lba + index)) (block_at out.bytes index)
+
+abbrev pub ored : Contents → BlocksOutFields → Contents
+ored contents out =
+    replaced contents out.extent.lba out.extent.count (ored_block contents out)
+
+abbrev pub or_writing : State → BlocksOutFields → Effect
+or_writing state out = storing state (ored state.disk.contents out)
 
 -- ---- Comparing
 

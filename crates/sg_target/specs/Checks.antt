@@ -15,6 +15,8 @@ use Rattle.sg_wire.specs.declared.profile.Rules.{Rules}
 use Rattle.sg_pages.specs.ModePage.{ModeState, write_protected}
 use Rattle.sg_units.specs.Access.{allows}
 use Rattle.sg_units.specs.Attentions.{oldest}
+use Rattle.sg_units.specs.UnitAttention.{outranks_conflict}
+use Rattle.sg_units.specs.declared.unit_attention.UnitAttention.{UnitAttention}
 use Rattle.sg_target.specs.Effect.{Effect}
 use Rattle.sg_target.specs.Demands.{DataOutNeed, Demands, demands}
 use Rattle.sg_target.specs.Refusal.{checked_next, first_some, refusal_for, unless_refused}
@@ -25,7 +27,7 @@ use Rattle.sg_target.specs.declared.refusal.Reason.TheVariants.{InvalidFieldInCd
 use Rattle.sg_target.specs.declared.refusal.Reason.TheVariants.{UnitAttention as Attention}
 use Rattle.sg_target.specs.declared.refusal.Reason.{Reason}
 use Rattle.sg_target.specs.declared.refusal.Reason.TheVariants.{LbaOutOfRange, WriteProtected}
-use Rattle.sg_target.specs.declared.refusal.Reason.TheVariants.{SoftwareWriteProtected}
+use Rattle.sg_target.specs.declared.refusal.Reason.TheVariants.{NotReady, SoftwareWriteProtected}
 use Rattle.sg_target.specs.declared.refusal.Refusal.{Refusal}
 use Rattle.sg_target.specs.declared.refusal.Refusal.TheVariants.{Conflict, CheckCondition}
 
@@ -37,21 +39,38 @@ abbrev pub empty_cdb : Result Command CdbFault → Option Refusal
 empty_cdb (Err Empty) = Some (refusal_for Empty)
 empty_cdb _ = None
 
--- A unit attention is pending for the initiator, and is reported in place of the command.
+-- The unit attention that is pending for the initiator, if it is reported in place of the command.
+abbrev pub blocking_attention : State → (initiator : ℕ) → List ℕ → Option UnitAttention
+blocking_attention state initiator cdb =
+    if is_blocked_in (profile_of state) cdb then oldest state.attentions initiator else None
+
+abbrev pub attention_refusal : UnitAttention → Refusal
+attention_refusal condition = CheckCondition (Attention condition)
+
 abbrev pub pending_attention : State → (initiator : ℕ) → List ℕ → Option Refusal
 pending_attention state initiator cdb =
-    if is_blocked_in (profile_of state) cdb
-    then option_map (λ condition. CheckCondition (Attention condition))
-    (oldest state.attentions initiator)
-    else None
+    option_map attention_refusal (blocking_attention state initiator cdb)
+
+-- It is reported even if the command conflicts with a reservation.
+abbrev pub outranks : State → UnitAttention → Bool
+outranks state condition =
+    outranks_conflict (rules_of (profile_of state)).only_resets_outrank_conflicts condition
+
+abbrev pub if_it_outranks : State → UnitAttention → Option Refusal
+if_it_outranks state condition =
+    if outranks state condition then Some (attention_refusal condition) else None
+
+abbrev pub outranking_attention : State → (initiator : ℕ) → List ℕ → Option Refusal
+outranking_attention state initiator cdb =
+    option_and_then (if_it_outranks state) (blocking_attention state initiator cdb)
 
 abbrev pub unknown_opcode : Result Command CdbFault → Option Refusal
 unknown_opcode (Err Opcode) = Some (refusal_for Opcode)
 unknown_opcode _ = None
 
 -- The reservation that is held does not allow the command to the initiator, by its class. The class
--- follows from the operation code and the service action, so this check comes before the checks of
--- other fields.
+-- follows from the operation code and the service action, and for START STOP UNIT from byte 4. So this
+-- check comes before the checks of other fields.
 abbrev pub reservation_conflict : State → (initiator : ℕ) → List ℕ → Option Refusal
 reservation_conflict state initiator cdb =
     option_and_then
@@ -69,14 +88,16 @@ abbrev pub bad_field : Result Command CdbFault → Option Refusal
 bad_field (Err (Field byte)) = Some (refusal_for (Field byte))
 bad_field _ = None
 
--- Departure (SAM-5, 5.3.3): a conflict comes before attentions other than 29h there.
+-- The ranks of SAM-5, 5.3.3: attentions of a reset, a conflict, other attentions. On a base disk each
+-- attention is of the first rank. No unknown operation code conflicts.
 -- Choice (SAM-5, 5.3.3): a fault of the CDB may come before a conflict.
 abbrev pub cdb_checks : State → (initiator : ℕ) → List ℕ → List (Option Refusal)
 cdb_checks state initiator cdb = let command = command_in (profile_of state) cdb in
     empty_cdb command
+    ∷ outranking_attention state initiator cdb
+    ∷ reservation_conflict state initiator cdb
     ∷ pending_attention state initiator cdb
     ∷ unknown_opcode command
-    ∷ reservation_conflict state initiator cdb
     ∷ short_cdb command
     ∷ bad_field command
     ∷ []
@@ -105,9 +126,14 @@ requested d data_out =
 
 -- ---- Checks of an operation
 
+-- The unit is stopped, and the operation needs one that is ready (SBC-3, 5.25).
+-- Choice (SBC-3, 5.25): this check may come before or after others. READ CAPACITY may be refused by it, too.
+abbrev pub not_ready : State → MediumUse → Option Refusal
+not_ready state medium =
+    if state.stopped && medium.needs_ready then Some (CheckCondition NotReady) else None
+
 -- An address is past the last one; the first such address is reported.
 -- Choice (SBC-3, 5.11): a range of no block at the capacity may be refused.
--- Departure (SBC-3, 5.28.2): a descriptor of no block is no error there.
 abbrev pub past_capacity : (capacity : ℕ) → Extent → Option Refusal
 past_capacity capacity extent =
     if nat_lt capacity (extent.lba + extent.count)
@@ -137,7 +163,8 @@ write_protection rules modes medium =
 
 abbrev pub medium_checks : State → MediumUse → List (Option Refusal)
 medium_checks state medium =
-    out_of_range state.disk.capacity medium.extents
+    not_ready state medium
+    ∷ out_of_range state.disk.capacity medium.extents
     ∷ write_protection (rules_of (profile_of state)) state.modes medium ∷ []
 
 abbrev pub checked_operation : State → Operation → Result Operation Refusal

@@ -1,5 +1,6 @@
 -- Laws of the commands on blocks: what `step` returns and leaves if one of them ends with GOOD.
-use Rattle.std.specs.Prelude.{◌≡◌, ◌≢◌, ℕ, ◌-◌, List, Bool, true, if◌then◌else◌}
+use Rattle.std.specs.FinMap.{len}
+use Rattle.std.specs.Prelude.{◌≡◌, ◌≢◌, ℕ, ◌-◌, List, Bool, true, false, if◌then◌else◌}
 use Rattle.std.specs.Prelude.{Option, Some, None, Result, Ok}
 use Rattle.sg_wire.specs.FirstBytes.{first_bytes}
 use Rattle.sg_wire.specs.CdbDecoding.{command_of}
@@ -155,3 +156,26 @@ WriteSamesLeaveTheirBlock =
     → write_same_fields (command_of cdb) ≡ Some c → EndsWithGood state initiator cdb data_out
     → Changes state (step state initiator cdb data_out).state (lies_in c.extent.lba c.extent.count)
     (status_of_same c (block_out data_out)) (λ address. block_out data_out)
+
+-- ---- FORMAT UNIT and SANITIZE (SBC-3, 5.3 and 5.24)
+
+-- FORMAT UNIT, and BLOCK ERASE and CRYPTOGRAPHIC ERASE of SANITIZE.
+abbrev pub empties_disk : Result Command CdbFault → Bool
+empties_disk (Ok (command.FormatUnit c)) = true
+empties_disk (Ok (command.SanitizeBlockErase c)) = true
+empties_disk (Ok (command.SanitizeCryptographicErase c)) = true
+empties_disk _ = false
+
+-- All blocks of the pool are free, as no address is mapped or anchored, and each block is read as zeros.
+-- The mode pages, the unit attentions, the registrations and the reservation are as they were.
+pub record IsEmptied (before after : State) : Type 0 where
+  pub used : len after.disk.contents ≡ 0
+  pub statuses : (address : ℕ) → status_at after.disk.contents address ≡ Deallocated
+  pub blocks : (address : ℕ) → block after.disk.contents address ≡ zero_block
+  pub rest : after ≡ with_contents before after.disk.contents
+
+abbrev pub FormatsEmptyTheDisk : Type 0
+FormatsEmptyTheDisk =
+    (state : State) (initiator : ℕ) (cdb data_out : List ℕ) → IsWithinLimits state
+    → empties_disk (command_of cdb) ≡ true → EndsWithGood state initiator cdb data_out
+    → IsEmptied state (step state initiator cdb data_out).state

@@ -25,8 +25,8 @@ use Rattle.sg_target.specs.declared.data_in.DataIn.TheVariants.{Capacity10, Capa
 
 -- The full data-in of a kind, of a disk with an identity, a number of blocks and reservations.
 abbrev pub data_of : IdentityFields → (capacity : ℕ) → ReservationState → DataIn → List ℕ
-data_of identity capacity reservations (Sense condition format) =
-    sense_data format (pending_sense condition)
+data_of identity capacity reservations (Sense stopped condition format) =
+    sense_data format (pending_sense stopped condition)
 data_of identity capacity reservations (Inquiry page) = inquiry_data identity page
 data_of identity capacity reservations (Reservations action) =
     reserve_in_data (rules_of identity.profile) reservations action
@@ -50,7 +50,7 @@ returns_data operation = false
 
 -- The length of the longest data-in of a kind, in bytes.
 abbrev pub longest_of : DataIn → ℕ
-longest_of (Sense condition format) = longest_sense
+longest_of (Sense stopped condition format) = longest_sense
 longest_of (Inquiry page) = longest_inquiry
 longest_of (Reservations action) = longest_reserve_in
 longest_of (Report report) = longest_report

@@ -5,9 +5,12 @@ use Rattle.std.specs.Prelude.{Option, Some, None, Result, Ok, nat_le, nat_lt, if
 use Rattle.sg_wire.specs.declared.command.Command.{Command}
 use Rattle.sg_wire.specs.declared.command.Command.TheVariants as command
 use Rattle.sg_wire.specs.Profile.{rules_of}
+use Rattle.sg_wire.specs.declared.command.block.WriteAtomic16.{WriteAtomic16}
 use Rattle.sg_wire.specs.declared.command.block.WriteLong10.{WriteLong10}
 use Rattle.sg_wire.specs.declared.command.diagnostic.LogSense.{LogSense}
 use Rattle.sg_wire.specs.declared.command.diagnostic.SendDiagnostic.{SendDiagnostic}
+use Rattle.sg_wire.specs.declared.command.format.FormatUnit.{FormatUnit}
+use Rattle.sg_wire.specs.declared.command.start_stop.StartStopUnit.{StartStopUnit}
 use Rattle.sg_wire.specs.declared.command.mode.CdbWidth.{CdbWidth}
 use Rattle.sg_wire.specs.declared.command.mode.CdbWidth.TheVariants.{Six, Ten}
 use Rattle.sg_wire.specs.declared.command.mode.PageRequest.{PageRequest}
@@ -30,10 +33,11 @@ use Rattle.sg_pages.specs.Reports.{lists_unit, log_page_with}
 use Rattle.sg_pages.specs.declared.reports.Report.{Report}
 use Rattle.sg_pages.specs.declared.reports.Report.TheVariants as report
 use Rattle.sg_target.specs.Config.{ConfigFields, limits_for}
+use Rattle.sg_target.specs.FormatList.{header_length, header_refusal}
 use Rattle.sg_target.specs.ModeCommands.{bad_page_format}
 use Rattle.sg_target.specs.PrimaryCommands.{format_of, inquiry_page}
 use Rattle.sg_target.specs.ProvisioningCommands.{block_out, listed_extents, unmaps}
-use Rattle.sg_target.specs.Refusal.{or_refused, when_sound}
+use Rattle.sg_target.specs.Refusal.{or_refused, unless_refused, when_sound}
 use Rattle.sg_target.specs.ReservationCommands.{fields_out, bad_type}
 use Rattle.sg_target.specs.declared.operation.Operation.{Operation}
 use Rattle.sg_target.specs.declared.operation.Operation.TheVariants as operation
@@ -132,7 +136,8 @@ bad_self_test c =
 abbrev pub mode_select : ConfigFields → CdbWidth → (pf sp : Bool) (list_length : ℕ)
     (data_out : List ℕ) → Demands
 mode_select config width pf sp n data_out =
-    takes config n (bad_page_format pf) (Ok (operation.ChangeModes width sp (first_bytes n data_out)))
+    takes config n (bad_page_format (rules_of config.identity.profile) pf n)
+    (Ok (operation.ChangeModes width sp (first_bytes n data_out)))
 
 -- MODE SENSE asks for pages of a disk of some blocks.
 abbrev pub mode_sense : CdbWidth → (llbaa : Bool) → PageRequest → (blocks allocation_length : ℕ)
@@ -165,6 +170,26 @@ read extent unsupported = takes_no_data unsupported (Ok (operation.Read extent))
 abbrev pub write : ConfigFields → Extent → (unsupported : Option ℕ) → (data_out : List ℕ) → Demands
 write config extent unsupported data_out =
     takes config (bytes_of extent) unsupported (Ok (operation.Write (blocks_out extent data_out)))
+
+-- WRITE ATOMIC writes all of its blocks or none, as each WRITE does, and no more blocks than the page
+-- Block Limits says for it: TRANSFER LENGTH begins at byte 12. ATOMIC BOUNDARY, from byte 10 on, is 0,
+-- because no blocks are divided at a boundary.
+-- Choice (SBC-4, WRITE ATOMIC): ATOMIC BOUNDARY may be supported.
+abbrev pub bad_atomic : ConfigFields → (boundary count : ℕ) → Option ℕ
+bad_atomic config boundary count =
+    if boundary == 0
+    then (if nat_lt (limits_for config).atomic_transfer_length count then Some 12 else None)
+    else Some 10
+
+abbrev pub write_atomic : ConfigFields → WriteAtomic16 → (data_out : List ℕ) → Demands
+write_atomic config c data_out =
+    write config (extent c.lba c.count) (bad_atomic config c.boundary c.count) data_out
+
+-- ORWRITE takes the bytes of its blocks, as WRITE does.
+abbrev pub or_write : ConfigFields → Extent → (unsupported : Option ℕ) → (data_out : List ℕ)
+    → Demands
+or_write config extent unsupported data_out =
+    takes config (bytes_of extent) unsupported (Ok (operation.OrWrite (blocks_out extent data_out)))
 
 -- WRITE AND VERIFY compares its blocks with their own data-out, or with nothing, so the verification
 -- passes: BYTCHK, in byte 1, asks for no other comparison.
@@ -212,6 +237,34 @@ compare_and_write c data_out =
     takes_no_data (wrong_length extent data_out)
     (Ok (operation.CompareAndWrite (exchange_out extent data_out)))
 
+-- FORMAT UNIT takes the header of a parameter list with FMTDATA, and no data-out without it.
+abbrev pub format_need : ConfigFields → FormatUnit → Option DataOutNeed
+format_need config c =
+    if c.format_data then Some (need config (header_length c.long_list)) else None
+
+abbrev pub list_refusal : FormatUnit → (data_out : List ℕ) → Option Refusal
+list_refusal c data_out =
+    if c.format_data
+    then header_refusal c.long_list (first_bytes (header_length c.long_list) data_out)
+    else None
+
+-- It unmaps all blocks.
+-- Choice (SBC-3, 5.3): mode pages, registrations and reservation may change, too.
+abbrev pub format_unit : ConfigFields → FormatUnit → (data_out : List ℕ) → Demands
+format_unit config c data_out = record {
+  unsupported = None;
+  data_out = format_need config c;
+  operation = unless_refused (list_refusal c data_out) (Ok (operation.UnmapAll config.blocks));
+}
+
+-- SANITIZE takes no parameter list: PARAMETER LIST LENGTH begins at byte 7. BLOCK ERASE and
+-- CRYPTOGRAPHIC ERASE unmap all blocks. EXIT FAILURE MODE has nothing to do, because none of them fails.
+abbrev pub bad_list_length : (list_length : ℕ) → Option ℕ
+bad_list_length n = if n == 0 then None else Some 7
+
+abbrev pub sanitize : (list_length : ℕ) → Operation → Demands
+sanitize n operation = takes_no_data (bad_list_length n) (Ok operation)
+
 -- A count of 0 reaches to the last block, if the profile says so: then the first block is looked up,
 -- as those after it are on the disk if it is.
 abbrev pub reached : ConfigFields → (lba count : ℕ) → Extent
@@ -227,6 +280,15 @@ defect_lists plist glist format =
 
 abbrev pub bad_defect_format : (format byte : ℕ) → Option ℕ
 bad_defect_format format byte = if nat_lt format 6 then None else Some byte
+
+-- START STOP UNIT starts or stops the unit, which has no power conditions and no medium to load or eject:
+-- POWER CONDITION MODIFIER is in byte 3, POWER CONDITION and LOEJ are in byte 4.
+-- Choice (SBC-3, 5.25): a disk whose medium is not removable may ignore LOEJ.
+abbrev pub bad_power : StartStopUnit → Option ℕ
+bad_power c =
+    if c.power_condition_modifier == 0
+    then (if c.power_condition == 0 && not c.loej then None else Some 4)
+    else Some 3
 
 -- WRITE LONG only marks a block, with no data: WR_UNCOR, in byte 1, is 1, and BYTE TRANSFER LENGTH, from
 -- byte 7 on, is 0.
@@ -265,22 +327,28 @@ write_same config anchor unmap extent byte data_out =
     takes config logical_block_length (bad_anchor anchor unmap (bad_count config extent.count byte))
     (Ok (unmap_or_fill anchor unmap extent (block_out data_out)))
 
--- UNMAP takes a list of extents, which it unmaps or anchors.
+-- UNMAP takes a list of extents, which it unmaps or anchors. The profile says whether an extent of no
+-- block counts.
 abbrev pub unmap_extents : (anchor : Bool) → List Extent → Operation
 unmap_extents anchor extents =
     if anchor then operation.Anchor extents else operation.Unmap extents
 
+abbrev pub extents_out : ConfigFields → (list_length : ℕ) → (data_out : List ℕ)
+    → Result (List Extent) Refusal
+extents_out config n data_out =
+    listed_extents (rules_of config.identity.profile) (first_bytes n data_out)
+
 abbrev pub unmap : ConfigFields → Unmap → (data_out : List ℕ) → Demands
 unmap config c data_out =
     takes config c.list_length None
-    (when_sound (listed_extents (first_bytes c.list_length data_out)) (unmap_extents c.anchor))
+    (when_sound (extents_out config c.list_length data_out) (unmap_extents c.anchor))
 
 -- ---- The row of each command, on a disk of a configuration, with its data-out
 
 -- READ(6) and WRITE(6) name at most 256 blocks by their layout. The CDB of MODE SENSE(6) has no
 -- LLBAA.
 abbrev pub demands : ConfigFields → Command → (data_out : List ℕ) → Demands
-demands config command.TestUnitReady data_out = asks operation.Nothing
+demands config command.TestUnitReady data_out = asks operation.TestReady
 demands config (command.RequestSense c) data_out =
     asks (operation.ReturnSense (format_of c.desc) c.allocation_length)
 demands config (command.Inquiry c) data_out = inquiry config c
@@ -300,6 +368,9 @@ demands config (command.ReportSupportedTaskManagementFunctions c) data_out =
 demands config (command.SendDiagnostic c) data_out =
     takes_no_data (bad_self_test c) (Ok operation.Nothing)
 demands config (command.CompareAndWrite c) data_out = compare_and_write c data_out
+demands config (command.FormatUnit c) data_out = format_unit config c data_out
+demands config (command.OrWrite16 c) data_out =
+    or_write config (extent c.lba c.count) (too_long config c.count 10) data_out
 demands config (command.PreFetch10 c) data_out =
     asks (operation.PreFetch (reached config c.lba c.count))
 demands config (command.PreFetch16 c) data_out =
@@ -327,6 +398,13 @@ demands config (command.ReadDefectData10 c) data_out =
 demands config (command.ReadDefectData12 c) data_out =
     reports (bad_defect_format c.format 1)
     (report.DefectLists12 (defect_lists c.plist c.glist c.format)) c.allocation_length
+demands config (command.SanitizeBlockErase c) data_out =
+    sanitize c.list_length (operation.UnmapAll config.blocks)
+demands config (command.SanitizeCryptographicErase c) data_out =
+    sanitize c.list_length (operation.UnmapAll config.blocks)
+demands config (command.SanitizeExitFailureMode c) data_out = sanitize c.list_length operation.Nothing
+demands config (command.StartStopUnit c) data_out =
+    takes_no_data (bad_power c) (Ok (operation.StartStop c.start))
 demands config (command.SynchronizeCache10 c) data_out =
     asks (operation.Synchronize (reached config c.lba c.count))
 demands config (command.SynchronizeCache16 c) data_out =
@@ -343,6 +421,7 @@ demands config (command.WriteAndVerify12 c) data_out =
     write_and_verify config c.byte_check (extent c.extent.lba c.extent.count) 6 data_out
 demands config (command.WriteAndVerify16 c) data_out =
     write_and_verify config c.byte_check (extent c.extent.lba c.extent.count) 10 data_out
+demands config (command.WriteAtomic16 c) data_out = write_atomic config c data_out
 demands config (command.WriteLong10 c) data_out = write_long c
 demands config (command.WriteSame10 c) data_out =
     write_same config c.anchor c.unmap (extent c.lba c.count) 7 data_out

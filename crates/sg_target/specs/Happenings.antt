@@ -1,5 +1,5 @@
 -- What happens to a disk between two commands. No initiator sends it, and it has no reply.
-use Rattle.std.specs.Prelude.{◌≡◌, ℕ, ◌&&◌, nat_le, nat_lt, if◌then◌else◌}
+use Rattle.std.specs.Prelude.{◌≡◌, ℕ, false, ◌&&◌, nat_le, nat_lt, if◌then◌else◌}
 use Rattle.sg_faults.specs.Faults.{Faults, disarmed, no_faults, with_fault}
 use Rattle.sg_pages.specs.ModePowerOn.{after_power_on as saved_pages_current}
 use Rattle.sg_store.specs.Disk.{disk_grown, max_capacity}
@@ -24,9 +24,13 @@ with_raised state conditions =
 -- A reset establishes its condition for each initiator, also for the one that asked for it. The saved
 -- mode pages become the current ones (SPC-4, 7.5). Blocks, registrations and reservation stay
 -- (SAM-5, 6.3).
+-- Choice (SBC-3, 5.25): a unit that was stopped may stay so through a reset.
 abbrev pub after_reset : UnitAttention → State → State
 after_reset condition state =
-    record (with_raised state (raised_for_all condition)) { modes = saved_pages_current state.modes }
+    record (with_raised state (raised_for_all condition)) {
+      modes = saved_pages_current state.modes;
+      stopped = false;
+    }
 
 -- The disk has more addresses from then on, and tells each initiator (SBC-3, 4.5).
 abbrev pub grown : (capacity : ℕ) → State → State

@@ -9,6 +9,8 @@ pub mod BlockCommands
 pub mod ProvisioningCommands
 pub mod ModeCommands
 pub mod ReservationCommands
+pub mod FormatList
+pub mod StartStop
 pub mod Demands
 pub mod Semantics
 pub mod Checks
@@ -31,6 +33,8 @@ pub mod FaultLaws
 -- Modules that only private contracts cite.
 pub mod DataIn
 pub mod Extents
+pub mod AccessedBlocks
 pub mod Joining
 pub mod Anchoring
+pub mod OrWriting
 pub mod MadeReplies

@@ -19,14 +19,15 @@ use Rattle.sg_target.specs.declared.primary.InquiryPage.{InquiryPage}
 use Rattle.sg_target.specs.declared.primary.InquiryPage.TheVariants.{Standard, VitalProductData}
 
 -- REQUEST SENSE returns the oldest unit attention as sense data, in the format that DESC asks for,
--- and clears it, whatever its allocation length.
+-- and clears it, whatever its allocation length. Without one, it reports whether the unit is stopped.
 abbrev pub format_of : (desc : Bool) → Format
 format_of desc = if desc then Descriptor else Fixed
 
 -- Choice (SPC-4, 6.39): an allocation length of 0 may clear nothing.
 abbrev pub returning_sense : State → (initiator : ℕ) → Format → (allocation_length : ℕ) → Effect
 returning_sense state initiator format n =
-    let sense = sense_data format (pending_sense (oldest state.attentions initiator)) in
+    let pending = oldest state.attentions initiator in
+    let sense = sense_data format (pending_sense state.stopped pending) in
     record (returning_up_to state n sense) { after = without_attention state initiator }
 
 -- INQUIRY returns a page of vital product data with EVPD, if a disk of the profile has it. Without

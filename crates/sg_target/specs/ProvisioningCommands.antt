@@ -1,17 +1,18 @@
 -- The effects of the commands of logical block provisioning (SBC-3, 4.7 and 5).
 use Rattle.std.specs.Prelude.{ℕ, ◌==◌, ◌&&◌, List, [], ◌∷◌, Bool, Result}
 use Rattle.std.specs.List.{list_all}
+use Rattle.std.specs.Result.{result_map_both}
 use Rattle.sg_wire.specs.FirstBytes.{first_bytes}
-use Rattle.sg_wire.specs.UnmapList.{descriptor_data_length_at, unmap_list}
+use Rattle.sg_wire.specs.UnmapList.{descriptor_data_length_at, named_extents, unmap_list}
 use Rattle.sg_wire.specs.declared.unmap_list.UnmapListFault.{UnmapListFault}
 use Rattle.sg_wire.specs.declared.unmap_list.UnmapListFault.TheVariants.{Short, TooManyDescriptors}
 use Rattle.sg_wire.specs.declared.extent.Extent.{Extent}
+use Rattle.sg_wire.specs.declared.profile.Rules.{Rules}
 use Rattle.sg_store.specs.Disk.{Contents, anchored, filled, unmapped}
 use Rattle.sg_wire.specs.LbaStatus.{status_data}
 use Rattle.sg_store.specs.LbaStatus.{lba_status}
 use Rattle.sg_pages.specs.BlockDescriptor.{logical_block_length}
 use Rattle.sg_target.specs.Effect.{Effect, no_effect, returning_up_to, storing, with_contents}
-use Rattle.sg_target.specs.Refusal.{or_refused}
 use Rattle.sg_target.specs.State.{State}
 use Rattle.sg_target.specs.declared.refusal.Reason.TheVariants.{ParameterListLengthError}
 use Rattle.sg_target.specs.declared.refusal.Reason.TheVariants.{InvalidFieldInParameterList}
@@ -54,9 +55,12 @@ unmap_list_refusal Short = CheckCondition ParameterListLengthError
 unmap_list_refusal TooManyDescriptors =
     CheckCondition (InvalidFieldInParameterList descriptor_data_length_at)
 
--- The extents that a list names, or the refusal.
-abbrev pub listed_extents : (list : List ℕ) → Result (List Extent) Refusal
-listed_extents list = or_refused unmap_list_refusal (unmap_list list)
+-- The extents that a list names, or the refusal. If descriptors of no block are ignored, only the
+-- others are left.
+abbrev pub listed_extents : Rules → (list : List ℕ) → Result (List Extent) Refusal
+listed_extents rules list =
+    result_map_both (named_extents rules.unmap_ignores_empty_extents) unmap_list_refusal
+    (unmap_list list)
 
 -- ---- WRITE SAME
 

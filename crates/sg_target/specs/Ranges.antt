@@ -1,21 +1,23 @@
 -- The ranges of blocks that a command goes over. They say what it costs, and not what it means.
-use Rattle.std.specs.Prelude.{ℕ, List, [], ◌∷◌, ◌++◌, Bool, false, true, map, Result, Ok, Err}
+use Rattle.std.specs.List.{flat_map, range_with_len}
+use Rattle.std.specs.Prelude.{ℕ, ◌+◌, List, [], ◌∷◌, ◌++◌, Bool, false, true, map, Result, Ok, Err}
 use Rattle.std.specs.Prelude.{if◌then◌else◌, is_none}
 use Rattle.sg_wire.specs.declared.extent.Extent.{Extent}
 use Rattle.sg_store.specs.Comparison.{first_difference}
-use Rattle.sg_store.specs.Disk.{Contents, Disk, anchored, unmapped}
+use Rattle.sg_store.specs.Disk.{Contents, Disk, anchored, replaced, unmapped}
 use Rattle.sg_store.specs.LbaStatus.{covered, lba_status}
 use Rattle.sg_target.specs.Armed.{Armed, attempt_of}
-use Rattle.sg_target.specs.BlockCommands.{ExchangeFields, blocks_at}
+use Rattle.sg_target.specs.BlockCommands.{BlocksOutFields, ExchangeFields, blocks_at, ored, ored_block}
+use Rattle.sg_target.specs.Demands.{extent}
 use Rattle.sg_target.specs.Effect.{no_space}
 use Rattle.sg_target.specs.ProvisioningCommands.{Change, changed_in_turn}
 use Rattle.sg_target.specs.State.{State}
 use Rattle.sg_target.specs.declared.operation.Operation.{Operation}
 use Rattle.sg_target.specs.declared.operation.Operation.TheVariants.{Anchor, AnchorExtent, Fill, Read}
 use Rattle.sg_target.specs.declared.operation.Operation.TheVariants.{Compare, CompareAndWrite}
-use Rattle.sg_target.specs.declared.operation.Operation.TheVariants.{CompareEach}
+use Rattle.sg_target.specs.declared.operation.Operation.TheVariants.{CompareEach, OrWrite}
 use Rattle.sg_target.specs.declared.operation.Operation.TheVariants.{ReturnLbaStatus, Unmap}
-use Rattle.sg_target.specs.declared.operation.Operation.TheVariants.{UnmapExtent, Write}
+use Rattle.sg_target.specs.declared.operation.Operation.TheVariants.{UnmapAll, UnmapExtent, Write}
 use Rattle.sg_target.specs.declared.refusal.Refusal.{Refusal}
 
 -- A range of blocks that the store is asked for, with the used addresses that it meets, as the
@@ -67,6 +69,20 @@ exchange_ranges state exchange =
     let difference = first_difference (blocks_at state exchange.extent) exchange.expected in
     range ∷ (if is_none difference then range ∷ [] else [])
 
+-- ORWRITE first counts the blocks of the pool that its blocks need. If the pool has room for them, it
+-- reads each block, and then writes it. It meets the used addresses as the blocks before have left them.
+abbrev pub block_ranges : Contents → BlocksOutFields → (index : ℕ) → List Range
+block_ranges contents out index =
+    let so_far = replaced contents out.extent.lba index (ored_block contents out) in
+    let range = range so_far (extent (out.extent.lba + index) 1) in
+    range ∷ range ∷ []
+
+abbrev pub or_write_ranges : Disk → BlocksOutFields → List Range
+or_write_ranges disk out =
+    let after = record disk { contents = ored disk.contents out } in
+    let each = flat_map (block_ranges disk.contents out) (range_with_len 0 out.extent.count) in
+    counted_range disk.contents out.extent ∷ (if is_none (no_space after) then each else [])
+
 -- The ranges of an operation, in order. An operation that is not named here goes over none.
 abbrev pub ranges_of : State → Operation → List Range
 ranges_of state (Read extent) = range state.disk.contents extent ∷ []
@@ -74,9 +90,11 @@ ranges_of state (Write out) = range state.disk.contents out.extent ∷ []
 ranges_of state (Compare out) = range state.disk.contents out.extent ∷ []
 ranges_of state (CompareEach extent block) = range state.disk.contents extent ∷ []
 ranges_of state (CompareAndWrite exchange) = exchange_ranges state exchange
+ranges_of state (OrWrite out) = or_write_ranges state.disk out
 ranges_of state (Fill extent block) = range state.disk.contents extent ∷ []
 ranges_of state (Unmap extents) = ranges_in_turn unmapped state.disk.contents extents
 ranges_of state (UnmapExtent extent) = ranges_in_turn unmapped state.disk.contents (extent ∷ [])
+ranges_of state (UnmapAll blocks) = range state.disk.contents (extent 0 blocks) ∷ []
 ranges_of state (Anchor extents) = anchoring_ranges state.disk extents
 ranges_of state (AnchorExtent extent) = anchoring_ranges state.disk (extent ∷ [])
 ranges_of state (ReturnLbaStatus start n) = status_ranges state.disk start

@@ -1,8 +1,8 @@
 -- Why a command is refused, and the sense data that reports it.
-use Rattle.std.specs.Prelude.{ℕ, List, [], ◌∷◌, Option, Some, None, Result, Ok, Err, true, false}
+use Rattle.std.specs.Prelude.{ℕ, List, [], ◌∷◌, Option, Some, None, Result, Ok, Err, Bool, true, false}
 use Rattle.std.specs.Result.{result_map_both}
 use Rattle.sg_wire.specs.SenseData.{SenseFields}
-use Rattle.sg_wire.specs.SenseKey.{no_sense, illegal_request, unit_attention, data_protect}
+use Rattle.sg_wire.specs.SenseKey.{no_sense, not_ready, illegal_request, unit_attention, data_protect}
 use Rattle.sg_wire.specs.SenseKey.{aborted_command, miscompare}
 use Rattle.sg_wire.specs.declared.command.CdbFault.{CdbFault}
 use Rattle.sg_wire.specs.declared.command.CdbFault.TheVariants.{Empty, Opcode, Short, Field}
@@ -21,6 +21,7 @@ use Rattle.sg_target.specs.declared.refusal.Reason.TheVariants.{InsufficientRegi
 use Rattle.sg_target.specs.declared.refusal.Reason.TheVariants.{InsufficientResources}
 use Rattle.sg_target.specs.declared.refusal.Reason.TheVariants.{InvalidRelease, LbaOutOfRange}
 use Rattle.sg_target.specs.declared.refusal.Reason.TheVariants.{SpaceAllocationFailed, Fault}
+use Rattle.sg_target.specs.declared.refusal.Reason.TheVariants.{NotReady}
 use Rattle.sg_target.specs.declared.refusal.Reason.TheVariants.{SoftwareWriteProtected, WriteProtected}
 use Rattle.sg_target.specs.declared.refusal.Reason.TheVariants.{InvalidInformationUnit, Miscompare}
 use Rattle.sg_target.specs.declared.refusal.Refusal.{Refusal}
@@ -54,6 +55,7 @@ sense_of (InvalidFieldInParameterList byte) =
 sense_of InvalidRelease = plain_sense illegal_request 0x26 0x04
 sense_of InsufficientRegistrationResources = plain_sense illegal_request 0x55 0x04
 sense_of InsufficientResources = plain_sense illegal_request 0x55 0x03
+sense_of NotReady = plain_sense not_ready 0x04 0x02
 sense_of (LbaOutOfRange lba) = record (plain_sense illegal_request 0x21 0x00) { information = Some lba }
 sense_of WriteProtected = plain_sense data_protect 0x27 0x00
 sense_of SoftwareWriteProtected = plain_sense data_protect 0x27 0x02
@@ -61,10 +63,12 @@ sense_of SpaceAllocationFailed = plain_sense data_protect 0x27 0x07
 sense_of (Miscompare offset) = record (plain_sense miscompare 0x1D 0x00) { information = Some offset }
 sense_of (Fault code first_bad) = record (fault_sense code) { information = first_bad }
 
--- The sense data of REQUEST SENSE: the oldest unit attention, or NO SENSE.
-abbrev pub pending_sense : Option UnitAttention → SenseFields
-pending_sense None = plain_sense no_sense 0x00 0x00
-pending_sense (Some condition) = sense_of (Attention condition)
+-- The sense data of REQUEST SENSE: the oldest unit attention. Without one, it says that the unit is not
+-- ready if it is stopped, and NO SENSE otherwise.
+abbrev pub pending_sense : (stopped : Bool) → Option UnitAttention → SenseFields
+pending_sense stopped (Some condition) = sense_of (Attention condition)
+pending_sense true None = sense_of NotReady
+pending_sense false None = plain_sense no_sense 0x00 0x00
 
 -- A CDB that is no command: the pointer is to the byte in error. If the CDB ends early, it is to
 -- the first byte that is missing.

@@ -1,5 +1,5 @@
 -- The state of the disk between two commands.
-use Rattle.std.specs.Prelude.{◌≤◌}
+use Rattle.std.specs.Prelude.{◌≤◌, Bool}
 use Rattle.std.specs.FinMap.{len}
 use Rattle.sg_wire.specs.declared.profile.Profile.{Profile}
 use Rattle.sg_store.specs.Disk.{Disk, IsWellFormed}
@@ -16,6 +16,8 @@ pub record State : Type 0 where
   pub modes : ModeState
   pub attentions : Pending
   pub reservations : ReservationState
+  -- START STOP UNIT has stopped the unit (SBC-3, 5.25)
+  pub stopped : Bool
 
 -- The configuration of the disk, and its profile. No command changes them.
 abbrev pub config_of : State → ConfigFields

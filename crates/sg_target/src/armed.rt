@@ -1,7 +1,9 @@
 // Commands on a disk on which faults are armed.
 ghost use Rattle.std.specs.Prelude.{◌≡◌, ◌≤◌, [], ◌∷◌, Ok, IfOk, is_some, length, min};
+ghost use Rattle.sg_faults.specs.Accessed.{extents_of};
 ghost use Rattle.sg_faults.specs.Faults.{asked, decided};
 ghost use Rattle.sg_faults.specs.Places.{afterwards};
+ghost use Rattle.sg_target.specs.AccessedBlocks.{extents_in};
 ghost use Rattle.sg_target.specs.Armed.{accessed, armed_step_by, attempt, checked_attempt};
 ghost use Rattle.sg_target.specs.Armed.{faults_left, first_blocks, first_of, marked_by, marked_code};
 ghost use Rattle.sg_target.specs.Armed.{medium_of, refusal_on_arrival, result_at_medium, seen};
@@ -26,7 +28,7 @@ use crate::reply::{Reply, Status};
 use crate::room::data_in_bound;
 use crate::target::Target;
 use sg_faults::{
-    Afterwards, ArmedFault, AtMedium, Fault, OnArrival, SeenCommand, SenseCode, SenseKey,
+    Accessed, Afterwards, ArmedFault, AtMedium, Fault, OnArrival, SeenCommand, SenseCode, SenseKey,
 };
 use sg_store::{Counts, MAX_CAPACITY, Store};
 use sg_wire::{Extent, Initiator, UnmapList};
@@ -41,15 +43,47 @@ pub(crate) fn first_of(blocks: u32, extent: Extent) -> Extent
     }
 }
 
-impl<'a> Operation<'a> {
-    /// The blocks that it reads or writes.
-    fn accessed(&self) -> UnmapList
-        ensures { result ≡ accessed (medium_use self.now) }
+/// The blocks that a command reads or writes.
+#[derive(Drop)]
+enum AccessedBlocks {
+    /// The blocks of these extents.
+    Extents(UnmapList),
+    /// All blocks of the disk, so many.
+    Disk(u64),
+}
+
+impl AccessedBlocks {
+    /// No block.
+    fn none() -> AccessedBlocks
+        ensures { extents_in result ≡ [] }
+    {
+        AccessedBlocks::Extents(UnmapList::new())
+    }
+
+    /// How faults see them.
+    fn seen(&self) -> Accessed<'_>
+        ensures { extents_of result ≡ extents_in self.now }
     {
         match self {
-            Operation::Unmap(extents) | Operation::Anchor(extents) => extents.to_list(),
+            AccessedBlocks::Extents(extents) => Accessed::Extents(extents.as_slice()),
+            AccessedBlocks::Disk(blocks) => Accessed::Disk(*blocks),
+        }
+    }
+}
+
+impl<'a> Operation<'a> {
+    /// The blocks that it reads or writes.
+    fn accessed(&self) -> AccessedBlocks
+        ensures { extents_in result ≡ accessed (medium_use self.now) }
+    {
+        match self {
+            Operation::Unmap(extents) | Operation::Anchor(extents) => {
+                AccessedBlocks::Extents(extents.to_list())
+            }
+            Operation::UnmapAll(blocks) => AccessedBlocks::Disk(*blocks),
             Operation::Read(blocks) => one_extent(blocks.extent),
-            Operation::Write(blocks) | Operation::Compare(blocks) => one_extent(blocks.extent),
+            Operation::Write(blocks) | Operation::Compare(blocks) | Operation::OrWrite(blocks) =>
+                one_extent(blocks.extent),
             Operation::CompareAndWrite(exchange) => one_extent(exchange.extent),
             Operation::Verify(extent)
             | Operation::CompareEach { extent, .. }
@@ -58,6 +92,8 @@ impl<'a> Operation<'a> {
             | Operation::AnchorExtent(extent) => one_extent(*extent),
             Operation::MarkBad { lba, .. } => one_extent(one_block(*lba)),
             Operation::Nothing
+            | Operation::TestReady
+            | Operation::StartStop { .. }
             | Operation::ReturnSense { .. }
             | Operation::ReturnInquiry { .. }
             | Operation::ReturnLuns { .. }
@@ -70,7 +106,7 @@ impl<'a> Operation<'a> {
             | Operation::Synchronize(_)
             | Operation::ReturnLbaStatus { .. }
             | Operation::ReturnReservations { .. }
-            | Operation::ChangeReservations { .. } => UnmapList::new(),
+            | Operation::ChangeReservations { .. } => AccessedBlocks::none(),
         }
     }
 
@@ -90,21 +126,21 @@ impl<'a> Operation<'a> {
     }
 }
 
-fn one_extent(extent: Extent) -> UnmapList
-    ensures { result ≡ extent ∷ [] }
+fn one_extent(extent: Extent) -> AccessedBlocks
+    ensures { extents_in result ≡ extent ∷ [] }
 {
     let mut list = UnmapList::new();
     list.push(extent);
-    list
+    AccessedBlocks::Extents(list)
 }
 
 /// The blocks that a command reads or writes. A refused one has none.
-fn accessed_by(checked: &Result<Operation<'_>, Refusal>) -> UnmapList
-    ensures { result ≡ accessed (medium_of checked.now) }
+fn accessed_by(checked: &Result<Operation<'_>, Refusal>) -> AccessedBlocks
+    ensures { extents_in result ≡ accessed (medium_of checked.now) }
 {
     match checked {
         Ok(operation) => operation.accessed(),
-        Err(_) => UnmapList::new(),
+        Err(_) => AccessedBlocks::none(),
     }
 }
 
@@ -139,28 +175,28 @@ fn marked_code(cor_dis: bool) -> SenseCode
     }
 }
 
-/// What the faults see of a command on a disk of `capacity` blocks. `extents` are the blocks that it
-/// reads or writes.
+/// What the faults see of a command on a disk of `capacity` blocks. `blocks` are those that it reads or
+/// writes.
 fn seen<'a>(
     initiator: Initiator,
     cdb: &[u8],
     checked: &Result<Operation<'_>, Refusal>,
     capacity: u64,
-    extents: &'a UnmapList,
+    blocks: &'a AccessedBlocks,
 ) -> SeenCommand<'a>
     requires capacity { capacity ≤ MAX_CAPACITY }
-    requires extents { extents.now ≡ accessed (medium_of checked.now) }
+    requires blocks { extents_in blocks.now ≡ accessed (medium_of checked.now) }
     ensures { result ≡ seen initiator cdb.now checked.now }
 {
     let writes = match checked {
-        Ok(Operation::CompareAndWrite(_)) => false,
+        Ok(Operation::CompareAndWrite(_) | Operation::OrWrite(_)) => false,
         Ok(operation) => operation.medium_use(capacity).writes,
         Err(_) => false,
     };
     SeenCommand {
         initiator,
         code: cdb.first().copied(),
-        extents: extents.as_slice(),
+        blocks: blocks.seen(),
         writes,
     }
 }
@@ -248,11 +284,11 @@ impl<S: Store> Target<S> {
             self.old self.new result buf.old buf.new }
     {
         let capacity = self.config.blocks();
-        let extents = accessed_by(&checked);
-        let command = seen(initiator, cdb, &checked, capacity, &extents);
+        let blocks = accessed_by(&checked);
+        let command = seen(initiator, cdb, &checked, capacity, &blocks);
         let tried = self.attempt(&command, checked);
-        let extents = accessed_by(&tried);
-        let command = seen(initiator, cdb, &tried, capacity, &extents);
+        let blocks = accessed_by(&tried);
+        let command = seen(initiator, cdb, &tried, capacity, &blocks);
         let mark = marked_by(&tried);
         let reply = self.perform(initiator, tried, buf);
         if reply.status == Status::Good {

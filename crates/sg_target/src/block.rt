@@ -1,15 +1,15 @@
-// READ, WRITE, WRITE AND VERIFY and READ CAPACITY (SBC-3, 5). SYNCHRONIZE CACHE and PRE-FETCH have their
+// READ, WRITE, WRITE ATOMIC and READ CAPACITY (SBC-3, 5). SYNCHRONIZE CACHE and PRE-FETCH have their
 // blocks checked and nothing to do, because there is no cache.
-ghost use Rattle.std.specs.Prelude.{◌≡◌, ◌≤◌, ◌+◌, ◌∷◌, [], length, Some, None, Ok, OnOk, OnErr};
+ghost use Rattle.std.specs.Prelude.{◌≡◌, ◌<◌, ◌≤◌, ◌+◌, ◌∷◌, [], length, Some, None, Ok, OnOk, OnErr};
 ghost use Rattle.std.specs.Prelude.{IfOk, IfErr, min};
 ghost use Rattle.sg_pages.specs.CapacityData.{capacity_10, capacity_16};
+ghost use Rattle.sg_store.specs.Disk.{block_at};
 ghost use Rattle.sg_wire.specs.Profile.{maximum_transfer_length};
 ghost use Rattle.sg_wire.specs.FirstBytes.{first_bytes};
 ghost use Rattle.sg_target.specs.Armed.{first_of};
 ghost use Rattle.sg_target.specs.BlockCommands.{blocks_out, bytes_of, reading, writing};
 ghost use Rattle.sg_target.specs.Checks.{requested, short_data_out, unsupported_value};
-ghost use Rattle.sg_target.specs.Demands.{extent, need, reached, read, too_long, write};
-ghost use Rattle.sg_target.specs.Demands.{write_and_verify};
+ghost use Rattle.sg_target.specs.Demands.{need, reached, read, too_long, write, write_atomic};
 ghost use Rattle.sg_target.specs.Charge.{TakesStep, cost_bounds};
 ghost use Rattle.sg_target.specs.Ranges.{range};
 ghost use Rattle.sg_target.specs.MadeReplies.{ReturnsData, executed_reply, refused_reply};
@@ -25,8 +25,8 @@ use crate::refusal::{Reason, Refusal};
 use crate::reply::Reply;
 use crate::target::Target;
 use sg_pages::{CAPACITY_10_LENGTH, CAPACITY_16_LENGTH};
-use sg_store::{Space, Store};
-use sg_wire::{ByteCheck, Extent, Initiator, ReadCapacity16, Verify10, Verify12, Verify16};
+use sg_store::{BLOCK_LENGTH, Space, Store};
+use sg_wire::{Extent, Initiator, ReadCapacity16, WriteAtomic16};
 use std::marker::Model;
 
 // Where TRANSFER LENGTH begins in CDBs of ten, twelve and sixteen bytes.
@@ -35,6 +35,11 @@ pub(crate) const LENGTH_AT_10: u16 = 7;
 pub(crate) const LENGTH_AT_12: u16 = 6;
 
 pub(crate) const LENGTH_AT_16: u16 = 10;
+
+// Where ATOMIC BOUNDARY and TRANSFER LENGTH begin in the CDB of WRITE ATOMIC.
+const BOUNDARY_BYTE: u16 = 10;
+
+const ATOMIC_LENGTH_BYTE: u16 = 12;
 
 /// Refuses more blocks than the disk moves at once; TRANSFER LENGTH begins at the byte.
 pub(crate) fn check_transfer_length(
@@ -157,6 +162,18 @@ impl<'a> BlocksOut<'a> {
     }
 }
 
+impl BlocksOut<'_> {
+    /// The bytes of the block at an index.
+    pub(crate) fn block(&self, index: u32) -> &[u8]
+        requires { index < self.now.extent.count }
+        ensures bytes { result.now ≡ block_at self.now.bytes index }
+        ensures byte_count { length result.now ≡ BLOCK_LENGTH }
+    {
+        let at = BLOCK_LENGTH * index as usize;
+        &self.bytes[at..at + BLOCK_LENGTH]
+    }
+}
+
 impl<'a> BlocksOut<'a> {
     /// Takes the bytes of blocks from data-out.
     pub(crate) fn take(
@@ -203,63 +220,29 @@ pub(crate) fn check_write<'a>(
     Ok(Operation::Write(BlocksOut::take(config, extent, data_out)?))
 }
 
-/// A WRITE AND VERIFY, whose data-out is at most compared with the blocks that it has just replaced;
-/// TRANSFER LENGTH begins at the byte.
-fn check_verified_write<'a>(
+/// WRITE ATOMIC: a WRITE is atomic as it is.
+pub(crate) fn check_write_atomic_16<'a>(
     config: &Config,
-    byte_check: ByteCheck,
-    extent: Extent,
-    byte: u16,
+    fields: WriteAtomic16,
     data_out: &'a [u8],
 ) -> Result<Operation<'a>, Refusal>
-    ensures { result ≡ requested (write_and_verify config.now byte_check extent byte data_out.now)
-        data_out.now }
+    ensures { result ≡ requested (write_atomic config.now fields data_out.now) data_out.now }
 {
-    match byte_check {
-        ByteCheck::Nothing | ByteCheck::DataOut => check_write(config, extent, byte, data_out),
-        ByteCheck::Reserved | ByteCheck::OneBlock => {
-            Err(Refusal::CheckCondition(Reason::InvalidFieldInCdb { byte: 1 }))
-        }
+    let extent = Extent {
+        lba: fields.lba,
+        count: u32::from(fields.count),
+    };
+    if fields.boundary != 0 {
+        return Err(Refusal::CheckCondition(Reason::InvalidFieldInCdb {
+            byte: BOUNDARY_BYTE,
+        }));
     }
-}
-
-pub(crate) fn check_write_and_verify_10<'a>(
-    config: &Config,
-    fields: Verify10,
-    data_out: &'a [u8],
-) -> Result<Operation<'a>, Refusal>
-    ensures { let named = extent fields.extent.lba fields.extent.count in
-        result ≡ requested (write_and_verify config.now fields.byte_check named 7 data_out.now)
-        data_out.now }
-{
-    let extent = Extent::from(fields.extent);
-    check_verified_write(config, fields.byte_check, extent, LENGTH_AT_10, data_out)
-}
-
-pub(crate) fn check_write_and_verify_12<'a>(
-    config: &Config,
-    fields: Verify12,
-    data_out: &'a [u8],
-) -> Result<Operation<'a>, Refusal>
-    ensures { let named = extent fields.extent.lba fields.extent.count in
-        result ≡ requested (write_and_verify config.now fields.byte_check named 6 data_out.now)
-        data_out.now }
-{
-    let extent = Extent::from(fields.extent);
-    check_verified_write(config, fields.byte_check, extent, LENGTH_AT_12, data_out)
-}
-
-pub(crate) fn check_write_and_verify_16<'a>(
-    config: &Config,
-    fields: Verify16,
-    data_out: &'a [u8],
-) -> Result<Operation<'a>, Refusal>
-    ensures { let named = extent fields.extent.lba fields.extent.count in
-        result ≡ requested (write_and_verify config.now fields.byte_check named 10 data_out.now)
-        data_out.now }
-{
-    let extent = Extent::from(fields.extent);
-    check_verified_write(config, fields.byte_check, extent, LENGTH_AT_16, data_out)
+    if extent.count > config.limits().atomic_transfer_length {
+        return Err(Refusal::CheckCondition(Reason::InvalidFieldInCdb {
+            byte: ATOMIC_LENGTH_BYTE,
+        }));
+    }
+    Ok(Operation::Write(BlocksOut::take(config, extent, data_out)?))
 }
 
 // ---- SYNCHRONIZE CACHE and PRE-FETCH

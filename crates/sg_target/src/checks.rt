@@ -1,9 +1,10 @@
 // The order of the checks that a command passes before it is executed.
 ghost use Rattle.std.specs.Prelude.{◌≡◌, Some, None, Ok, IfErr, IfOk, if◌then◌else◌, true};
-ghost use Rattle.sg_wire.specs.CdbDecoding.{command_in, is_blocked_in};
+ghost use Rattle.std.specs.Prelude.{option_and_then};
+ghost use Rattle.sg_wire.specs.CdbDecoding.{command_in};
 ghost use Rattle.sg_wire.specs.Profile.{rules_of};
-ghost use Rattle.sg_units.specs.Attentions.{oldest};
-ghost use Rattle.sg_target.specs.Checks.{cdb_checks, checked_cdb, checked_operation};
+ghost use Rattle.sg_target.specs.Checks.{blocking_attention, cdb_checks, checked_cdb};
+ghost use Rattle.sg_target.specs.Checks.{checked_operation, if_it_outranks, not_ready, outranks};
 ghost use Rattle.sg_pages.specs.ModePage.{write_protected};
 ghost use Rattle.sg_target.specs.Checks.{reservation_conflict, write_protection};
 ghost use Rattle.sg_target.specs.Extents.{AreOnDisk};
@@ -58,16 +59,38 @@ impl<S: Store> Target<S> {
         if let Err(CdbFault::Empty) = command {
             return Err(Refusal::from(CdbFault::Empty));
         }
-        if let Some(condition) = self.blocking_attention(initiator, cdb) {
-            return Err(Refusal::CheckCondition(Reason::UnitAttention(condition)));
-        }
-        if let Err(CdbFault::Opcode) = command {
-            return Err(Refusal::from(CdbFault::Opcode));
+        let attention = self.blocking_attention(initiator, cdb);
+        if let Some(refusal) = self.outranking_attention(attention) {
+            return Err(refusal);
         }
         if let Some(conflict) = self.reservation_conflict(initiator, cdb) {
             return Err(conflict);
         }
+        if let Some(condition) = attention {
+            return Err(Refusal::CheckCondition(Reason::UnitAttention(condition)));
+        }
         Ok(command?)
+    }
+
+    /// The refusal of a command that a unit attention blocks, if the attention comes before a
+    /// reservation conflict.
+    #[inline(always)]
+    fn outranking_attention(&self, attention: Option<UnitAttention>) -> Option<Refusal>
+        ensures { result ≡ option_and_then (if_it_outranks self.now.state) attention }
+    {
+        match attention {
+            Some(condition) if self.outranks(condition) => {
+                Some(Refusal::CheckCondition(Reason::UnitAttention(condition)))
+            }
+            _ => None,
+        }
+    }
+
+    /// Returns `true` if a unit attention comes before a reservation conflict.
+    fn outranks(&self, condition: UnitAttention) -> bool
+        ensures { result ≡ outranks self.now.state condition }
+    {
+        condition.outranks_conflict(self.config.rules().only_resets_outrank_conflicts)
     }
 
     /// The configuration of the disk.
@@ -87,13 +110,11 @@ impl<S: Store> Target<S> {
     /// The unit attention condition that is reported in place of a command.
     #[inline(always)]
     fn blocking_attention(&self, initiator: Initiator, cdb: &[u8]) -> Option<UnitAttention>
-        ensures { result ≡ (if is_blocked_in (profile_of self.now.state) cdb.now
-            then oldest self.now.state.attentions initiator else None) }
+        ensures { result ≡ blocking_attention self.now.state initiator cdb.now }
     {
-        if Command::is_blocked_in(self.profile(), cdb) {
-            self.attentions.oldest(initiator)
-        } else {
-            None
+        match self.attentions.oldest(initiator) {
+            Some(condition) if Command::is_blocked_in(self.profile(), cdb) => Some(condition),
+            _ => None,
         }
     }
 
@@ -102,14 +123,17 @@ impl<S: Store> Target<S> {
     fn reservation_conflict(&self, initiator: Initiator, cdb: &[u8]) -> Option<Refusal>
         ensures { result ≡ reservation_conflict self.now.state initiator cdb.now }
     {
+        if !self.reservations.is_reserved() {
+            return None;
+        }
         match Command::class_in(self.profile(), cdb) {
             Some(class) if !self.reservations.allows(initiator, class) => Some(Refusal::Conflict),
             _ => None,
         }
     }
 
-    /// Checks how an operation uses the medium: whether the disk has its blocks, and whether it
-    /// writes while SWP is set.
+    /// Checks how an operation uses the medium: whether it needs a unit that is ready, whether the disk
+    /// has its blocks, and whether it writes while SWP is set.
     #[inline(always)]
     #[tactic(auto, unfolding(crate::specs::Checks::write_protection))]
     fn check_operation<'a>(&self, operation: Operation<'a>) -> Result<Operation<'a>, Refusal>
@@ -117,6 +141,7 @@ impl<S: Store> Target<S> {
         ensures on_disk { IfOk result (λ operation.
             AreOnDisk self.now.state.disk.capacity (medium_use operation).extents) }
     {
+        self.check_ready(&operation)?;
         let medium = operation.medium_use(self.config.blocks());
         if let Some(refusal) = medium.out_of_range {
             return Err(refusal);
@@ -125,6 +150,20 @@ impl<S: Store> Target<S> {
             self.check_protected(&operation)?;
         }
         Ok(operation)
+    }
+
+    /// Refuses an operation that needs a unit that is ready, while the unit is stopped.
+    #[inline(always)]
+    fn check_ready(&self, operation: &Operation<'_>) -> Result<(), Refusal>
+        ensures refused { IfErr result (λ refusal.
+            not_ready self.now.state (medium_use operation.now) ≡ Some refusal) }
+        ensures passed { IfOk result (λ _.
+            not_ready self.now.state (medium_use operation.now) ≡ None) }
+    {
+        if self.stopped && operation.needs_ready() {
+            return Err(Refusal::CheckCondition(Reason::NotReady));
+        }
+        Ok(())
     }
 
     /// Refuses an operation that writes to a disk whose SWP is set.

@@ -25,6 +25,8 @@ use sg_wire::{Cut, Format, InAction};
 pub(crate) enum DataIn {
     /// The sense data of REQUEST SENSE.
     Sense {
+        /// Whether the unit is stopped, which is reported without a condition.
+        stopped: bool,
         /// The unit attention condition that is reported, if there is one.
         condition: Option<UnitAttention>,
         format: Format,
@@ -83,7 +85,11 @@ impl DataIn {
             ≤ longest_of self }
     {
         match self {
-            DataIn::Sense { condition, format } => pending_sense(condition).write(format, cut),
+            DataIn::Sense {
+                stopped,
+                condition,
+                format,
+            } => pending_sense(stopped, condition).write(format, cut),
             DataIn::Inquiry(page) => page.write(config.identity(), cut),
             DataIn::Reservations(action) => {
                 write_reserve_in_data(config.rules(), action, reservations, cut)

@@ -38,6 +38,17 @@ pub(crate) fn past_capacity(extent: Extent, capacity: u64) -> Option<Refusal>
     }))
 }
 
+/// The refusal of all blocks of a disk of `blocks` if one is past the last block of a disk.
+pub(crate) fn all_past_capacity(blocks: u64, capacity: u64) -> Option<Refusal>
+    ensures value { result ≡ past_capacity capacity (extent 0 blocks) }
+    ensures on_disk { IfNone result (0 + blocks ≤ capacity) }
+{
+    if blocks <= capacity {
+        return None;
+    }
+    Some(Refusal::CheckCondition(Reason::LbaOutOfRange { lba: capacity }))
+}
+
 /// The refusal of the first extent with a block past the last block of a disk.
 #[tactic(auto, unfolding(crate::specs::Checks::out_of_range))]
 pub(crate) fn first_past_capacity(extents: &[Extent], capacity: u64) -> Option<Refusal>

@@ -9,7 +9,7 @@ pub enum Happening {
     /// Power is lost, and is on again.
     Power,
     /// A logical unit reset (SAM-5, 6.3.3). The saved mode pages become the current ones. 29h/03h,
-    /// BUS DEVICE RESET FUNCTION OCCURRED, is established for each initiator.
+    /// BUS DEVICE RESET FUNCTION OCCURRED, is established for each initiator. A stopped unit is started.
     LogicalUnitReset,
     /// A hard reset of the target (SAM-5, 6.3.2). It does the same, with 29h/02h, SCSI BUS RESET
     /// OCCURRED.

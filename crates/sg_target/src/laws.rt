@@ -1,6 +1,7 @@
 //! Laws of the definitions: each is the contract of a function that does nothing, and calls those
 //! whose laws it follows from.
-ghost use Rattle.sg_target.specs.CommandLaws.{ReadsReturnTheirBlocks, UnmapsFollowTheirLists};
+ghost use Rattle.sg_target.specs.CommandLaws.{FormatsEmptyTheDisk, ReadsReturnTheirBlocks};
+ghost use Rattle.sg_target.specs.CommandLaws.{UnmapsFollowTheirLists};
 ghost use Rattle.sg_target.specs.CommandLaws.{WriteSamesLeaveTheirBlock, WritesLeaveTheirData};
 ghost use Rattle.sg_target.specs.CommandLaws.{WritesOverUsedAddressesHaveSpace};
 ghost use Rattle.sg_target.specs.Laws.{AnchorsEachExtent, ConfigurationStays};
@@ -163,4 +164,13 @@ pub fn write_sames_leave_their_block()
     sg_store::laws::an_unmap_zeroes_the_blocks_of_its_range();
     sg_store::laws::an_anchoring_anchors_the_addresses_of_its_range();
     sg_store::laws::an_anchoring_zeroes_the_blocks_of_its_range();
+}
+
+/// After a FORMAT UNIT, or an erase of SANITIZE, that ends with GOOD no address is mapped or anchored,
+/// and each block is read as zeros. Nothing more has changed.
+pub fn formats_empty_the_disk()
+    ensures { FormatsEmptyTheDisk }
+{
+    sg_store::laws::an_unmap_deallocates_the_addresses_of_its_range();
+    sg_store::laws::an_unmap_zeroes_the_blocks_of_its_range();
 }

@@ -4,8 +4,10 @@ ghost use Rattle.sg_pages.specs.DataLengths.{longest_list};
 ghost use Rattle.sg_target.specs.Checks.{requested};
 ghost use Rattle.sg_target.specs.Demands.{mode_select, mode_sense};
 ghost use Rattle.sg_target.specs.Charge.{TakesStep, cost_bounds, step_by};
-ghost use Rattle.sg_target.specs.ModeCommands.{attentions_after, select_refusal, sense_refusal};
-ghost use Rattle.sg_target.specs.State.{IsWithinLimits};
+ghost use Rattle.sg_target.specs.ModeCommands.{attentions_after, required_blocks};
+ghost use Rattle.sg_target.specs.ModeCommands.{select_refusal, sense_refusal};
+ghost use Rattle.sg_target.specs.State.{IsWithinLimits, profile_of};
+ghost use Rattle.sg_wire.specs.Profile.{rules_of};
 
 use crate::config::Config;
 use crate::data_out::needed_data_out;
@@ -186,7 +188,7 @@ fn check_mode_select<'a>(
     ensures { result
         ≡ requested (mode_select config.now width pf sp list_length data_out.now) data_out.now }
 {
-    if !pf {
+    if !pf && !(config.rules().no_list_needs_no_page_format && list_length == 0) {
         return Err(Refusal::CheckCondition(Reason::InvalidFieldInCdb {
             byte: PAGE_FORMAT_BYTE,
         }));
@@ -217,7 +219,7 @@ impl<S: Store> Target<S> {
             TakesStep (cost_bounds S.price S.least) (step_by self.old.state initiator operation)
             [] self.old self.new result buf.now buf.now }
     {
-        let blocks = self.config.blocks();
+        let blocks = self.required_blocks();
         let reason = match self.modes.select(list.bytes, width, sp, blocks) {
             Ok(Changed(changed)) => {
                 self.report_changed_modes(initiator, changed);
@@ -233,6 +235,17 @@ impl<S: Store> Target<S> {
             Refusal::CheckCondition(reason),
             Counts::default(),
         )
+    }
+
+    /// The number of blocks that a block descriptor has to have, if it is not ignored.
+    fn required_blocks(&self) -> Option<u64>
+        ensures { result ≡ required_blocks (rules_of (profile_of self.now.state))
+            self.now.state.disk.capacity }
+    {
+        if self.config.rules().ignores_number_of_blocks {
+            return None;
+        }
+        Some(self.config.blocks())
     }
 
     /// If a current value has changed, the other initiators get a unit attention.

@@ -13,16 +13,18 @@ ghost use Rattle.sg_target.specs.State.{IsWithinLimits};
 
 use crate::block::{
     BlocksIn, BlocksOut, LENGTH_AT_10, LENGTH_AT_12, LENGTH_AT_16, check_read, check_read_6,
-    check_read_capacity_16, check_write, check_write_6, check_write_and_verify_10,
-    check_write_and_verify_12, check_write_and_verify_16, pre_fetch, synchronize,
+    check_read_capacity_16, check_write, check_write_6, check_write_atomic_16, pre_fetch,
+    synchronize,
 };
 use crate::config::Config;
 use crate::data_in::DataIn;
-use crate::extent::{one_block, past_capacity};
+use crate::extent::{all_past_capacity, one_block, past_capacity};
+use crate::format::{check_erase, check_exit_failure_mode, check_format_unit};
 use crate::mode::{
     ModeList, RequestedModes, check_mode_select_6, check_mode_select_10, check_mode_sense_6,
     check_mode_sense_10,
 };
+use crate::or_write::check_or_write_16;
 use crate::primary::{InquiryPage, check_inquiry, check_request_sense};
 use crate::provisioning::{
     BlockOut, check_get_lba_status, check_unmap, check_write_same_10, check_write_same_16,
@@ -35,10 +37,9 @@ use crate::report::{
     check_report_luns, check_send_diagnostic, check_task_management,
 };
 use crate::reservation::{check_reserve_in, check_reserve_out};
+use crate::start_stop::check_start_stop_unit;
 use crate::target::Target;
-use crate::verify::{
-    Exchange, check_compare_and_write, check_verify_10, check_verify_12, check_verify_16,
-};
+use crate::verify::{Exchange, check_compare_and_write, check_verified_write, check_verify};
 use crate::write_long::check_write_long_10;
 use sg_pages::Report;
 use sg_store::{MAX_CAPACITY, Store};
@@ -51,8 +52,15 @@ use sg_wire::{CdbWidth, Command, Extent, Format, InAction, Initiator, ListedExte
 /// against them as they are executed.
 #[derive(Drop)]
 pub enum Operation<'a> {
-    /// Nothing more than the checks: TEST UNIT READY, and SEND DIAGNOSTIC.
+    /// Nothing more than the checks: SEND DIAGNOSTIC, and SANITIZE that asks to leave a failed erase.
     Nothing,
+    /// Finds out whether the unit is ready: TEST UNIT READY.
+    TestReady,
+    /// Starts the unit, or stops it: START STOP UNIT.
+    StartStop {
+        /// Whether the unit is started.
+        start: bool,
+    },
     /// Returns the oldest unit attention as sense data, and clears it.
     ReturnSense {
         format: Format,
@@ -111,6 +119,8 @@ pub enum Operation<'a> {
     },
     /// Replaces blocks if they are as expected: COMPARE AND WRITE.
     CompareAndWrite(Exchange<'a>),
+    /// Sets bits of blocks: ORWRITE.
+    OrWrite(BlocksOut<'a>),
     /// Asks for blocks to be read into a cache, which the disk lacks: PRE-FETCH.
     PreFetch(Extent),
     /// Asks for blocks to be written through, which they are.
@@ -131,6 +141,8 @@ pub enum Operation<'a> {
     Unmap(ListedExtents<'a>),
     /// Unmaps blocks of one extent.
     UnmapExtent(Extent),
+    /// Unmaps all blocks of the disk, so many: FORMAT UNIT, and an erase of SANITIZE.
+    UnmapAll(u64),
     /// Anchors blocks, extent by extent.
     Anchor(ListedExtents<'a>),
     /// Anchors blocks of one extent.
@@ -191,29 +203,46 @@ impl<'a> Operation<'a> {
                 (past_capacity(one_block(*start), capacity), false)
             }
             Operation::MarkBad { lba, .. } => (past_capacity(one_block(*lba), capacity), true),
-            Operation::Write(blocks) => (past_capacity(blocks.extent, capacity), true),
+            Operation::Write(blocks) | Operation::OrWrite(blocks) => {
+                (past_capacity(blocks.extent, capacity), true)
+            }
             Operation::Fill { extent, .. }
             | Operation::UnmapExtent(extent)
             | Operation::AnchorExtent(extent) => (past_capacity(*extent, capacity), true),
+            Operation::UnmapAll(blocks) => (all_past_capacity(*blocks, capacity), true),
             Operation::Unmap(extents) | Operation::Anchor(extents) => {
                 (listed_out_of_range(extents, capacity), true)
             }
-            Operation::Nothing
-            | Operation::ReturnSense { .. }
-            | Operation::ReturnInquiry { .. }
-            | Operation::ReturnLuns { .. }
-            | Operation::ReturnReport { .. }
-            | Operation::ReturnModes { .. }
-            | Operation::ChangeModes { .. }
-            | Operation::ReturnCapacity10
-            | Operation::ReturnCapacity16(_)
-            | Operation::ReturnReservations { .. }
-            | Operation::ChangeReservations { .. } => (None, false),
+            // The others name no block.
+            _ => (None, false),
         };
         MediumUse {
             out_of_range,
             writes,
         }
+    }
+
+    /// Returns `true` if the unit has to be ready for it.
+    // Not inlined: only a stopped unit asks.
+    #[inline(never)]
+    pub(crate) fn needs_ready(&self) -> bool
+        ensures { result ≡ (medium_use self.now).needs_ready }
+    {
+        !matches!(
+            self,
+            Operation::Nothing
+                | Operation::StartStop { .. }
+                | Operation::ReturnSense { .. }
+                | Operation::ReturnInquiry { .. }
+                | Operation::ReturnLuns { .. }
+                | Operation::ReturnReport { .. }
+                | Operation::ReturnModes { .. }
+                | Operation::ChangeModes { .. }
+                | Operation::ReturnCapacity10
+                | Operation::ReturnCapacity16(_)
+                | Operation::ReturnReservations { .. }
+                | Operation::ChangeReservations { .. }
+        )
     }
 
     /// Returns `true` if an operation that writes names some block.
@@ -224,11 +253,12 @@ impl<'a> Operation<'a> {
             → result ≡ names_some_block (medium_use self.now).extents }
     {
         match self {
-            Operation::Write(blocks) => blocks.extent.count > 0,
+            Operation::Write(blocks) | Operation::OrWrite(blocks) => blocks.extent.count > 0,
             Operation::CompareAndWrite(exchange) => exchange.extent.count > 0,
             Operation::Fill { extent, .. }
             | Operation::UnmapExtent(extent)
             | Operation::AnchorExtent(extent) => extent.count > 0,
+            Operation::UnmapAll(blocks) => *blocks > 0,
             Operation::Unmap(extents) | Operation::Anchor(extents) => { listed_some_block(extents) }
             _ => true,
         }
@@ -246,7 +276,7 @@ pub(crate) fn operation_of<'a>(
     ensures { result ≡ requested (demands config.now command.now data_out.now) data_out.now }
 {
     match *command {
-        Command::TestUnitReady => Ok(Operation::Nothing),
+        Command::TestUnitReady => Ok(Operation::TestReady),
         Command::RequestSense(fields) => Ok(check_request_sense(fields)),
         Command::Inquiry(fields) => check_inquiry(config, fields),
         Command::ModeSelect6(fields) => check_mode_select_6(config, fields, data_out),
@@ -277,6 +307,8 @@ fn block_operation_of<'a>(
 {
     match *command {
         Command::CompareAndWrite(fields) => check_compare_and_write(fields, data_out),
+        Command::FormatUnit(fields) => check_format_unit(config, fields, data_out),
+        Command::OrWrite16(extent) => check_or_write_16(config, extent.into(), data_out),
         Command::PreFetch10(extent) => Ok(pre_fetch(config, Extent::from(extent))),
         Command::PreFetch16(extent) => Ok(pre_fetch(config, Extent::from(extent))),
         Command::Read6(extent) => Ok(check_read_6(Extent::from(extent))),
@@ -291,14 +323,19 @@ fn block_operation_of<'a>(
         Command::ReadCapacity16(fields) => Ok(check_read_capacity_16(fields)),
         Command::ReadDefectData10(fields) => check_read_defect_data_10(fields),
         Command::ReadDefectData12(fields) => check_read_defect_data_12(fields),
+        Command::SanitizeBlockErase(fields) => check_erase(config, fields),
+        Command::SanitizeCryptographicErase(fields) => check_erase(config, fields),
+        Command::SanitizeExitFailureMode(fields) => check_exit_failure_mode(fields),
+        Command::StartStopUnit(fields) => check_start_stop_unit(fields),
         Command::SynchronizeCache10(extent) => Ok(synchronize(config, Extent::from(extent))),
         Command::SynchronizeCache16(extent) => Ok(synchronize(config, Extent::from(extent))),
-        Command::Verify10(fields) => check_verify_10(config, fields, data_out),
-        Command::Verify12(fields) => check_verify_12(config, fields, data_out),
-        Command::Verify16(fields) => check_verify_16(config, fields, data_out),
-        Command::WriteAndVerify10(fields) => check_write_and_verify_10(config, fields, data_out),
-        Command::WriteAndVerify12(fields) => check_write_and_verify_12(config, fields, data_out),
-        Command::WriteAndVerify16(fields) => check_write_and_verify_16(config, fields, data_out),
+        Command::Verify10(fields) => check_verify(config, fields.into(), data_out),
+        Command::Verify12(fields) => check_verify(config, fields.into(), data_out),
+        Command::Verify16(fields) => check_verify(config, fields.into(), data_out),
+        Command::WriteAndVerify10(fields) => check_verified_write(config, fields.into(), data_out),
+        Command::WriteAndVerify12(fields) => check_verified_write(config, fields.into(), data_out),
+        Command::WriteAndVerify16(fields) => check_verified_write(config, fields.into(), data_out),
+        Command::WriteAtomic16(fields) => check_write_atomic_16(config, fields, data_out),
         Command::WriteLong10(fields) => check_write_long_10(fields),
         Command::WriteSame10(fields) => check_write_same_10(config, fields, data_out),
         Command::WriteSame16(fields) => check_write_same_16(config, fields, data_out),
@@ -329,22 +366,12 @@ impl<S: Store> Target<S> {
         match operation {
             // A block is marked with an error as the command ends: see `conclude_armed`.
             Operation::Nothing
+            | Operation::TestReady
             | Operation::Verify(_)
             | Operation::PreFetch(_)
             | Operation::Synchronize(_)
             | Operation::MarkBad { .. } => Reply::without_blocks(0),
-            Operation::ReturnSense { .. }
-            | Operation::ReturnInquiry { .. }
-            | Operation::ReturnLuns { .. }
-            | Operation::ReturnReport { .. }
-            | Operation::ReturnModes { .. }
-            | Operation::ReturnCapacity10
-            | Operation::ReturnCapacity16(_)
-            | Operation::Read(_)
-            | Operation::ReturnLbaStatus { .. }
-            | Operation::ReturnReservations { .. } => {
-                self.return_asked(initiator, &operation, buf)
-            }
+            Operation::StartStop { start } => self.start_or_stop(start),
             Operation::ChangeModes { width, sp, list } => {
                 self.change_modes(initiator, width, sp, &list, buf)
             }
@@ -354,9 +381,11 @@ impl<S: Store> Target<S> {
                 self.compare_each(initiator, extent, &block, buf)
             }
             Operation::CompareAndWrite(blocks) => self.compare_and_write(initiator, &blocks, buf),
+            Operation::OrWrite(blocks) => self.or_write(initiator, &blocks, buf),
             Operation::Fill { extent, block } => self.fill(initiator, extent, &block, buf),
             Operation::Unmap(extents) => self.unmap_listed(&extents, buf),
             Operation::UnmapExtent(extent) => self.unmap(&[extent], buf),
+            Operation::UnmapAll(blocks) => self.unmap_all(blocks, buf),
             Operation::Anchor(extents) => self.anchor_listed(initiator, &extents, buf),
             Operation::AnchorExtent(extent) => self.anchor(initiator, &[extent], buf),
             Operation::ChangeReservations {
@@ -364,6 +393,8 @@ impl<S: Store> Target<S> {
                 scope_type,
                 list,
             } => self.change_reservations(initiator, action, scope_type, &list, buf),
+            // The others return data.
+            _ => self.return_asked(initiator, &operation, buf),
         }
     }
 

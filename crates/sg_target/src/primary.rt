@@ -37,7 +37,8 @@ pub(crate) fn check_request_sense(fields: RequestSense) -> Operation<'static>
 }
 
 impl<S: Store> Target<S> {
-    /// Returns the oldest unit attention as sense data, and clears it.
+    /// Returns the oldest unit attention as sense data, and clears it. Without one, it returns whether
+    /// the unit is stopped.
     pub(crate) fn return_sense(
         &mut self,
         initiator: Initiator,
@@ -54,7 +55,11 @@ impl<S: Store> Target<S> {
     {
         let condition = self.attentions.oldest(initiator);
         self.attentions.clear_oldest(initiator);
-        let sense = DataIn::Sense { condition, format };
+        let sense = DataIn::Sense {
+            stopped: self.stopped,
+            condition,
+            format,
+        };
         self.return_data(sense, usize::from(allocation_length), buf)
     }
 }

@@ -63,7 +63,8 @@ pub(crate) fn check_unmap<'a>(
     ensures { result ≡ requested (demands_of_unmap config.now fields data_out.now) data_out.now }
 {
     let list = needed_data_out(config, data_out, usize::from(fields.list_length))?;
-    let extents = UnmapList::read(list)?;
+    let listed = UnmapList::read(list)?;
+    let extents = listed.named(config.rules().unmap_ignores_empty_extents);
     if fields.anchor {
         Ok(Operation::Anchor(extents))
     } else {
@@ -129,6 +130,24 @@ impl<S: Store> Target<S> {
     }
 }
 
+impl<S: Store> Target<S> {
+    /// Unmaps all blocks.
+    pub(crate) fn unmap_all(&mut self, blocks: u64, buf: &[u8]) -> Reply
+        requires on_disk { 0 + blocks ≤ self.old.state.disk.capacity }
+        ensures { let all = extent 0 blocks in
+            TakesStep (cost_bounds S.price S.least)
+            (executed (unmapping self.old.state (all ∷ [])))
+            (range self.old.state.disk.contents all ∷ [])
+            self.old self.new result buf.now buf.now }
+    {
+        self.store.restart_counts();
+        self.store.unmap(0, blocks);
+        // Its contract says that a store uses no more blocks than its pool has.
+        let _ = self.store.used();
+        Reply::good(0, self.store.counts())
+    }
+}
+
 /// Unmaps extents of a store that has counted nothing.
 fn unmap_in_turn<S: Store>(store: &mut S, extents: &[Extent])
     requires on_disk { AreOnDisk (S.disk store.old).capacity extents.now }
@@ -142,7 +161,7 @@ fn unmap_in_turn<S: Store>(store: &mut S, extents: &[Extent])
         (S.meter store.old) (S.meter store.new) }
 {
     for extent in extents {
-        store.unmap(extent.lba, extent.count);
+        store.unmap(extent.lba, u64::from(extent.count));
     }
 }
 

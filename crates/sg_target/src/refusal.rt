@@ -47,6 +47,8 @@ pub enum Reason {
     InsufficientRegistrationResources,
     /// INSUFFICIENT RESOURCES: there is no room to mark another block as bad.
     InsufficientResources,
+    /// LOGICAL UNIT NOT READY, INITIALIZING COMMAND REQUIRED: the unit is stopped.
+    NotReady,
     /// LOGICAL BLOCK ADDRESS OUT OF RANGE, with the first such address.
     LbaOutOfRange {
         lba: u64,
@@ -94,6 +96,7 @@ impl Reason {
                 plain(Sense::ILLEGAL_REQUEST, 0x55, 0x04)
             }
             Reason::InsufficientResources => plain(Sense::ILLEGAL_REQUEST, 0x55, 0x03),
+            Reason::NotReady => plain(Sense::NOT_READY, 0x04, 0x02),
             Reason::LbaOutOfRange { lba } => with_information(Sense::ILLEGAL_REQUEST, 0x21, lba),
             Reason::WriteProtected => plain(Sense::DATA_PROTECT, 0x27, 0x00),
             Reason::SoftwareWriteProtected => plain(Sense::DATA_PROTECT, 0x27, 0x02),
@@ -134,12 +137,13 @@ impl From<CdbFault> for Refusal {
     }
 }
 
-/// The sense of REQUEST SENSE: a pending unit attention, or NO SENSE.
-pub(crate) fn pending_sense(condition: Option<UnitAttention>) -> Sense
-    ensures { fields_of result ≡ pending_sense condition }
+/// The sense of REQUEST SENSE: a pending unit attention, or else whether the unit is stopped.
+pub(crate) fn pending_sense(stopped: bool, condition: Option<UnitAttention>) -> Sense
+    ensures { fields_of result ≡ pending_sense stopped condition }
 {
     match condition {
         Some(condition) => Reason::UnitAttention(condition).sense(),
+        None if stopped => Reason::NotReady.sense(),
         None => plain(Sense::NO_SENSE, 0x00, 0x00),
     }
 }

@@ -25,6 +25,8 @@ pub struct Target<S: Store> {
     pub(crate) modes: ModePages,
     pub(crate) attentions: Attentions,
     pub(crate) reservations: Reservations,
+    // Whether START STOP UNIT has stopped the unit.
+    pub(crate) stopped: bool,
     pub(crate) faults: Faults,
 }
 
@@ -49,6 +51,7 @@ impl<S: Store> Model for Target<S> {
         modes = t.modes;
         attentions = t.attentions;
         reservations = t.reservations;
+        stopped = t.stopped;
       };
       faults = t.faults;
       meter = S.meter t.store;
@@ -77,8 +80,8 @@ ghost use Rattle.sg_target.specs.Target.{disk_of};
 
 impl<S: Store> Target<S> {
     /// A target as it is after power on. No block is mapped, and the mode pages have their default
-    /// values. A unit attention, POWER ON, is pending for each initiator, and none is registered. No
-    /// fault is armed. All memory is taken here.
+    /// values. A unit attention, POWER ON, is pending for each initiator, and none is registered. The
+    /// unit is not stopped, and no fault is armed. All memory is taken here.
     ///
     /// # Errors
     /// Memory was refused.
@@ -96,6 +99,7 @@ impl<S: Store> Target<S> {
             modes: ModePages::new(),
             attentions: Attentions::new(),
             reservations: Reservations::new(),
+            stopped: false,
             faults: Faults::new(),
         })
     }
@@ -155,7 +159,8 @@ impl<S: Store> Target<S> {
 
     /// A power cycle. The blocks are as they were, and the saved mode pages are the current ones.
     /// Registrations and reservation are as they were if they persist through a power loss, and
-    /// gone if not; PRGENERATION is 0. Only POWER ON is pending for each initiator.
+    /// gone if not; PRGENERATION is 0. Only POWER ON is pending for each initiator. The unit is not
+    /// stopped.
     pub fn power_cycle(&mut self)
         ensures { Happens Happening.Power self.old self.new }
     {
@@ -164,10 +169,11 @@ impl<S: Store> Target<S> {
         self.modes.power_on();
         self.attentions.clear_to_power_on();
         self.reservations.power_on();
+        self.stopped = false;
     }
 
     /// A reset, by the condition that it establishes for each initiator. The saved mode pages are
-    /// the current ones after it.
+    /// the current ones after it, and the unit is not stopped.
     fn reset(&mut self, condition: UnitAttention)
         ensures state { self.new.state ≡ after_reset condition self.old.state }
         ensures faults { self.new.faults ≡ self.old.faults }
@@ -175,6 +181,7 @@ impl<S: Store> Target<S> {
         ensures limits { IsWithinLimits self.new.state }
     {
         self.modes.power_on();
+        self.stopped = false;
         self.raise(&Raised::for_all(condition));
     }
 

@@ -1,14 +1,16 @@
-// VERIFY and COMPARE AND WRITE (SBC-3, 5.29 to 5.31, and 5.2).
+// VERIFY, WRITE AND VERIFY, and COMPARE AND WRITE (SBC-3, 5.29 to 5.31, 5.37 to 5.39, and 5.2).
 ghost use Rattle.std.specs.Prelude.{◌≡◌, ◌+◌, ◌≤◌, ◌∷◌, [], Ok};
 ghost use Rattle.sg_target.specs.BlockCommands.{comparing, comparing_each, exchanging};
 ghost use Rattle.sg_target.specs.Checks.{requested};
 ghost use Rattle.sg_target.specs.Charge.{TakesStep, cost_bounds};
-ghost use Rattle.sg_target.specs.Demands.{compare_and_write, extent, verify};
+ghost use Rattle.sg_target.specs.Demands.{compare_and_write, extent, verify, write_and_verify};
 ghost use Rattle.sg_target.specs.MadeReplies.{refused_reply};
 ghost use Rattle.sg_target.specs.Ranges.{exchange_ranges, range};
 ghost use Rattle.sg_target.specs.Step.{outcome, sense_format};
 
-use crate::block::{BlocksOut, LENGTH_AT_10, LENGTH_AT_12, LENGTH_AT_16, check_transfer_length};
+use crate::block::{
+    BlocksOut, LENGTH_AT_10, LENGTH_AT_12, LENGTH_AT_16, check_transfer_length, check_write,
+};
 use crate::config::Config;
 use crate::data_out::needed_data_out;
 use crate::extent::byte_length;
@@ -21,65 +23,91 @@ use sg_store::{BLOCK_LENGTH, Miscompare, Store};
 use sg_wire::{ByteCheck, CompareAndWrite, Extent, Initiator, Verify10, Verify12, Verify16};
 use std::marker::Model;
 
-/// Where BYTCHK is in the CDB of VERIFY.
+/// Where BYTCHK is in the CDBs of VERIFY, and of WRITE AND VERIFY.
 const BYTCHK_BYTE: u16 = 1;
 
 /// Where NUMBER OF LOGICAL BLOCKS is in the CDB of COMPARE AND WRITE.
 const NUMBER_OF_BLOCKS_BYTE: u16 = 13;
 
-// ---- VERIFY
+// ---- VERIFY, and WRITE AND VERIFY
 
-pub(crate) fn check_verify_10<'a>(
-    config: &Config,
-    fields: Verify10,
-    data_out: &'a [u8],
-) -> Result<Operation<'a>, Refusal>
-    ensures { let named = extent fields.extent.lba fields.extent.count in
-        result ≡ requested (verify config.now fields.byte_check named 7 data_out.now) data_out.now }
-{
-    let extent = Extent::from(fields.extent);
-    check_verify(config, fields.byte_check, extent, LENGTH_AT_10, data_out)
-}
-
-pub(crate) fn check_verify_12<'a>(
-    config: &Config,
-    fields: Verify12,
-    data_out: &'a [u8],
-) -> Result<Operation<'a>, Refusal>
-    ensures { let named = extent fields.extent.lba fields.extent.count in
-        result ≡ requested (verify config.now fields.byte_check named 6 data_out.now) data_out.now }
-{
-    let extent = Extent::from(fields.extent);
-    check_verify(config, fields.byte_check, extent, LENGTH_AT_12, data_out)
-}
-
-pub(crate) fn check_verify_16<'a>(
-    config: &Config,
-    fields: Verify16,
-    data_out: &'a [u8],
-) -> Result<Operation<'a>, Refusal>
-    ensures { let named = extent fields.extent.lba fields.extent.count in
-        result ≡ requested (verify config.now fields.byte_check named 10 data_out.now) data_out.now }
-{
-    let extent = Extent::from(fields.extent);
-    check_verify(config, fields.byte_check, extent, LENGTH_AT_16, data_out)
-}
-
-/// VERIFICATION LENGTH begins at the byte.
-fn check_verify<'a>(
-    config: &Config,
+/// What the CDBs of VERIFY, and of WRITE AND VERIFY, name: the three lengths of CDB differ only in where
+/// their fields are.
+#[derive(Clone, Copy)]
+pub(crate) struct Verification {
     byte_check: ByteCheck,
     extent: Extent,
-    byte: u16,
+    /// Where VERIFICATION LENGTH or TRANSFER LENGTH begins.
+    length_byte: u16,
+}
+
+impl From<Verify10> for Verification {
+    ghost from_gives = { λ ten fields. fields ≡ record {
+      byte_check = ten.byte_check;
+      extent = extent ten.extent.lba ten.extent.count;
+      length_byte = 7;
+    } };
+
+    fn from(fields: Verify10) -> Verification {
+        Verification {
+            byte_check: fields.byte_check,
+            extent: fields.extent.into(),
+            length_byte: LENGTH_AT_10,
+        }
+    }
+}
+
+impl From<Verify12> for Verification {
+    ghost from_gives = { λ twelve fields. fields ≡ record {
+      byte_check = twelve.byte_check;
+      extent = extent twelve.extent.lba twelve.extent.count;
+      length_byte = 6;
+    } };
+
+    fn from(fields: Verify12) -> Verification {
+        Verification {
+            byte_check: fields.byte_check,
+            extent: fields.extent.into(),
+            length_byte: LENGTH_AT_12,
+        }
+    }
+}
+
+impl From<Verify16> for Verification {
+    ghost from_gives = { λ sixteen fields. fields ≡ record {
+      byte_check = sixteen.byte_check;
+      extent = extent sixteen.extent.lba sixteen.extent.count;
+      length_byte = 10;
+    } };
+
+    fn from(fields: Verify16) -> Verification {
+        Verification {
+            byte_check: fields.byte_check,
+            extent: fields.extent.into(),
+            length_byte: LENGTH_AT_16,
+        }
+    }
+}
+
+/// VERIFY (10), (12) and (16).
+pub(crate) fn check_verify<'a>(
+    config: &Config,
+    fields: Verification,
     data_out: &'a [u8],
 ) -> Result<Operation<'a>, Refusal>
     ensures { result
-        ≡ requested (verify config.now byte_check extent byte data_out.now) data_out.now }
+        ≡ requested (verify config.now fields.byte_check fields.extent fields.length_byte data_out.now)
+        data_out.now }
 {
+    let Verification {
+        byte_check,
+        extent,
+        length_byte,
+    } = fields;
     if let ByteCheck::Reserved = byte_check {
         return Err(Refusal::CheckCondition(Reason::InvalidFieldInCdb { byte: BYTCHK_BYTE }));
     }
-    check_transfer_length(config, extent, byte)?;
+    check_transfer_length(config, extent, length_byte)?;
     match byte_check {
         ByteCheck::DataOut => Ok(Operation::Compare(BlocksOut::take(config, extent, data_out)?)),
         ByteCheck::OneBlock if extent.count > 0 => Ok(Operation::CompareEach {
@@ -89,6 +117,27 @@ fn check_verify<'a>(
             },
         }),
         _ => Ok(Operation::Verify(extent)),
+    }
+}
+
+/// WRITE AND VERIFY (10), (12) and (16), whose data-out is at most compared with the blocks that it has
+/// just replaced.
+pub(crate) fn check_verified_write<'a>(
+    config: &Config,
+    fields: Verification,
+    data_out: &'a [u8],
+) -> Result<Operation<'a>, Refusal>
+    ensures { result ≡ requested
+        (write_and_verify config.now fields.byte_check fields.extent fields.length_byte data_out.now)
+        data_out.now }
+{
+    match fields.byte_check {
+        ByteCheck::Nothing | ByteCheck::DataOut => {
+            check_write(config, fields.extent, fields.length_byte, data_out)
+        }
+        ByteCheck::Reserved | ByteCheck::OneBlock => {
+            Err(Refusal::CheckCondition(Reason::InvalidFieldInCdb { byte: BYTCHK_BYTE }))
+        }
     }
 }
 

@@ -1,5 +1,7 @@
 -- Digits, numbers and lists of numbers.
+pub mod DataOutLemmas
 pub mod DigitLemmas
+pub mod HexWordLemmas
 pub mod NumberLemmas
 pub mod NumberListLemmas
 -- Options, and the requests that they make.

@@ -5,6 +5,8 @@ pub mod GivenOptions
 pub mod HexDigits
 pub mod Number
 pub mod OptionTexts
+pub mod DataOut
+pub mod DataOutOptions
 pub mod Requests
 pub mod ParameterLists
 pub mod ExitStatus

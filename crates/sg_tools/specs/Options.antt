@@ -8,6 +8,10 @@ use Rattle.sg_tools.specs.ToolNames.{name_of}
 use Rattle.sg_tools.specs.declared.tool_name.ToolName.{ToolName}
 use Rattle.sg_tools.specs.declared.tool_name.ToolName.TheVariants.{SgInq, SgVpd, SgModes, SgUnmap}
 use Rattle.sg_tools.specs.declared.tool_name.ToolName.TheVariants.{SgGetLbaStatus, SgPersist}
+use Rattle.sg_tools.specs.declared.tool_name.ToolName.TheVariants.{SgTurs, SgRequests, SgLuns}
+use Rattle.sg_tools.specs.declared.tool_name.ToolName.TheVariants.{SgOpcodes, SgLogs, SgReadcap}
+use Rattle.sg_tools.specs.declared.tool_name.ToolName.TheVariants.{SgSync, SgVerify}
+use Rattle.sg_tools.specs.declared.tool_name.ToolName.TheVariants.{SgCompareAndWrite, SgWriteSame}
 
 -- ---- The tables
 
@@ -83,6 +87,65 @@ options_of SgPersist =
     ∷ flag "n" "no-inquiry"  -- nothing: no INQUIRY is sent in any case
     ∷ flag "i" "in"  -- nothing: PERSISTENT RESERVE IN is meant
     ∷ flag "o" "out"  -- nothing: PERSISTENT RESERVE OUT is meant
+    ∷ []
+options_of SgTurs = []
+options_of SgRequests =
+    flag "d" "desc"  -- DESC
+    ∷ text "m" "maxlen"  -- ALLOCATION LENGTH
+    ∷ flag "H" "hex"  -- hexadecimal digits are printed
+    ∷ []
+options_of SgLuns =
+    text "s" "select"  -- SELECT REPORT
+    ∷ text "m" "maxlen"  -- ALLOCATION LENGTH
+    ∷ flag "H" "hex"  -- hexadecimal digits are printed
+    ∷ []
+options_of SgOpcodes =
+    text "o" "opcode"  -- REPORTING OPTIONS and REQUESTED OPERATION CODE
+    ∷ text "s" "sa"  -- REPORTING OPTIONS and REQUESTED SERVICE ACTION
+    ∷ flag "R" "rctd"  -- RCTD
+    ∷ flag "t" "tmf"  -- REPORT SUPPORTED TASK MANAGEMENT FUNCTIONS in place of the other command
+    ∷ flag "q" "repd"  -- REPD and ALLOCATION LENGTH of that
+    ∷ flag "n" "no-inquiry"  -- nothing: no INQUIRY is sent in any case
+    ∷ flag "H" "hex"  -- hexadecimal digits are printed
+    ∷ []
+options_of SgLogs =
+    text "p" "page"  -- PAGE CODE and SUBPAGE CODE
+    ∷ text "m" "maxlen"  -- ALLOCATION LENGTH
+    ∷ flag "H" "hex"  -- hexadecimal digits are printed
+    ∷ []
+options_of SgReadcap =
+    long_flag "16"  -- READ CAPACITY(16) in place of READ CAPACITY(10)
+    ∷ flag "l" "long"  -- the same
+    ∷ flag "H" "hex"  -- hexadecimal digits are printed
+    ∷ []
+options_of SgSync =
+    flag "S" "16"  -- SYNCHRONIZE CACHE(16) in place of SYNCHRONIZE CACHE(10)
+    ∷ text "l" "lba"  -- LOGICAL BLOCK ADDRESS
+    ∷ text "c" "count"  -- NUMBER OF LOGICAL BLOCKS
+    ∷ []
+options_of SgVerify =
+    flag "S" "16"  -- VERIFY(16) in place of VERIFY(10)
+    ∷ text "l" "lba"  -- LOGICAL BLOCK ADDRESS
+    ∷ text "c" "count"  -- VERIFICATION LENGTH
+    ∷ text "E" "ebytchk"  -- BYTCHK
+    ∷ text "i" "in"  -- data-out
+    ∷ flag "0" "0"  -- data-out: a block of zeros
+    ∷ flag "f" "ff"  -- data-out: a block of FFh
+    ∷ []
+options_of SgCompareAndWrite =
+    text "l" "lba"  -- LOGICAL BLOCK ADDRESS
+    ∷ text "n" "num"  -- NUMBER OF LOGICAL BLOCKS
+    ∷ text "i" "in"  -- data-out
+    ∷ []
+options_of SgWriteSame =
+    flag "R" "10"  -- WRITE SAME(10)
+    ∷ flag "S" "16"  -- WRITE SAME(16)
+    ∷ text "l" "lba"  -- LOGICAL BLOCK ADDRESS
+    ∷ text "n" "num"  -- NUMBER OF LOGICAL BLOCKS
+    ∷ flag "a" "anchor"  -- ANCHOR
+    ∷ flag "U" "unmap"  -- UNMAP
+    ∷ text "i" "in"  -- data-out
+    ∷ flag "f" "ff"  -- data-out: a block of FFh in place of zeros
     ∷ []
 
 -- ---- The command line

@@ -2,13 +2,17 @@
 -- of docs/DECISIONS.md). Of two faults, the first in this order is returned: `Usage` of clap, or of
 -- a list that is not given; `Exclusive`; `Number`; any other `Usage`.
 use Rattle.std.specs.Prelude.{ℕ, ◌^◌, ◌-◌, List, [], ◌∷◌, length, codes, filter, map, Option, Some}
-use Rattle.std.specs.Prelude.{None, is_some, Result, Ok, Err, Bool, true, false, ◌==◌, ◌&&◌, ◌||◌}
+use Rattle.std.specs.Prelude.{None, is_some, Result, Ok, Err, Bool, true, false, ◌==◌, ◌&&◌, ◌||◌, not}
 use Rattle.std.specs.Prelude.{nat_le, option_and_then, if◌then◌else◌}
 use Rattle.clap.specs.Words.{Row, Text}
 use Rattle.sg_tools.specs.Options.{command_line}
 use Rattle.sg_tools.specs.GivenOptions.{is_set, given_options, text_of}
 use Rattle.sg_tools.specs.OptionTexts.{reservation_key, reservation_type, numbers_up_to, mode_page}
 use Rattle.sg_tools.specs.OptionTexts.{number_or, value_or, vpd_page}
+use Rattle.sg_tools.specs.DataOutOptions.{block_or_nothing, byte_check_or, data_or, excludes}
+use Rattle.sg_tools.specs.DataOutOptions.{filled_block, given_bytes, has_data, has_two_sources}
+use Rattle.sg_tools.specs.DataOutOptions.{is_none_given, short_extent, write_same}
+use Rattle.sg_tools.specs.Number.{number_up_to}
 use Rattle.sg_wire.specs.OutList.{list_length}
 use Rattle.sg_wire.specs.PageControl.{page_control_with}
 use Rattle.sg_wire.specs.UnmapList.{maximum_unmap_descriptors, unmap_list_length}
@@ -26,8 +30,14 @@ use Rattle.sg_tools.specs.declared.tool_fault.ToolFault.TheVariants.{Usage, Numb
 use Rattle.sg_tools.specs.declared.tool_name.ToolName.{ToolName}
 use Rattle.sg_tools.specs.declared.tool_name.ToolName.TheVariants.{SgInq, SgVpd, SgModes, SgUnmap}
 use Rattle.sg_tools.specs.declared.tool_name.ToolName.TheVariants.{SgGetLbaStatus, SgPersist}
+use Rattle.sg_tools.specs.declared.tool_name.ToolName.TheVariants.{SgTurs, SgRequests, SgLuns}
+use Rattle.sg_tools.specs.declared.tool_name.ToolName.TheVariants.{SgOpcodes, SgLogs, SgReadcap}
+use Rattle.sg_tools.specs.declared.tool_name.ToolName.TheVariants.{SgSync, SgVerify}
+use Rattle.sg_tools.specs.declared.tool_name.ToolName.TheVariants.{SgCompareAndWrite, SgWriteSame}
 use Rattle.sg_wire.specs.declared.command.Command.{Command}
 use Rattle.sg_wire.specs.declared.command.Command.TheVariants.{ModeSense6, ModeSense10}
+use Rattle.sg_wire.specs.declared.command.Command.TheVariants.{ReadCapacity10, SynchronizeCache10}
+use Rattle.sg_wire.specs.declared.command.Command.TheVariants.{SynchronizeCache16, TestUnitReady}
 use Rattle.sg_wire.specs.declared.command.mode.CdbWidth.{CdbWidth}
 use Rattle.sg_wire.specs.declared.command.mode.CdbWidth.TheVariants.{Six, Ten}
 use Rattle.sg_wire.specs.declared.command.mode.PageRequest.{PageRequest}
@@ -268,6 +278,179 @@ sg_persist rows =
       aptpl = is_set (codes "param-aptpl") rows;
     })))))
 
+-- ---- sg_turs and sg_requests: TEST UNIT READY and REQUEST SENSE
+
+abbrev pub sg_turs : Request
+sg_turs = asks TestUnitReady show.Nothing
+
+-- An allocation length of 0 is as if none was given.
+abbrev pub length_or : (default : ℕ) → (given : ℕ) → ℕ
+length_or default given = if given == 0 then default else given
+
+-- The text of an answer, or hex lines with --hex.
+abbrev pub text_or_hex : Show → List Row → Show
+text_or_hex text rows = if is_set (codes "hex") rows then show.Hex else text
+
+abbrev pub sg_requests : List Row → Request
+sg_requests rows =
+    with_value (number_or 0 0xFF (text_of (codes "maxlen") rows)) (λ length.
+    asks (command.request_sense (is_set (codes "desc") rows) (length_or 252 length))
+    (text_or_hex show.Sense rows))
+
+-- ---- sg_luns: REPORT LUNS
+
+abbrev pub sg_luns : List Row → Request
+sg_luns rows =
+    with_value (number_or 0 0xFF (text_of (codes "select") rows)) (λ select.
+    with_value (number_or 0 (2 ^ 32 - 1) (text_of (codes "maxlen") rows)) (λ length.
+    asks (command.report_luns select (length_or 8192 length)) (text_or_hex show.Luns rows)))
+
+-- ---- sg_opcodes: REPORT SUPPORTED OPERATION CODES, or with --tmf REPORT SUPPORTED TASK MANAGEMENT
+-- FUNCTIONS
+
+-- REPORTING OPTIONS (SPC-4, 6.35): all commands, the command with an operation code, or the one with
+-- an operation code and a service action.
+abbrev pub reporting_options : (opcode action : Option Text) → ℕ
+reporting_options None action = 0
+reporting_options (Some opcode) None = 1
+reporting_options (Some opcode) (Some action) = 2
+
+-- With REPD the answer has 16 bytes, and without it 4 (SPC-4, 6.36).
+abbrev pub task_management : (repd : Bool) → Show → Request
+task_management repd shown =
+    asks (command.report_task_management repd (if repd then 16 else 4)) shown
+
+abbrev pub operation_codes : (rctd : Bool) (options opcode action : ℕ) → Show → Request
+operation_codes rctd options opcode action shown =
+    asks (command.report_operation_codes rctd options opcode action 8192) shown
+
+-- The answer is about all commands, or about the one with an operation code.
+abbrev pub codes_text : (opcode : Option Text) → Show
+codes_text None = show.AllCommands
+codes_text (Some opcode) = show.OneCommand
+
+-- --sa needs --opcode, unless --tmf is given. With --tmf, --opcode, --sa and --rctd set nothing, and
+-- without it --repd.
+abbrev pub sg_opcodes : List Row → Request
+sg_opcodes rows =
+    let opcode = text_of (codes "opcode") rows in
+    let action = text_of (codes "sa") rows in
+    with_value (number_or 0 0xFF opcode) (λ code.
+    with_value (number_or 0 0xFFFF action) (λ action_code.
+    if is_set (codes "tmf") rows
+    then task_management (is_set (codes "repd") rows) (text_or_hex show.TaskManagement rows)
+    else (if is_some action && not (is_some opcode) then Err Usage
+    else operation_codes (is_set (codes "rctd") rows) (reporting_options opcode action) code
+    action_code (text_or_hex (codes_text opcode) rows))))
+
+-- ---- sg_logs: LOG SENSE
+
+-- Without --page it asks for the supported pages, page 00h.
+abbrev pub sg_logs : List Row → Request
+sg_logs rows =
+    with_value (value_or (0x00, 0x00) mode_page (text_of (codes "page") rows)) (λ page.
+    with_value (number_or 0 0xFFFF (text_of (codes "maxlen") rows)) (λ length.
+    asks (command.log_sense page.0 page.1 (length_or 65532 length)) (text_or_hex show.LogPage rows)))
+
+-- ---- sg_readcap: READ CAPACITY(10), or with --16 or --long READ CAPACITY(16)
+
+abbrev pub read_capacity : (long : Bool) → Command
+read_capacity long = if long then command.read_capacity_16 32 else ReadCapacity10
+
+abbrev pub capacity_text : (long : Bool) → Show
+capacity_text long = if long then show.Capacity16 else show.Capacity10
+
+abbrev pub sg_readcap : List Row → Request
+sg_readcap rows =
+    let long = is_set (codes "16") rows || is_set (codes "long") rows in
+    asks (read_capacity long) (text_or_hex (capacity_text long) rows)
+
+-- ---- sg_sync: SYNCHRONIZE CACHE(10), or with --16 SYNCHRONIZE CACHE(16)
+
+-- An address and a count have to fit their fields.
+abbrev pub synchronize_10 : (lba count : Option Text) → Request
+synchronize_10 lba count =
+    with_value (number_or 0 (2 ^ 32 - 1) lba) (λ lba.
+    with_value (number_or 0 (2 ^ 16 - 1) count) (λ count.
+    asks (command.naming_10 SynchronizeCache10 lba count) show.Nothing))
+
+abbrev pub synchronize_16 : (lba count : Option Text) → Request
+synchronize_16 lba count =
+    with_value (number_or 0 (2 ^ 64 - 1) lba) (λ lba.
+    with_value (number_or 0 (2 ^ 32 - 1) count) (λ count.
+    asks (command.naming_16 SynchronizeCache16 lba count) show.Nothing))
+
+abbrev pub sg_sync : List Row → Request
+sg_sync rows =
+    let lba = text_of (codes "lba") rows in
+    let count = text_of (codes "count") rows in
+    if is_set (codes "16") rows then synchronize_16 lba count else synchronize_10 lba count
+
+-- ---- sg_verify: VERIFY(10), or with --16 VERIFY(16)
+
+abbrev pub verify_10 : (byte_check : ℕ) → Parameters → (lba count : Option Text) → Request
+verify_10 byte_check sent lba count =
+    with_value (number_or 0 (2 ^ 32 - 1) lba) (λ lba.
+    with_value (number_or 1 (2 ^ 16 - 1) count) (λ count.
+    sends (command.verify_10 byte_check lba count) sent show.Nothing))
+
+abbrev pub verify_16 : (byte_check : ℕ) → Parameters → (lba count : Option Text) → Request
+verify_16 byte_check sent lba count =
+    with_value (number_or 0 (2 ^ 64 - 1) lba) (λ lba.
+    with_value (number_or 1 (2 ^ 32 - 1) count) (λ count.
+    sends (command.verify_16 byte_check lba count) sent show.Nothing))
+
+abbrev pub verify : (long : Bool) → (byte_check : Option ℕ) → Option Parameters
+    → (lba count : Option Text) → Request
+verify long byte_check sent lba count =
+    with_value byte_check (λ byte_check. with_value sent (λ sent.
+    if long then verify_16 byte_check sent lba count else verify_10 byte_check sent lba count))
+
+abbrev pub sg_verify : List Row → Request
+sg_verify rows =
+    let word = text_of (codes "in") rows in
+    let zeros = is_set (codes "0") rows in
+    let ones = is_set (codes "ff") rows in
+    unless_exclusive (has_two_sources (is_some word) zeros ones)
+    (verify (is_set (codes "16") rows)
+    (byte_check_or (has_data (is_some word) zeros ones) (text_of (codes "ebytchk") rows))
+    (data_or (block_or_nothing zeros ones) word)
+    (text_of (codes "lba") rows) (text_of (codes "count") rows))
+
+-- ---- sg_compare_and_write: COMPARE AND WRITE
+
+-- Both have to be given: an address, and the data-out, whose first half is compared with the blocks.
+abbrev pub sg_compare_and_write : List Row → Request
+sg_compare_and_write rows =
+    with_both_lists (text_of (codes "lba") rows) (text_of (codes "in") rows) (λ lba word.
+    with_value (number_up_to (2 ^ 64 - 1) lba) (λ lba.
+    with_value (number_or 1 0xFF (text_of (codes "num") rows)) (λ count.
+    with_value (given_bytes word) (λ sent.
+    sends (command.compare_and_write lba count) sent show.Nothing))))
+
+-- ---- sg_write_same: WRITE SAME(10) or WRITE SAME(16)
+
+abbrev pub write_block : (short long anchor unmap : Bool) → (lba count : Option ℕ)
+    → Option Parameters → Request
+write_block short long anchor unmap lba count sent =
+    with_value lba (λ lba. with_value count (λ count. with_value sent (λ sent.
+    with_value (write_same short long anchor unmap lba count (short_extent lba count)) (λ command.
+    sends command sent show.Nothing))))
+
+abbrev pub sg_write_same : List Row → Request
+sg_write_same rows =
+    let word = text_of (codes "in") rows in
+    let lba = text_of (codes "lba") rows in
+    let count = text_of (codes "num") rows in
+    let short = is_set (codes "10") rows in
+    let long = is_set (codes "16") rows in
+    let ones = is_set (codes "ff") rows in
+    if is_none_given (is_some word) (is_some lba) (is_some count) then Err Usage
+    else unless_exclusive (excludes (is_some word) ones short long)
+    (write_block short long (is_set (codes "anchor") rows) (is_set (codes "unmap") rows)
+    (number_or 0 (2 ^ 64 - 1) lba) (number_or 1 (2 ^ 32 - 1) count)
+    (data_or (filled_block ones) word))
+
 -- ---- Every tool
 
 abbrev pub request_of : ToolName → List Row → Request
@@ -277,6 +460,16 @@ request_of SgModes rows = sg_modes rows
 request_of SgUnmap rows = sg_unmap rows
 request_of SgGetLbaStatus rows = sg_get_lba_status rows
 request_of SgPersist rows = sg_persist rows
+request_of SgTurs rows = sg_turs
+request_of SgRequests rows = sg_requests rows
+request_of SgLuns rows = sg_luns rows
+request_of SgOpcodes rows = sg_opcodes rows
+request_of SgLogs rows = sg_logs rows
+request_of SgReadcap rows = sg_readcap rows
+request_of SgSync rows = sg_sync rows
+request_of SgVerify rows = sg_verify rows
+request_of SgCompareAndWrite rows = sg_compare_and_write rows
+request_of SgWriteSame rows = sg_write_same rows
 
 abbrev pub request_by : ToolName → Result (List Row) ToolFault → Request
 request_by tool (Err fault) = Err fault

@@ -27,7 +27,7 @@ pub(crate) fn sg_modes(options: &GivenOptions) -> Result<Tool, ToolFault>
         return Err(ToolFault::Exclusive);
     }
     let page_control = page_control(options.text("control"));
-    let page = mode_page_or_all(page);
+    let page = mode_page_or(ALL_PAGES, page);
     let (Some(page_control), Some((page_code, subpage_code))) = (page_control, page) else {
         return Err(ToolFault::Number);
     };
@@ -82,12 +82,13 @@ fn page_control(text: Option<&str>) -> Option<PageControl>
     PageControl::with_code(number_or(0, 3, text)? as u8)
 }
 
-/// The page and the subpage of a text; all pages if there is no text.
-fn mode_page_or_all(text: Option<&str>) -> Option<(PageCode, u8)>
-    ensures { result ≡ value_or (0x3F, 0x00) mode_page (option_map (λ t. t.now) text.entry) }
+/// The page and the subpage of a text. If there is no text, the page is the default.
+pub(crate) fn mode_page_or(default: u64, text: Option<&str>) -> Option<(PageCode, u8)>
+    requires { default ≤ 0x3F }
+    ensures { result ≡ value_or (default, 0x00) mode_page (option_map (λ t. t.now) text.entry) }
 {
     match text {
-        None => both(Some(ALL_PAGES), Some(0x00)),
+        None => both(Some(default), Some(0x00)),
         Some(text) => mode_page(text.as_bytes()),
     }
 }

@@ -73,6 +73,51 @@ const SG_PERSIST: &[ToolOption] = &[
     Flag('o', "out"),
 ];
 
+const SG_TURS: &[ToolOption] = &[];
+
+const SG_REQUESTS: &[ToolOption] = &[Flag('d', "desc"), Text('m', "maxlen"), Flag('H', "hex")];
+
+const SG_LUNS: &[ToolOption] = &[Text('s', "select"), Text('m', "maxlen"), Flag('H', "hex")];
+
+const SG_OPCODES: &[ToolOption] = &[
+    Text('o', "opcode"),
+    Text('s', "sa"),
+    Flag('R', "rctd"),
+    Flag('t', "tmf"),
+    Flag('q', "repd"),
+    Flag('n', "no-inquiry"),
+    Flag('H', "hex"),
+];
+
+const SG_LOGS: &[ToolOption] = &[Text('p', "page"), Text('m', "maxlen"), Flag('H', "hex")];
+
+const SG_READCAP: &[ToolOption] = &[LongFlag("16"), Flag('l', "long"), Flag('H', "hex")];
+
+const SG_SYNC: &[ToolOption] = &[Flag('S', "16"), Text('l', "lba"), Text('c', "count")];
+
+const SG_VERIFY: &[ToolOption] = &[
+    Flag('S', "16"),
+    Text('l', "lba"),
+    Text('c', "count"),
+    Text('E', "ebytchk"),
+    Text('i', "in"),
+    Flag('0', "0"),
+    Flag('f', "ff"),
+];
+
+const SG_COMPARE_AND_WRITE: &[ToolOption] = &[Text('l', "lba"), Text('n', "num"), Text('i', "in")];
+
+const SG_WRITE_SAME: &[ToolOption] = &[
+    Flag('R', "10"),
+    Flag('S', "16"),
+    Text('l', "lba"),
+    Text('n', "num"),
+    Flag('a', "anchor"),
+    Flag('U', "unmap"),
+    Text('i', "in"),
+    Flag('f', "ff"),
+];
+
 /// The options of a tool.
 fn options_of(tool: ToolName) -> &'static [ToolOption]
     ensures { option_rows result.now ≡ options_of tool }
@@ -84,6 +129,16 @@ fn options_of(tool: ToolName) -> &'static [ToolOption]
         ToolName::SgUnmap => SG_UNMAP,
         ToolName::SgGetLbaStatus => SG_GET_LBA_STATUS,
         ToolName::SgPersist => SG_PERSIST,
+        ToolName::SgTurs => SG_TURS,
+        ToolName::SgRequests => SG_REQUESTS,
+        ToolName::SgLuns => SG_LUNS,
+        ToolName::SgOpcodes => SG_OPCODES,
+        ToolName::SgLogs => SG_LOGS,
+        ToolName::SgReadcap => SG_READCAP,
+        ToolName::SgSync => SG_SYNC,
+        ToolName::SgVerify => SG_VERIFY,
+        ToolName::SgCompareAndWrite => SG_COMPARE_AND_WRITE,
+        ToolName::SgWriteSame => SG_WRITE_SAME,
     }
 }
 

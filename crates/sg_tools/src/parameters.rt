@@ -1,25 +1,26 @@
-// The parameter lists that tools send, as `sg_wire` writes them.
+// The data-out that tools send: parameter lists as `sg_wire` writes them, and what options give.
 ghost use Rattle.std.specs.Prelude.{◌≡◌, ◌≤◌, length};
 ghost use Rattle.sg_wire.specs.Cut.{Puts};
 ghost use Rattle.sg_wire.specs.FirstBytes.{overwritten};
 ghost use Rattle.sg_tools.specs.ParameterLists.{max_data_out, parameter_list};
 
+use crate::data_out::{BLOCK_LENGTH, DataOut, MAX_DATA_OUT};
 use sg_wire::laws::answers_are_in_their_buffers;
 use sg_wire::{Cut, OutList, UnmapList};
 
-/// The length of the longest data-out of a tool, in bytes. It is a list of UNMAP with the most
-/// descriptors.
-pub const MAX_DATA_OUT: usize = UnmapList::MAXIMUM_LENGTH;
-
-/// The parameter list that a tool sends.
+/// The data-out that a tool sends.
 #[derive(Drop)]
 pub enum Parameters {
-    /// No parameter list.
+    /// No byte.
     Nothing,
     /// The parameter list of UNMAP.
     Unmap(UnmapList),
     /// The parameter list of PERSISTENT RESERVE OUT.
     ReserveOut(OutList),
+    /// Bytes that an option gives.
+    Bytes(DataOut),
+    /// A logical block, each of whose bytes is this one.
+    Block(u8),
 }
 
 impl Parameters {
@@ -44,6 +45,8 @@ impl Parameters {
             Parameters::Nothing => cut.put(&[]),
             Parameters::Unmap(list) => list.write(cut),
             Parameters::ReserveOut(list) => cut.put(&list.write()),
+            Parameters::Bytes(bytes) => cut.put(bytes.as_slice()),
+            Parameters::Block(byte) => cut.put(&[*byte; BLOCK_LENGTH]),
         }
     }
 }

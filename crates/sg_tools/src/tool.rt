@@ -4,18 +4,26 @@ ghost use Rattle.sg_wire.specs.FirstBytes.{overwritten};
 ghost use Rattle.sg_wire.specs.CdbEncoding.{cdb_of};
 ghost use Rattle.sg_tools.specs.GivenOptions.{IsUnlessOutOfMemory};
 ghost use Rattle.sg_tools.specs.ParameterLists.{max_data_out, parameter_list};
-ghost use Rattle.sg_tools.specs.Requests.{asks, request, request_of};
+ghost use Rattle.sg_tools.specs.Requests.{asks, request, request_of, sends};
 
+use crate::capacity::sg_readcap;
+use crate::compare_and_write::sg_compare_and_write;
 use crate::given_options::GivenOptions;
 use crate::inquiry::{sg_inq, sg_vpd};
 use crate::lba_status::sg_get_lba_status;
+use crate::log_sense::sg_logs;
 use crate::mode_sense::sg_modes;
 use crate::parameters::Parameters;
+use crate::report::{sg_luns, sg_opcodes};
 use crate::reserve::sg_persist;
 use crate::show::Show;
+use crate::synchronize_cache::sg_sync;
 use crate::tool_fault::ToolFault;
 use crate::tool_name::ToolName;
+use crate::unit_state::{sg_requests, sg_turs};
 use crate::unmap::sg_unmap;
+use crate::verify::sg_verify;
+use crate::write_same::sg_write_same;
 use sg_wire::{CdbBytes, Command};
 use std::alloc::Global;
 
@@ -48,11 +56,14 @@ impl Tool {
     ///
     /// # Errors
     /// The first of these that applies:
-    /// - `Usage` if clap does not accept the words, or if a list of sg_unmap is not given.
+    /// - `Usage` if clap does not accept the words, or if an option is not given that has to be: a
+    ///   list of sg_unmap, `--lba` or `--in` of sg_compare_and_write, and one of `--in`, `--lba` and
+    ///   `--num` of sg_write_same.
     /// - `Exclusive` if two options exclude one another.
     /// - `Number` if the text of an option, needed or not, has no value or a value out of range.
     /// - `Usage` if the lists of sg_unmap have unequal lengths or more than 64 entries, or if
-    ///   `--out` of sg_persist is given without a service action.
+    ///   `--out` of sg_persist is given without a service action, or `--sa` of sg_opcodes without
+    ///   `--opcode` and without `--tmf`.
     ///
     /// If memory is refused, `OutOfMemory` comes in place of any result.
     pub fn parse<'a>(alloc: Global, tool: ToolName, words: &'a [&'a str]) -> Result<Tool, ToolFault>
@@ -84,6 +95,17 @@ impl Tool {
         }
     }
 
+    /// A tool whose answer has no data-in.
+    pub(crate) fn with_data_out(command: Command, parameters: Parameters) -> Tool
+        ensures { Ok result ≡ sends command parameters Show.Nothing }
+    {
+        Tool {
+            command,
+            parameters,
+            show: Show::Nothing,
+        }
+    }
+
     /// A tool without data-out.
     pub(crate) fn without_parameters(command: Command, show: Show) -> Tool
         ensures { Ok result ≡ asks command show }
@@ -107,5 +129,15 @@ fn request_of(tool: ToolName, options: &GivenOptions) -> Result<Tool, ToolFault>
         ToolName::SgUnmap => sg_unmap(options),
         ToolName::SgGetLbaStatus => sg_get_lba_status(options),
         ToolName::SgPersist => sg_persist(options),
+        ToolName::SgTurs => Ok(sg_turs()),
+        ToolName::SgRequests => sg_requests(options),
+        ToolName::SgLuns => sg_luns(options),
+        ToolName::SgOpcodes => sg_opcodes(options),
+        ToolName::SgLogs => sg_logs(options),
+        ToolName::SgReadcap => Ok(sg_readcap(options)),
+        ToolName::SgSync => sg_sync(options),
+        ToolName::SgVerify => sg_verify(options),
+        ToolName::SgCompareAndWrite => sg_compare_and_write(options),
+        ToolName::SgWriteSame => sg_write_same(options),
     }
 }

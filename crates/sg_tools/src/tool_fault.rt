@@ -4,7 +4,8 @@ use thiserror::Error;
 #[derive(Clone, Copy, Debug, Error, PartialEq, Eq)]
 pub enum ToolFault {
     /// The tool does not take the words, a list is missing, or lists have unequal lengths or too
-    /// many entries. Or `--out` is given, and no service action.
+    /// many entries. Or an option is given without the one that it needs: `--out` of sg_persist, or
+    /// `--sa` of sg_opcodes.
     #[error("the words are not those of the tool")]
     Usage,
     /// The text of an option has no value, or a value that is out of range.

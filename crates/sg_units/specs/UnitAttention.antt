@@ -1,6 +1,6 @@
 -- Unit attention conditions (SAM-5, 5.14).
 use Rattle.std.specs.Prelude.{ℕ, ◌+◌, ◌*◌, List, [], ◌∷◌, length}
-use Rattle.std.specs.Prelude.{Bool, ◌&&◌, ◌==◌, find, is_some, Option, Some, None}
+use Rattle.std.specs.Prelude.{Bool, not, ◌&&◌, ◌||◌, ◌==◌, find, is_some, Option, Some, None}
 use Rattle.sg_units.specs.declared.unit_attention.UnitAttention.{UnitAttention}
 use Rattle.sg_units.specs.declared.unit_attention.UnitAttention.TheVariants.{MediumMayHaveChanged}
 use Rattle.sg_units.specs.declared.unit_attention.UnitAttention.TheVariants.{PowerOn, ScsiBusReset}
@@ -84,3 +84,12 @@ reset_precedence _ = None
 
 abbrev pub is_reset : UnitAttention → Bool
 is_reset condition = is_some (reset_precedence condition)
+
+-- The additional sense code of every reset: POWER ON, RESET, OR BUS DEVICE RESET OCCURRED.
+abbrev pub reset_code : ℕ
+reset_code = 0x29
+
+-- A condition is reported in place of a command, even if the command conflicts with a reservation
+-- (SAM-5, 5.3.3). Every condition is if resets are not the only ones.
+abbrev pub outranks_conflict : (only_resets : Bool) → UnitAttention → Bool
+outranks_conflict only_resets condition = not only_resets || (code_of condition).0 == reset_code

@@ -39,7 +39,7 @@ impl Model for Reservations {
     ghost invariant = { λ r. IsConsistent r.state };
 }
 
-ghost use Rattle.std.specs.Prelude.{◌≡◌, ◌≤◌, Ok, IfOk, length};
+ghost use Rattle.std.specs.Prelude.{◌≡◌, ◌≤◌, Ok, IfOk, is_some, length};
 ghost use Rattle.sg_wire.specs.Cut.{Puts};
 ghost use Rattle.sg_units.specs.Access.{allows};
 ghost use Rattle.sg_units.specs.FullStatus.{full_status_data, longest_reserve_in};
@@ -136,6 +136,13 @@ impl Reservations {
         } else {
             self.state = ReservationState::new();
         }
+    }
+
+    /// Returns `true` if a reservation is held.
+    pub fn is_reserved(&self) -> bool
+        ensures { result ≡ is_some self.now.reservation }
+    {
+        self.state.reservation.is_some()
     }
 
     /// Returns `true` if the reservation that is held, if any, allows an initiator's command of a

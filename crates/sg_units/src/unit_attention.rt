@@ -1,5 +1,6 @@
 ghost use Rattle.std.specs.Prelude.{◌≡◌};
-ghost use Rattle.sg_units.specs.UnitAttention.{code_of, condition_with, is_reset, reset_precedence};
+ghost use Rattle.sg_units.specs.UnitAttention.{code_of, condition_with, is_reset, outranks_conflict};
+ghost use Rattle.sg_units.specs.UnitAttention.{reset_precedence};
 
 /// A unit attention condition that the disk establishes (SAM-5, 5.14), by its additional sense
 /// code.
@@ -112,6 +113,14 @@ impl UnitAttention {
             UnitAttention::NexusLoss => Some(4),
             _ => None,
         }
+    }
+
+    /// Returns `true` if it is reported in place of a command that conflicts with a reservation
+    /// (SAM-5, 5.3.3). With `only_resets` only the conditions of 29h are.
+    pub fn outranks_conflict(self, only_resets: bool) -> bool
+        ensures { result ≡ outranks_conflict only_resets self }
+    {
+        !only_resets || self.is_reset()
     }
 
     /// A reset or a lost I_T nexus establishes it.

@@ -1,9 +1,11 @@
--- The command of a CDB has the operation code, the profile and the class of the row that made it.
+-- The command of a CDB has the operation code and the profile of the row that made it, and the class of the
+-- CDB.
 use Rattle.std.proofs.Common.{◌≡◌, ℕ, List, [], ◌∷◌, length, map, filter, Option, Some, None}
-use Rattle.std.proofs.Common.{Result, Ok, Err, Bool, true, false, cond, refl, sym, ap, subst, ◌∙◌}
+use Rattle.std.proofs.Common.{Result, Ok, Err, Bool, true, false, cond, refl, ap, subst, ◌∙◌}
 use Rattle.std.specs.Prelude.{◌==◌, ◌&&◌, find, nat_lt, if◌then◌else◌}
 use Rattle.std.specs.Option.{option_map_or}
-use Rattle.sg_wire.specs.CdbDecoding.{class_by_rows, class_in, command_by_row, command_by_rows}
+use Rattle.sg_wire.specs.CdbDecoding.{class_by_row, class_by_rows, class_in, command_by_row}
+use Rattle.sg_wire.specs.CdbDecoding.{command_by_rows}
 use Rattle.sg_wire.specs.CdbDecoding.{command_in, first_bad, has_action_of, make_from, masks, rows_in}
 use Rattle.sg_wire.specs.CdbDecoding.{unless_bad}
 use Rattle.sg_wire.specs.Layout.{Layout, each_command, layout, length_of}
@@ -17,21 +19,22 @@ use Rattle.sg_wire.specs.declared.profile.Profile.{Profile}
 
 -- two layouts of one row, that may differ in the values of its fields
 abbrev AreOfOneRow : Layout → Layout → Type 0
-AreOfOneRow l m = (l.class ≡ m.class) × (l.opcode ≡ m.opcode) × (l.profile ≡ m.profile)
+AreOfOneRow l m = (l.opcode ≡ m.opcode) × (l.profile ≡ m.profile)
 
 -- a row makes commands of its own
 abbrev Makes : Layout → Type 0
 Makes l = (cdb : List ℕ) → AreOfOneRow (layout (make_from cdb l.fields l.make)) l
 
 makes : (command : Command) → Makes (layout command)
-makes command.TestUnitReady cdb = (refl, refl, refl)
-makes other cdb = (refl, refl, refl)
+makes command.TestUnitReady cdb = (refl, refl)
+makes other cdb = (refl, refl)
 
 -- the row that made a command of a CDB, among the rows with a property
 pub record MadeByRow (property : Layout → Bool) (cdb : List ℕ) (rows : List Layout)
     (command : Command) : Type 0 where
   pub row : Layout
   pub found : find (has_action_of cdb) rows ≡ Some row
+  pub made : make_from cdb row.fields row.make ≡ command
   pub is_its : AreOfOneRow (layout command) row
   pub holds : property row ≡ true
 
@@ -67,24 +70,25 @@ module _ (property : Layout → Bool) where
   find-of p [] h = tt
   find-of p (l ∷ ls) h = found-first (p l) l (find p ls) h.0 (find-of p ls h.1)
 
-  made : (bad : Option ℕ) (command other : Command) (l : Layout) → AreOfOneRow (layout other) l
-      → unless_bad bad other ≡ Ok command → AreOfOneRow (layout command) l
-  made None command other l h e =
-      let same : other ≡ command = cc in
-      subst (λ (c : Command). AreOfOneRow (layout c) l) same h
-  made (Some byte) command other l h e = cc
+  made-is : (bad : Option ℕ) (command other : Command) → unless_bad bad other ≡ Ok command
+      → other ≡ command
+  made-is None command other e = cc
+  made-is (Some byte) command other e = cc
 
   module _ (cdb : List ℕ) (command : Command) where
     by_row : (rows : List Layout) (found : Option Layout) → find (has_action_of cdb) rows ≡ found
         → IsOfIfFound found → command_by_row cdb found ≡ Ok command
         → MadeByRow property cdb rows command
     by_row rows None is h e = cc
-    by_row rows (Some l) is h e = record {
-      row = l;
-      found = is;
-      is_its = made (first_bad 0 (masks l) cdb) command (make_from cdb l.fields l.make) l (h.0 cdb) e;
-      holds = h.1;
-    }
+    by_row rows (Some l) is h e =
+        let made = made-is (first_bad 0 (masks l) cdb) command (make_from cdb l.fields l.make) e in
+        record {
+          row = l;
+          found = is;
+          made = made;
+          is_its = subst (λ (c : Command). AreOfOneRow (layout c) l) made (h.0 cdb);
+          holds = h.1;
+        }
 
     unless_short : (is_short : Bool) (count : ℕ) (parse : Result Command CdbFault)
         → (if is_short then Err (Short count) else parse) ≡ Ok command → parse ≡ Ok command
@@ -112,10 +116,10 @@ made-by_row profile opcode rest command e =
     (are-of (is_row_in profile opcode) each_command) e
 
 class-by_rows : (cdb : List ℕ) (rows : List Layout) (l : Layout)
-    → find (has_action_of cdb) rows ≡ Some l → class_by_rows cdb rows ≡ Some l.class
+    → find (has_action_of cdb) rows ≡ Some l → class_by_rows cdb rows ≡ Some (class_by_row cdb l)
 class-by_rows cdb [] l e = cc
 class-by_rows cdb (first ∷ ls) l e =
-    ap (λ (found : Option Layout). Some (option_map_or (λ (l : Layout). l.class) found Always)) e
+    ap (λ (found : Option Layout). Some (option_map_or (class_by_row cdb) found Always)) e
 
 pub class-of_command : (profile : Profile) (cdb : List ℕ) (command : Command)
     → command_in profile cdb ≡ Ok command → class_in profile cdb ≡ Some (layout command).class
@@ -123,4 +127,5 @@ unfolding class_in command_in
 class-of_command profile [] command e = cc
 class-of_command profile (opcode ∷ rest) command e =
     let m = made-by_row profile opcode rest command e in
-    class-by_rows (opcode ∷ rest) (rows_in profile opcode) m.row m.found ∙ ap Some (sym m.is_its.0)
+    class-by_rows (opcode ∷ rest) (rows_in profile opcode) m.row m.found
+    ∙ ap (λ (c : Command). Some (layout c).class) m.made

@@ -101,8 +101,8 @@ module _ (profile : Profile) where
   row-of opcode rest command e =
       let m = made-by_row profile opcode rest command e in
       let both = and_parts (m.row.opcode == opcode) (is_in m.row.profile profile) m.holds in (
-        sym (m.is_its.1 ∙ eqb-true m.row.opcode opcode both.0),
-        ap (λ p. is_in p profile) m.is_its.2 ∙ both.1,
+        sym (m.is_its.0 ∙ eqb-true m.row.opcode opcode both.0),
+        ap (λ p. is_in p profile) m.is_its.1 ∙ both.1,
       )
 
   pub is-in : (cdb : List ℕ) (command : Command) → command_in profile cdb ≡ Ok command

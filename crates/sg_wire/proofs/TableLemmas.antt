@@ -7,7 +7,8 @@ use Rattle.std.specs.Borrow.{Bor}
 use Rattle.std.specs.List.{list_all}
 use Rattle.std.specs.Option.{option_map_or}
 use Rattle.std.specs.Prelude.{find, nat_lt, if◌then◌else◌, IfErr, OnOk}
-use Rattle.sg_wire.specs.CdbDecoding.{class_by_rows, class_in, command_by_row, command_by_rows}
+use Rattle.sg_wire.specs.CdbDecoding.{class_by_row, class_by_rows, class_in, command_by_row}
+use Rattle.sg_wire.specs.CdbDecoding.{command_by_rows}
 use Rattle.sg_wire.specs.CdbDecoding.{command_in, first_bad, has_action_of, is_blocked_in, make_from}
 use Rattle.sg_wire.specs.CdbDecoding.{masks, rows_in, service_action, unless_bad}
 use Rattle.sg_wire.specs.Commands.{reserve_in, reserve_out}
@@ -15,8 +16,9 @@ use Rattle.sg_wire.specs.Layout.{Layout, layout, length_of}
 use Rattle.sg_wire.specs.Profile.{is_in}
 use Rattle.sg_wire.specs.ReservationAction.{each_in_action, each_out_action}
 use Rattle.sg_wire.specs.Table.{HasAction, IsDecoded, IsFound, IsNamed, IsNamedByNone, IsRefused}
-use Rattle.sg_wire.specs.Table.{IsRow, blocked_found, class_found, command_named, command_of_name}
-use Rattle.sg_wire.specs.Table.{command_with, fits_masks, layout_of}
+use Rattle.sg_wire.specs.Table.{IsRow, blocked_found, class_found, class_of_name, command_named}
+use Rattle.sg_wire.specs.Table.{command_of_name}
+use Rattle.sg_wire.specs.Table.{command_with, fits_masks, is_start_stop, layout_of}
 use Rattle.sg_wire.specs.declared.command.CdbFault.{CdbFault}
 use Rattle.sg_wire.specs.declared.command.CdbFault.TheVariants.{Empty, Opcode, Short, Field as BadField}
 use Rattle.sg_wire.specs.declared.command.Class.{Class}
@@ -109,6 +111,30 @@ module _ (cdb : List ℕ) (first second : Layout) where
       ap (λ b. cond b (Some first) (find (has_action_of cdb) (second ∷ []))) e
       ∙ ap (λ b. cond b (Some second) None) f
 
+-- and three
+
+module _ (cdb : List ℕ) (first second third : Layout) where
+  abbrev found_of_three : Option Layout
+  found_of_three = find (has_action_of cdb) (first ∷ second ∷ third ∷ [])
+
+  abbrev unless_first : Bool → Option Layout
+  unless_first is_first = cond is_first (Some first) (find (has_action_of cdb) (second ∷ third ∷ []))
+
+  first-of-three : has_action_of cdb first ≡ true → found_of_three ≡ Some first
+  first-of-three e = ap unless_first e
+
+  second-of-three : has_action_of cdb first ≡ false → has_action_of cdb second ≡ true
+      → found_of_three ≡ Some second
+  second-of-three e f = ap unless_first e ∙ first-of-two cdb second third f
+
+  third-of-three : has_action_of cdb first ≡ false → has_action_of cdb second ≡ false
+      → has_action_of cdb third ≡ true → found_of_three ≡ Some third
+  third-of-three e f g = ap unless_first e ∙ second-of-two cdb second third f g
+
+  none-of-three : has_action_of cdb first ≡ false → has_action_of cdb second ≡ false
+      → has_action_of cdb third ≡ false → found_of_three ≡ None
+  none-of-three e f g = ap unless_first e ∙ none-of-two cdb second third f g
+
 -- the row of a CDB by its service action
 abbrev IsFoundBy : List ℕ → Name → Type 0
 IsFoundBy cdb named =
@@ -135,6 +161,24 @@ functions-found cdb h =
     second-of-two cdb (layout_of name.ReportSupportedOperationCodes)
     (layout_of name.ReportSupportedTaskManagementFunctions) (ap (λ n. n == 0x0C) h) (is_its _ 0x0D h)
 
+block_erase-found : (cdb : List ℕ) → service_action cdb ≡ 0x02 → IsFoundBy cdb name.SanitizeBlockErase
+block_erase-found cdb h =
+    first-of-three cdb (layout_of name.SanitizeBlockErase) (layout_of name.SanitizeCryptographicErase)
+    (layout_of name.SanitizeExitFailureMode) (is_its _ 0x02 h)
+
+cryptographic_erase-found : (cdb : List ℕ) → service_action cdb ≡ 0x03
+    → IsFoundBy cdb name.SanitizeCryptographicErase
+cryptographic_erase-found cdb h =
+    second-of-three cdb (layout_of name.SanitizeBlockErase) (layout_of name.SanitizeCryptographicErase)
+    (layout_of name.SanitizeExitFailureMode) (ap (λ n. n == 0x02) h) (is_its _ 0x03 h)
+
+exit_failure_mode-found : (cdb : List ℕ) → service_action cdb ≡ 0x1F
+    → IsFoundBy cdb name.SanitizeExitFailureMode
+exit_failure_mode-found cdb h =
+    third-of-three cdb (layout_of name.SanitizeBlockErase) (layout_of name.SanitizeCryptographicErase)
+    (layout_of name.SanitizeExitFailureMode) (ap (λ n. n == 0x02) h) (ap (λ n. n == 0x03) h)
+    (is_its _ 0x1F h)
+
 -- the command by the row that is found
 abbrev unless_short_by : (opcode : ℕ) → List ℕ → Option Layout → Result Command CdbFault
 unless_short_by opcode cdb found =
@@ -152,53 +196,68 @@ decodes cdb name.GetLbaStatus h = ap (unless_short_by 0x9E cdb) (status-found cd
 decodes cdb name.ReportSupportedOperationCodes h = ap (unless_short_by 0xA3 cdb) (codes-found cdb h)
 decodes cdb name.ReportSupportedTaskManagementFunctions h =
     ap (unless_short_by 0xA3 cdb) (functions-found cdb h)
+decodes cdb name.SanitizeBlockErase h = ap (unless_short_by 0x48 cdb) (block_erase-found cdb h)
+decodes cdb name.SanitizeCryptographicErase h =
+    ap (unless_short_by 0x48 cdb) (cryptographic_erase-found cdb h)
+decodes cdb name.SanitizeExitFailureMode h =
+    ap (unless_short_by 0x48 cdb) (exit_failure_mode-found cdb h)
 decodes cdb named h = refl
 
 -- ---- what the table has for a CDB
 
 -- rows that are all of class Always have no other class
-abbrev class_or_always : Option Layout → Class
-class_or_always found = option_map_or (λ (l : Layout). l.class) found Always
+abbrev class_or_always : List ℕ → Option Layout → Class
+class_or_always cdb found = option_map_or (class_by_row cdb) found Always
 
-always-cond : (is_found : Bool) (l : Layout) (later : Option Layout) → l.class ≡ Always
-    → class_or_always later ≡ Always → class_or_always (cond is_found (Some l) later) ≡ Always
-always-cond true l later h k = h
-always-cond false l later h k = k
+module _ (cdb : List ℕ) where
+  always-cond : (is_found : Bool) (l : Layout) (later : Option Layout) → class_by_row cdb l ≡ Always
+      → class_or_always cdb later ≡ Always → class_or_always cdb (cond is_found (Some l) later) ≡ Always
+  always-cond true l later h k = h
+  always-cond false l later h k = k
 
-module _ {A : Type 0} (row : A → Layout) (h : (action : A) → (row action).class ≡ Always) where
-  always-found : (cdb : List ℕ) (actions : List A)
-      → class_or_always (find (has_action_of cdb) (map row actions)) ≡ Always
-  always-found cdb [] = refl
-  always-found cdb (action ∷ actions) =
-      always-cond (has_action_of cdb (row action)) (row action)
-      (find (has_action_of cdb) (map row actions)) (h action) (always-found cdb actions)
+  module _ {A : Type 0} (row : A → Layout) (h : (action : A) → class_by_row cdb (row action) ≡ Always) where
+    always-found : (actions : List A)
+        → class_or_always cdb (find (has_action_of cdb) (map row actions)) ≡ Always
+    always-found [] = refl
+    always-found (action ∷ actions) =
+        always-cond (has_action_of cdb (row action)) (row action)
+        (find (has_action_of cdb) (map row actions)) (h action) (always-found actions)
 
 -- the class, and whether an attention blocks, by the name of a row
 abbrev Agrees : Profile → List ℕ → Name → Type 0
-Agrees profile cdb named = (class_in profile cdb ≡ Some (layout_of named).class)
+Agrees profile cdb named = (class_in profile cdb ≡ Some (class_of_name cdb named))
     × (is_blocked_in profile cdb ≡ (layout_of named).blocked_by_attention)
 
 agrees : (named : Name) (rest : List ℕ) → HasAction ((layout_of named).opcode ∷ rest) named
     → Agrees Extended ((layout_of named).opcode ∷ rest) named
 unfolding class_in is_blocked_in
 agrees name.PersistentReserveIn rest h = (
-  ap Some (always-found (λ action. layout (reserve_in action 0)) (λ action. refl) (0x5E ∷ rest)
+  ap Some (always-found (0x5E ∷ rest) (λ action. layout (reserve_in action 0)) (λ action. refl)
       each_in_action),
   refl,
 )
 agrees name.PersistentReserveOut rest h = (
-  ap Some (always-found (λ action. layout (reserve_out action 0 0)) (λ action. refl) (0x5F ∷ rest)
+  ap Some (always-found (0x5F ∷ rest) (λ action. layout (reserve_out action 0 0)) (λ action. refl)
       each_out_action),
   refl,
 )
 agrees name.ReadCapacity16 rest h =
-    (ap (λ found. Some (class_or_always found)) (capacity-found (0x9E ∷ rest) h), refl)
+    (ap (λ found. Some (class_or_always (0x9E ∷ rest) found)) (capacity-found (0x9E ∷ rest) h), refl)
 agrees name.GetLbaStatus rest h =
-    (ap (λ found. Some (class_or_always found)) (status-found (0x9E ∷ rest) h), refl)
+    (ap (λ found. Some (class_or_always (0x9E ∷ rest) found)) (status-found (0x9E ∷ rest) h), refl)
 agrees name.ReportSupportedOperationCodes rest h =
-    (ap (λ found. Some (class_or_always found)) (codes-found (0xA3 ∷ rest) h), refl)
+    (ap (λ found. Some (class_or_always (0xA3 ∷ rest) found)) (codes-found (0xA3 ∷ rest) h), refl)
 agrees name.ReportSupportedTaskManagementFunctions rest h =
-    (ap (λ found. Some (class_or_always found)) (functions-found (0xA3 ∷ rest) h), refl)
+    (ap (λ found. Some (class_or_always (0xA3 ∷ rest) found)) (functions-found (0xA3 ∷ rest) h), refl)
+agrees name.SanitizeBlockErase rest h =
+    (ap (λ found. Some (class_or_always (0x48 ∷ rest) found)) (block_erase-found (0x48 ∷ rest) h), refl)
+agrees name.SanitizeCryptographicErase rest h = (
+  ap (λ found. Some (class_or_always (0x48 ∷ rest) found))
+      (cryptographic_erase-found (0x48 ∷ rest) h),
+  refl,
+)
+agrees name.SanitizeExitFailureMode rest h =
+    (ap (λ found. Some (class_or_always (0x48 ∷ rest) found)) (exit_failure_mode-found (0x48 ∷ rest) h), refl)
 agrees named rest h = (refl, refl)
 
 -- a service action that no command of the operation code has
@@ -216,6 +275,13 @@ other_maintenance cdb h k =
     none-of-two cdb (layout_of name.ReportSupportedOperationCodes)
     (layout_of name.ReportSupportedTaskManagementFunctions) (is_no _ 0x0C h) (is_no _ 0x0D k)
 
+pub other_sanitize : (cdb : List ℕ) → service_action cdb ≢ 0x02 → service_action cdb ≢ 0x03
+    → service_action cdb ≢ 0x1F → IsNamedByNone cdb 0x48
+unfolding IsNamedByNone
+other_sanitize cdb h k m =
+    none-of-three cdb (layout_of name.SanitizeBlockErase) (layout_of name.SanitizeCryptographicErase)
+    (layout_of name.SanitizeExitFailureMode) (is_no _ 0x02 h) (is_no _ 0x03 k) (is_no _ 0x1F m)
+
 -- a CDB with an operation code has a byte
 pub has_byte : (cdb : List ℕ) → get_or cdb 0 0 ≡ 0x9E → 1 ≤ length cdb
 has_byte [] h = absurd (omega (arith, h))
@@ -225,9 +291,15 @@ pub has_byte_in : (cdb : List ℕ) → get_or cdb 0 0 ≡ 0xA3 → 1 ≤ length 
 has_byte_in [] h = absurd (omega (arith, h))
 has_byte_in (opcode ∷ rest) h = omega arith
 
+pub has_byte_of_sanitize : (cdb : List ℕ) → get_or cdb 0 0 ≡ 0x48 → 1 ≤ length cdb
+has_byte_of_sanitize [] h = absurd (omega (arith, h))
+has_byte_of_sanitize (opcode ∷ rest) h = omega arith
+
 pub ruleset without_action_in_16 = (other_16, has_byte)
 
 pub ruleset without_maintenance_action = (other_maintenance, has_byte_in)
+
+pub ruleset without_sanitize_action = (other_sanitize, has_byte_of_sanitize)
 
 -- all of them are blocked by an attention, or none
 blocked-rows : (named : Name)
@@ -241,7 +313,7 @@ module _ (cdb : List ℕ) (opcode : ℕ) where
       → first_opcode rows ≡ Some opcode → class_by_rows cdb rows ≡ Some Always
   none-class [] none first = cc
   none-class (l ∷ ls) none first =
-      ap (λ found. Some (class_or_always found)) none
+      ap (λ found. Some (class_or_always cdb found)) none
 
   none-command : (rows : List Layout) → find (has_action_of cdb) rows ≡ None
       → first_opcode rows ≡ Some opcode → command_by_rows cdb rows
@@ -280,17 +352,17 @@ module _ (profile : Profile) where
       ap (rows_in profile) h.1
       ∙ rows-same profile (command_named row.now.name) (ap (λ p. is_in p profile) (sym h.2.0) ∙ h.3)
 
-  row-class : (named : Name) (cdb : List ℕ) (class : Class) (belongs : Profile) → IsNamed cdb named
-      → class ≡ (layout_of named).class → belongs ≡ (layout_of named).profile
-      → is_in belongs profile ≡ true → class_in profile cdb ≡ Some class
-  row-class named cdb class belongs h e same has =
-      (agrees-named named cdb (ap (λ p. is_in p profile) (sym same) ∙ has) h).0 ∙ ap Some (sym e)
+  row-class : (named : Name) (cdb : List ℕ) (belongs : Profile) → IsNamed cdb named
+      → belongs ≡ (layout_of named).profile
+      → is_in belongs profile ≡ true → class_in profile cdb ≡ Some (class_of_name cdb named)
+  row-class named cdb belongs h same has =
+      (agrees-named named cdb (ap (λ p. is_in p profile) (sym same) ∙ has) h).0
 
   pub class_in-found : (cdb : List ℕ) (found : Found) → IsFound profile cdb found
-      → class_in profile cdb ≡ class_found found
+      → class_in profile cdb ≡ class_found cdb found
   unfolding class_in IsNamedByNone
   class_in-found cdb (FoundRow row) h =
-      row-class row.now.name cdb row.now.class row.now.profile h.0 h.1.2 h.1.0 h.2
+      row-class row.now.name cdb row.now.profile h.0 h.1.0 h.2
   class_in-found [] (NoServiceAction row) h = absurd (omega (arith, h.0))
   class_in-found (opcode ∷ rest) (NoServiceAction row) h =
       let code = (layout_of row.now.name).opcode in
@@ -394,6 +466,18 @@ module _ (profile : Profile) where
 
   pub no-row : (cdb : List ℕ) → IsFound Extended cdb NoOpcode → IsFound profile cdb NoOpcode
   no-row cdb h some = none-in profile (get_or cdb 0 0) (h some)
+
+-- only the class of START STOP UNIT depends on fields
+class-plain : (cdb : List ℕ) (named : Name) → is_start_stop named ≡ false
+    → class_of_name cdb named ≡ (layout_of named).class
+class-plain cdb name.StartStopUnit plain = cc
+class-plain cdb named plain = refl
+
+pub row-class-plain : (cdb : List ℕ) (row : Row) → IsRow row → is_start_stop row.name ≡ false
+    → row.class ≡ class_of_name cdb row.name
+row-class-plain cdb row is plain = is.2 ∙ sym (class-plain cdb row.name plain)
+
+pub ruleset class_by_name = row-class-plain
 
 pub ruleset by_row = (refused-empty, row-fits, refused-short, refused-action, refused-opcode, read-row)
 

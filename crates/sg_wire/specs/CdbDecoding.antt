@@ -6,7 +6,7 @@ use Rattle.std.specs.Prelude.{if◌then◌else◌, bit_and, bit_or}
 use Rattle.std.specs.List.{range_with_len, list_all}
 use Rattle.std.specs.Option.{option_map_or}
 use Rattle.sg_wire.specs.CdbFields.{Field, Place, mask_in, value_at}
-use Rattle.sg_wire.specs.Layout.{Layout, Maker, ServiceAction, action_place, length_of, table}
+use Rattle.sg_wire.specs.Layout.{Layout, Maker, ServiceAction, action_place, layout, length_of, table}
 use Rattle.sg_wire.specs.Layout.ServiceAction.{none, named}
 use Rattle.sg_wire.specs.Profile.{is_in}
 use Rattle.sg_wire.specs.declared.command.Class.{Class}
@@ -100,14 +100,19 @@ command_in profile (opcode ∷ rest) = command_by_rows (opcode ∷ rest) (rows_i
 abbrev pub command_of : List ℕ → Result Command CdbFault
 command_of cdb = command_in Extended cdb
 
--- ---- What the operation code and the service action decide
+-- ---- What is known of a CDB before its other bits are checked
+
+-- The class of the command that a row makes of the CDB, even if the disk does not allow its other bits.
+-- A field that the CDB does not have is zero. Only the class of START STOP UNIT depends on fields.
+abbrev pub class_by_row : List ℕ → Layout → Class
+class_by_row cdb l = (layout (make_from cdb l.fields l.make)).class
 
 -- If no row has the service action, the class is Always.
 -- Choice (SPC-4, 5.13): an unknown service action may be a conflict.
 abbrev pub class_by_rows : List ℕ → List Layout → Option Class
 class_by_rows cdb [] = None
 class_by_rows cdb (l ∷ ls) =
-    Some (option_map_or (λ (l : Layout). l.class) (find (has_action_of cdb) (l ∷ ls)) Always)
+    Some (option_map_or (class_by_row cdb) (find (has_action_of cdb) (l ∷ ls)) Always)
 
 -- The reservation class; None for no byte and for an unknown operation code.
 unfoldable pub class_in : Profile → List ℕ → Option Class

@@ -5,6 +5,7 @@ use Rattle.sg_wire.specs.declared.command.Command.TheVariants as command
 use Rattle.sg_wire.specs.declared.command.block.Extent10.{Extent10}
 use Rattle.sg_wire.specs.declared.command.block.Extent12.{Extent12}
 use Rattle.sg_wire.specs.declared.command.block.Extent16.{Extent16}
+use Rattle.sg_wire.specs.declared.command.format.Sanitize.{Sanitize}
 use Rattle.sg_wire.specs.declared.command.in_action.InAction.{InAction}
 use Rattle.sg_wire.specs.declared.command.mode.PageRequest.{PageRequest}
 use Rattle.sg_wire.specs.declared.command.out_action.OutAction.{OutAction}
@@ -92,6 +93,14 @@ send_diagnostic code self_test n =
 
 -- ---- Block commands (SBC-3, 5)
 
+abbrev pub start_stop_unit : (power_condition_modifier power_condition : ℕ) (loej start : Bool) → Command
+start_stop_unit modifier condition loej start = command.StartStopUnit (record {
+  power_condition_modifier = modifier;
+  power_condition = condition;
+  loej = loej;
+  start = start;
+})
+
 -- A command that names a range of blocks and nothing else, in CDBs of 10, 12 and 16 bytes.
 abbrev pub naming_10 : (Extent10 → Command) → (lba count : ℕ) → Command
 naming_10 command lba n = command (record { lba = lba; count = n })
@@ -113,6 +122,14 @@ no_blocks_16 = record { lba = 0; count = 0 }
 
 abbrev pub compare_and_write : (lba count : ℕ) → Command
 compare_and_write lba n = command.CompareAndWrite (record { lba = lba; count = n })
+
+abbrev pub format_unit : (long_list format_data : Bool) → Command
+format_unit long_list format_data =
+    command.FormatUnit (record { long_list = long_list; format_data = format_data })
+
+-- A service action of SANITIZE.
+abbrev pub sanitizing : (Sanitize → Command) → (list_length : ℕ) → Command
+sanitizing command n = command (record { list_length = n })
 
 abbrev pub read_capacity_16 : (allocation_length : ℕ) → Command
 read_capacity_16 n = command.ReadCapacity16 (record { allocation_length = n })
@@ -169,6 +186,10 @@ write_and_verify_16 check lba n = command.WriteAndVerify16 (record {
   byte_check = byte_check_of check;
   extent = record { lba = lba; count = n };
 })
+
+abbrev pub write_atomic_16 : (lba boundary count : ℕ) → Command
+write_atomic_16 lba boundary n =
+    command.WriteAtomic16 (record { lba = lba; boundary = boundary; count = n })
 
 abbrev pub write_long_10 : (cor_dis wr_uncor : Bool) (lba length : ℕ) → Command
 write_long_10 cor_dis wr_uncor lba n =

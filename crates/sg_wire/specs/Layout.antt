@@ -1,6 +1,6 @@
 -- The layout of command descriptor blocks, CDBs (SPC-4, 4.2; docs/PROFILE.md, "Commands").
 use Rattle.std.specs.Prelude.{ℕ, ◌/◌, List, [], ◌∷◌, ◌++◌, map, Bool, true, false, ◌==◌}
-use Rattle.std.specs.Prelude.{if◌then◌else◌}
+use Rattle.std.specs.Prelude.{◌&&◌, if◌then◌else◌}
 use Rattle.sg_wire.specs.CdbFields.{Field, Place, Value, field}
 use Rattle.sg_wire.specs.CdbFields.Place.{bit, bits, bytes, short_extent}
 use Rattle.sg_wire.specs.declared.command.Class.{Class}
@@ -11,11 +11,14 @@ use Rattle.sg_wire.specs.declared.command.block.Extent10.{Extent10}
 use Rattle.sg_wire.specs.declared.command.block.Extent12.{Extent12}
 use Rattle.sg_wire.specs.declared.command.block.Extent16.{Extent16}
 use Rattle.sg_wire.specs.declared.command.block.ReadCapacity16.{ReadCapacity16}
+use Rattle.sg_wire.specs.declared.command.block.WriteAtomic16.{WriteAtomic16}
 use Rattle.sg_wire.specs.declared.command.block.WriteLong10.{WriteLong10}
 use Rattle.sg_wire.specs.declared.command.diagnostic.LogSense.{LogSense}
 use Rattle.sg_wire.specs.declared.command.diagnostic.ReadDefectData10.{ReadDefectData10}
 use Rattle.sg_wire.specs.declared.command.diagnostic.ReadDefectData12.{ReadDefectData12}
 use Rattle.sg_wire.specs.declared.command.diagnostic.SendDiagnostic.{SendDiagnostic}
+use Rattle.sg_wire.specs.declared.command.format.FormatUnit.{FormatUnit}
+use Rattle.sg_wire.specs.declared.command.format.Sanitize.{Sanitize}
 use Rattle.sg_wire.specs.declared.command.mode.ModeSelect10.{ModeSelect10}
 use Rattle.sg_wire.specs.declared.command.mode.ModeSelect6.{ModeSelect6}
 use Rattle.sg_wire.specs.declared.command.mode.ModeSense10.{ModeSense10}
@@ -32,12 +35,16 @@ use Rattle.sg_wire.specs.declared.command.report.ReportSupportedOperationCodes.{
 use Rattle.sg_wire.specs.declared.command.report.ReportSupportedTaskManagementFunctions as functions
 use Rattle.sg_wire.specs.declared.command.reservation.PersistentReserveIn.{PersistentReserveIn}
 use Rattle.sg_wire.specs.declared.command.reservation.PersistentReserveOut.{PersistentReserveOut}
+use Rattle.sg_wire.specs.declared.command.start_stop.StartStopUnit.{StartStopUnit}
 use Rattle.sg_wire.specs.declared.command.verify.CompareAndWrite.{CompareAndWrite}
 use Rattle.sg_wire.specs.declared.command.verify.Verify10.{Verify10}
 use Rattle.sg_wire.specs.declared.command.verify.Verify12.{Verify12}
 use Rattle.sg_wire.specs.declared.command.verify.Verify16.{Verify16}
 use Rattle.sg_wire.specs.ByteCheck.{byte_check_code}
 use Rattle.sg_wire.specs.Commands as make
+use Rattle.sg_wire.specs.FreeBits.{FreeBits, cache_bits, diagnostic_bits, dpo_bit, dpo_fua_bits}
+use Rattle.sg_wire.specs.FreeBits.{format_bits, group_number, immed_bit, immed_bits, log_bits, no_bits}
+use Rattle.sg_wire.specs.FreeBits.{sanitize_bits, start_bits}
 use Rattle.sg_wire.specs.PageControl.{page_control_code}
 use Rattle.sg_wire.specs.ReservationAction.{in_code, out_code, each_in_action, each_out_action}
 use Rattle.sg_wire.specs.declared.profile.Profile.{Profile}
@@ -58,13 +65,6 @@ pub data ServiceAction : Type 0 where
   named : (action : ℕ) → ServiceAction
 
 -- ---- The table
-
--- Bits beside the fields that may have any value.
-pub record FreeBits : Type 0 where
-  -- they have a meaning, which changes nothing here: DPO and FUA of a disk without a cache
-  pub used : List Place
-  -- the disk does not look at them: obsolete bits, and a GROUP NUMBER
-  pub ignored : List Place
 
 -- A command's CDB, on disks of a profile. All bits outside the fields and the free bits have to be
 -- zero, and so has CONTROL, the last byte. The class says how the command meets a reservation of
@@ -190,6 +190,19 @@ write_long_10 c =
 abbrev compare_and_write : CompareAndWrite → List Field
 compare_and_write c = field (bytes 2 9) c.lba ∷ field (bytes 13 13) c.count ∷ []
 
+-- LONGLIST and FMTDATA of FORMAT UNIT.
+abbrev format_unit : FormatUnit → List Field
+format_unit c = field (bit 1 5) c.long_list ∷ field (bit 1 4) c.format_data ∷ []
+
+-- PARAMETER LIST LENGTH of SANITIZE.
+abbrev pub sanitize : Sanitize → List Field
+sanitize c = field (bytes 7 8) c.list_length ∷ []
+
+-- LOGICAL BLOCK ADDRESS, ATOMIC BOUNDARY and TRANSFER LENGTH.
+abbrev write_atomic_16 : WriteAtomic16 → List Field
+write_atomic_16 c =
+    field (bytes 2 9) c.lba ∷ field (bytes 10 11) c.boundary ∷ field (bytes 12 13) c.count ∷ []
+
 -- BYTCHK, LOGICAL BLOCK ADDRESS, and VERIFICATION LENGTH or TRANSFER LENGTH.
 abbrev pub verify_10 : Verify10 → List Field
 verify_10 c = field (bits 1 2 1) (byte_check_code c.byte_check) ∷ extent_10 c.extent
@@ -211,6 +224,17 @@ abbrev read_defect_data_12 : ReadDefectData12 → List Field
 read_defect_data_12 c =
     field (bit 1 4) c.plist ∷ field (bit 1 3) c.glist ∷ field (bits 1 2 0) c.format
     ∷ field (bytes 2 5) c.index ∷ field (bytes 6 9) c.allocation_length ∷ []
+
+-- POWER CONDITION MODIFIER, POWER CONDITION, LOEJ and START.
+abbrev start_stop_unit : StartStopUnit → List Field
+start_stop_unit c =
+    field (bits 3 3 0) c.power_condition_modifier ∷ field (bits 4 7 4) c.power_condition
+    ∷ field (bit 4 1) c.loej ∷ field (bit 4 0) c.start ∷ []
+
+-- A START STOP UNIT that starts the unit, and asks for no power condition, is allowed under every
+-- reservation (SBC-3, 4.17). Any other one is a command that writes.
+abbrev start_class : StartStopUnit → Class
+start_class c = if c.start && c.power_condition == 0 then Always else Writes
 
 -- SELF-TEST CODE, SELFTEST and PARAMETER LIST LENGTH.
 abbrev send_diagnostic : SendDiagnostic → List Field
@@ -249,45 +273,6 @@ reserve_in c = field (bytes 7 8) c.allocation_length ∷ []
 abbrev reserve_out : PersistentReserveOut → List Field
 reserve_out c = field (bytes 2 2) c.scope_type ∷ field (bytes 5 8) c.list_length ∷ []
 
--- ---- Bits that may have any value
-
-abbrev no_bits : FreeBits
-no_bits = record { used = []; ignored = [] }
-
--- The disk has no cache and groups no blocks. So of a command that moves blocks it need not look at
--- DPO, FUA, the obsolete bit 1 and the GROUP NUMBER. FUA and the obsolete bit 1 are not in each CDB.
--- Choice (SBC-3, 5.11): the obsolete bit 1 may be refused.
--- Choice (SBC-3, RARC): RARC may be ignored.
-abbrev cache_bits : (group_byte : ℕ) → FreeBits
-cache_bits group_byte =
-    record { used = bit 1 4 ∷ bit 1 3 ∷ []; ignored = bit 1 1 ∷ bits group_byte 4 0 ∷ [] }
-
-abbrev dpo_bit : (group_byte : ℕ) → FreeBits
-dpo_bit group_byte = record { used = bit 1 4 ∷ []; ignored = bits group_byte 4 0 ∷ [] }
-
--- IMMED and the GROUP NUMBER.
-abbrev immed_bit : (group_byte : ℕ) → FreeBits
-immed_bit group_byte = record { used = bit 1 1 ∷ []; ignored = bits group_byte 4 0 ∷ [] }
-
--- SYNCHRONIZE CACHE has an obsolete bit 2, too.
--- Choice (SBC-3, 5.26): the obsolete bit 2 may be refused.
-abbrev immed_bits : (group_byte : ℕ) → FreeBits
-immed_bits group_byte =
-    record (immed_bit group_byte) { ignored = bit 1 2 ∷ bits group_byte 4 0 ∷ [] }
-
--- Choice (SBC-3, grouping function): a GROUP NUMBER may be refused.
-abbrev group_number : (byte : ℕ) → FreeBits
-group_number byte = record no_bits { ignored = bits byte 4 0 ∷ [] }
-
--- PF, DEVOFFL and UNITOFFL of SEND DIAGNOSTIC: no page is sent, and the self-test disturbs nothing.
-abbrev diagnostic_bits : FreeBits
-diagnostic_bits = record no_bits { ignored = bit 1 4 ∷ bit 1 1 ∷ bit 1 0 ∷ [] }
-
--- PC and PARAMETER POINTER of LOG SENSE: no page has values to choose from, or a parameter that is
--- left out.
-abbrev log_bits : FreeBits
-log_bits = record { used = bits 2 7 6 ∷ []; ignored = bytes 5 6 ∷ [] }
-
 -- ---- The rows
 
 -- A row of a command that names a range of blocks and nothing else, in a CDB of 10 bytes, and of 16.
@@ -302,6 +287,11 @@ range_12 opcode class free command c =
 abbrev range_16 : (opcode : ℕ) → Class → FreeBits → (Extent16 → Command) → Extent16 → Layout
 range_16 opcode class free command c =
     base opcode none class blocked (extent_16 c) free (make.naming_16 command)
+
+-- A row of a service action of SANITIZE.
+abbrev sanitizing : (action : ℕ) → (Sanitize → Command) → Sanitize → Layout
+sanitizing action command c =
+    extended 0x48 (named action) Writes blocked (sanitize c) sanitize_bits (make.sanitizing command)
 
 abbrev in_extended : Layout → Layout
 in_extended l = record l { profile = Extended }
@@ -334,6 +324,10 @@ layout (command.SendDiagnostic c) =
     extended 0x1D none Writes blocked (send_diagnostic c) diagnostic_bits make.send_diagnostic
 layout (command.CompareAndWrite c) =
     extended 0x89 none Writes blocked (compare_and_write c) (cache_bits 14) make.compare_and_write
+layout (command.FormatUnit c) =
+    extended 0x04 none Writes blocked (format_unit c) format_bits make.format_unit
+layout (command.OrWrite16 c) =
+    in_extended (range_16 0x8B Writes (cache_bits 14) command.OrWrite16 c)
 layout (command.PreFetch10 c) =
     in_extended (range_10 0x34 Reads (immed_bit 6) command.PreFetch10 c)
 layout (command.PreFetch16 c) =
@@ -353,6 +347,11 @@ layout (command.ReadDefectData10 c) =
     extended 0x37 none Reads blocked (read_defect_data_10 c) no_bits make.read_defect_data_10
 layout (command.ReadDefectData12 c) =
     extended 0xB7 none Reads blocked (read_defect_data_12 c) no_bits make.read_defect_data_12
+layout (command.SanitizeBlockErase c) = sanitizing 0x02 command.SanitizeBlockErase c
+layout (command.SanitizeCryptographicErase c) = sanitizing 0x03 command.SanitizeCryptographicErase c
+layout (command.SanitizeExitFailureMode c) = sanitizing 0x1F command.SanitizeExitFailureMode c
+layout (command.StartStopUnit c) =
+    extended 0x1B none (start_class c) blocked (start_stop_unit c) start_bits make.start_stop_unit
 layout (command.SynchronizeCache10 c) = range_10 0x35 Writes (immed_bits 6) command.SynchronizeCache10 c
 layout (command.SynchronizeCache16 c) =
     in_extended (range_16 0x91 Writes (immed_bits 14) command.SynchronizeCache16 c)
@@ -368,6 +367,8 @@ layout (command.WriteAndVerify12 c) =
     extended 0xAE none Writes blocked (verify_12 c) (dpo_bit 10) make.write_and_verify_12
 layout (command.WriteAndVerify16 c) =
     extended 0x8E none Writes blocked (verify_16 c) (dpo_bit 14) make.write_and_verify_16
+layout (command.WriteAtomic16 c) =
+    extended 0x9C none Writes blocked (write_atomic_16 c) (dpo_fua_bits 14) make.write_atomic_16
 layout (command.WriteLong10 c) =
     extended 0x3F none Writes blocked (write_long_10 c) no_bits make.write_long_10
 layout (command.WriteSame10 c) =
@@ -386,7 +387,7 @@ layout (command.PersistentReserveOut c) =
 -- Each command once; if its service action is a value of it, the command comes once with each
 -- service action. Only the places of its fields matter here, not their values.
 -- Departure (SPC-4, 6.33): REPORT LUNS is mandatory there, and a base disk lacks it.
--- Departure (SBC-3, 5.3): FORMAT UNIT is mandatory there.
+-- Departure (SBC-3, 5.3): FORMAT UNIT is mandatory there, and a base disk lacks it.
 -- Departure (SPC-4, 6.42): SEND DIAGNOSTIC is mandatory for a disk there, and a base disk lacks it.
 abbrev pub each_command : List Command
 each_command =
@@ -403,6 +404,8 @@ each_command =
     ∷ make.report_task_management false 0
     ∷ make.send_diagnostic 0 false 0
     ∷ make.compare_and_write 0 0
+    ∷ make.format_unit false false
+    ∷ command.OrWrite16 make.no_blocks_16
     ∷ command.PreFetch10 make.no_blocks_10
     ∷ command.PreFetch16 make.no_blocks_16
     ∷ command.Read6 (0, 1)
@@ -417,6 +420,10 @@ each_command =
     ∷ make.read_capacity_16 0
     ∷ make.read_defect_data_10 false false 0 0
     ∷ make.read_defect_data_12 false false 0 0 0
+    ∷ make.sanitizing command.SanitizeBlockErase 0
+    ∷ make.sanitizing command.SanitizeCryptographicErase 0
+    ∷ make.sanitizing command.SanitizeExitFailureMode 0
+    ∷ make.start_stop_unit 0 0 false false
     ∷ command.SynchronizeCache10 make.no_blocks_10
     ∷ command.SynchronizeCache16 make.no_blocks_16
     ∷ make.verify_10 0 0 0
@@ -425,6 +432,7 @@ each_command =
     ∷ make.write_and_verify_10 0 0 0
     ∷ make.write_and_verify_12 0 0 0
     ∷ make.write_and_verify_16 0 0 0
+    ∷ make.write_atomic_16 0 0 0
     ∷ make.write_long_10 false false 0 0
     ∷ make.write_same_10 false false 0 0
     ∷ make.write_same_16 false false 0 0

@@ -13,25 +13,28 @@ is_in Extended Extended = true
 
 -- ---- Limits, in blocks
 
--- The most that a READ or a WRITE moves, the most that a WRITE SAME writes, and the most that a
--- COMPARE AND WRITE compares: 0 on a base disk, which does not have the command. The page Block Limits
--- reports them (SBC-3, vital product data parameters). Then the most that can be mapped or anchored at
--- once (SBC-3, 4.7).
+-- The most that a READ or a WRITE moves, the most that a WRITE SAME writes, the most that a COMPARE AND
+-- WRITE compares and the most that a WRITE ATOMIC writes. The last two are 0 on a base disk, which does
+-- not have these commands. The page Block Limits reports all four (SBC-3, vital product data
+-- parameters). Then the most that can be mapped or anchored at once (SBC-3, 4.7).
 abbrev pub base_limits : Limits
 base_limits = record {
   transfer_length = 256;
   write_same_length = 65536;
   compare_and_write_length = 0;
+  atomic_transfer_length = 0;
   pool = 65536;
 }
 
 -- A disk of the extended profile moves more at once, and can have a larger pool. Its WRITE SAME writes
--- no more than WRITE SAME(10) can name, and its COMPARE AND WRITE compares what its CDB can name.
+-- no more than WRITE SAME(10) can name, and its COMPARE AND WRITE compares what its CDB can name. Each
+-- WRITE is atomic, so its WRITE ATOMIC writes as many blocks as a WRITE.
 abbrev pub extended_limits : Limits
 extended_limits = record {
   transfer_length = 2048;
   write_same_length = 65535;
   compare_and_write_length = 255;
+  atomic_transfer_length = 2048;
   pool = 4294967295;
 }
 
@@ -48,8 +51,12 @@ maximum_transfer_length = extended_limits.transfer_length
 -- What a disk does otherwise in one profile than in another. The extended profile follows the
 -- standards.
 -- Departure (SBC-3, 5.26): a count of 0 in SYNCHRONIZE CACHE(10) names no block on a base disk.
+-- Departure (SBC-3, 5.28.2): on a base disk, an UNMAP descriptor of no block may be out of range.
+-- Departure (SBC-3, 6.4.2): on a base disk, MODE SELECT may not send another number of blocks.
+-- Departure (SPC-4, 6.11): on a base disk, MODE SELECT of no list needs PF 1.
 -- Departure (SPC-4, sense keys): on a base disk, data-out that is too short is a DATA PHASE ERROR.
 -- Departure (SBC-3, 4.12): SWP of a base disk refuses what names no block, too, and is 27h/02h.
+-- Departure (SAM-5, 5.3.3): on a base disk, each unit attention comes before a conflict.
 -- Departure (SPC-4, 5.13.11.4): on a base disk, PREEMPT of key 0 may be a conflict.
 -- Departure (SPC-4, 5.13.7): a REGISTER that changes no key counts for nothing on a base disk.
 -- Departure (SPC-4, 5.13.11.2): on a base disk, RELEASE of nothing may be refused for its TYPE.
@@ -57,8 +64,12 @@ maximum_transfer_length = extended_limits.transfer_length
 abbrev pub rules_of : Profile → Rules
 rules_of Base = record {
   zero_reaches_last = false;
+  unmap_ignores_empty_extents = false;
+  ignores_number_of_blocks = false;
+  no_list_needs_no_page_format = false;
   short_data_out_is_illegal = false;
   protects_only_writes = false;
+  only_resets_outrank_conflicts = false;
   preempt_needs_a_key = false;
   each_register_counts = false;
   release_of_nothing_ignores_type = false;
@@ -66,8 +77,12 @@ rules_of Base = record {
 }
 rules_of Extended = record {
   zero_reaches_last = true;
+  unmap_ignores_empty_extents = true;
+  ignores_number_of_blocks = true;
+  no_list_needs_no_page_format = true;
   short_data_out_is_illegal = true;
   protects_only_writes = true;
+  only_resets_outrank_conflicts = true;
   preempt_needs_a_key = true;
   each_register_counts = true;
   release_of_nothing_ignores_type = true;

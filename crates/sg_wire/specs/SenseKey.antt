@@ -4,6 +4,9 @@ use Rattle.std.specs.Prelude.{ℕ}
 abbrev pub no_sense : ℕ
 no_sense = 0
 
+abbrev pub not_ready : ℕ
+not_ready = 2
+
 abbrev pub illegal_request : ℕ
 illegal_request = 5
 

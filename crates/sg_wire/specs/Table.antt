@@ -3,7 +3,7 @@
 use Rattle.std.specs.Prelude.{ℕ, ◌≡◌, ◌≤◌, List, [], length, map, slice_index, Bool, true}
 use Rattle.std.specs.Prelude.{false, filter, ◌==◌, ◌&&◌}
 use Rattle.std.specs.Prelude.{Option, Some, None, Result, Ok, Err, find, nat_lt, if◌then◌else◌}
-use Rattle.sg_wire.specs.CdbDecoding.{command_by_row, command_by_rows}
+use Rattle.sg_wire.specs.CdbDecoding.{class_by_row, command_by_row, command_by_rows}
 use Rattle.sg_wire.specs.CdbDecoding.{first_bad, has_action_of, make_from, masks, rows_in}
 use Rattle.sg_wire.specs.CdbDecoding.{service_action, unless_bad}
 use Rattle.sg_wire.specs.Commands as make
@@ -48,6 +48,8 @@ command_named name.ReportSupportedOperationCodes = make.report_operation_codes f
 command_named name.ReportSupportedTaskManagementFunctions = make.report_task_management false 0
 command_named name.SendDiagnostic = make.send_diagnostic 0 false 0
 command_named name.CompareAndWrite = make.compare_and_write 0 0
+command_named name.FormatUnit = make.format_unit false false
+command_named name.OrWrite16 = command.OrWrite16 make.no_blocks_16
 command_named name.PreFetch10 = command.PreFetch10 make.no_blocks_10
 command_named name.PreFetch16 = command.PreFetch16 make.no_blocks_16
 command_named name.Read6 = command.Read6 (0, 1)
@@ -62,6 +64,10 @@ command_named name.ReadCapacity10 = command.ReadCapacity10
 command_named name.ReadCapacity16 = make.read_capacity_16 0
 command_named name.ReadDefectData10 = make.read_defect_data_10 false false 0 0
 command_named name.ReadDefectData12 = make.read_defect_data_12 false false 0 0 0
+command_named name.SanitizeBlockErase = make.sanitizing command.SanitizeBlockErase 0
+command_named name.SanitizeCryptographicErase = make.sanitizing command.SanitizeCryptographicErase 0
+command_named name.SanitizeExitFailureMode = make.sanitizing command.SanitizeExitFailureMode 0
+command_named name.StartStopUnit = make.start_stop_unit 0 0 false false
 command_named name.SynchronizeCache10 = command.SynchronizeCache10 make.no_blocks_10
 command_named name.SynchronizeCache16 = command.SynchronizeCache16 make.no_blocks_16
 command_named name.Verify10 = make.verify_10 0 0 0
@@ -70,6 +76,7 @@ command_named name.Verify16 = make.verify_16 0 0 0
 command_named name.WriteAndVerify10 = make.write_and_verify_10 0 0 0
 command_named name.WriteAndVerify12 = make.write_and_verify_12 0 0 0
 command_named name.WriteAndVerify16 = make.write_and_verify_16 0 0 0
+command_named name.WriteAtomic16 = make.write_atomic_16 0 0 0
 command_named name.WriteLong10 = make.write_long_10 false false 0 0
 command_named name.WriteSame10 = make.write_same_10 false false 0 0
 command_named name.WriteSame16 = make.write_same_16 false false 0 0
@@ -171,10 +178,18 @@ IsFound profile cdb (NoServiceAction row) =
 IsFound profile cdb NoOpcode = 1 ≤ length cdb → rows_in profile (slice_index cdb 0) ≡ []
 
 -- The reservation class in the table, and whether a pending unit attention blocks the CDB.
-abbrev pub class_found : Found → Option Class
-class_found (FoundRow row) = Some row.now.class
-class_found (NoServiceAction row) = Some Always
-class_found NoOpcode = None
+abbrev pub class_of_name : List ℕ → Name → Class
+class_of_name cdb named = class_by_row cdb (layout_of named)
+
+-- Only the row of START STOP UNIT does not have the class of each of its CDBs.
+abbrev pub is_start_stop : Name → Bool
+is_start_stop name.StartStopUnit = true
+is_start_stop named = false
+
+abbrev pub class_found : List ℕ → Found → Option Class
+class_found cdb (FoundRow row) = Some (class_of_name cdb row.now.name)
+class_found cdb (NoServiceAction row) = Some Always
+class_found cdb NoOpcode = None
 
 abbrev pub blocked_found : Found → Bool
 blocked_found (FoundRow row) = row.now.is_blocked

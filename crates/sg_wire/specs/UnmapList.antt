@@ -1,6 +1,6 @@
 -- The parameter list of UNMAP (SBC-3, 5.28.2).
-use Rattle.std.specs.Prelude.{ℕ, ◌+◌, ◌-◌, ◌*◌, ◌/◌, ◌==◌, min, List, [], length, drop, map}
-use Rattle.std.specs.Prelude.{Result, Ok, Err, nat_lt, if◌then◌else◌}
+use Rattle.std.specs.Prelude.{ℕ, ◌+◌, ◌-◌, ◌*◌, ◌/◌, ◌==◌, min, List, [], length, drop, filter, map}
+use Rattle.std.specs.Prelude.{Bool, Result, Ok, Err, nat_lt, if◌then◌else◌}
 use Rattle.std.specs.List.{range_with_len}
 use Rattle.byteorder.specs.Endian.{big_number}
 use Rattle.sg_wire.specs.declared.extent.Extent.{Extent}
@@ -39,6 +39,11 @@ descriptor_at bytes index = extent_at bytes (unmap_list_length index)
 
 abbrev pub first_descriptors : (bytes : List ℕ) (count : ℕ) → List Extent
 first_descriptors bytes count = map (descriptor_at bytes) (range_with_len 0 count)
+
+-- The extents of descriptors, or only those that name a block.
+abbrev pub named_extents : (only_with_blocks : Bool) → List Extent → List Extent
+named_extents only_with_blocks extents =
+    if only_with_blocks then filter (λ (extent : Extent). nat_lt 0 extent.count) extents else extents
 
 -- The number of whole descriptors in the bytes that the header counts, or in the bytes after the
 -- header, if these are fewer.

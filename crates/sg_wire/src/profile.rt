@@ -27,6 +27,8 @@ pub struct Limits {
     pub write_same_length: u32,
     /// The most blocks that a COMPARE AND WRITE compares. The page Block Limits reports it, too.
     pub compare_and_write_length: u8,
+    /// The most blocks that a WRITE ATOMIC writes. The page Block Limits reports it, too.
+    pub atomic_transfer_length: u32,
     /// The most blocks that the pool can have. So at most so many addresses can be mapped or
     /// anchored at once (SBC-3, 4.7).
     pub pool: u32,
@@ -36,6 +38,7 @@ const BASE_LIMITS: Limits = Limits {
     transfer_length: 256,
     write_same_length: MAXIMUM_WRITE_SAME_LENGTH,
     compare_and_write_length: 0,
+    atomic_transfer_length: 0,
     pool: 65_536,
 };
 
@@ -43,6 +46,7 @@ const EXTENDED_LIMITS: Limits = Limits {
     transfer_length: MAXIMUM_TRANSFER_LENGTH,
     write_same_length: u16::MAX as u32,
     compare_and_write_length: u8::MAX,
+    atomic_transfer_length: MAXIMUM_TRANSFER_LENGTH,
     pool: u32::MAX,
 };
 
@@ -52,10 +56,20 @@ const EXTENDED_LIMITS: Limits = Limits {
 pub struct Rules {
     /// A count of 0 in SYNCHRONIZE CACHE reaches to the last block (SBC-3, 5.26).
     pub zero_reaches_last: bool,
+    /// UNMAP ignores a descriptor of no block, wherever it points (SBC-3, 5.28.2).
+    pub unmap_ignores_empty_extents: bool,
+    /// MODE SELECT ignores NUMBER OF LOGICAL BLOCKS, because no list changes the capacity (SBC-3,
+    /// 6.4.2).
+    pub ignores_number_of_blocks: bool,
+    /// MODE SELECT of no list is GOOD with any PF (SPC-4, 6.11).
+    pub no_list_needs_no_page_format: bool,
     /// Data-out that is too short is an ILLEGAL REQUEST, and no DATA PHASE ERROR (SPC-4, sense keys).
     pub short_data_out_is_illegal: bool,
     /// SWP refuses a command only if it writes a block, with WRITE PROTECTED (SBC-3, 4.12).
     pub protects_only_writes: bool,
+    /// A unit attention comes before a reservation conflict only if its additional sense code is 29h,
+    /// the code of a reset (SAM-5, 5.3.3).
+    pub only_resets_outrank_conflicts: bool,
     /// PREEMPT of key 0 is an error of the parameter list, unless an all registrants reservation is
     /// held (SPC-4, 5.13.11.4).
     pub preempt_needs_a_key: bool,
@@ -70,8 +84,12 @@ pub struct Rules {
 
 const BASE_RULES: Rules = Rules {
     zero_reaches_last: false,
+    unmap_ignores_empty_extents: false,
+    ignores_number_of_blocks: false,
+    no_list_needs_no_page_format: false,
     short_data_out_is_illegal: false,
     protects_only_writes: false,
+    only_resets_outrank_conflicts: false,
     preempt_needs_a_key: false,
     each_register_counts: false,
     release_of_nothing_ignores_type: false,
@@ -80,8 +98,12 @@ const BASE_RULES: Rules = Rules {
 
 const EXTENDED_RULES: Rules = Rules {
     zero_reaches_last: true,
+    unmap_ignores_empty_extents: true,
+    ignores_number_of_blocks: true,
+    no_list_needs_no_page_format: true,
     short_data_out_is_illegal: true,
     protects_only_writes: true,
+    only_resets_outrank_conflicts: true,
     preempt_needs_a_key: true,
     each_register_counts: true,
     release_of_nothing_ignores_type: true,

@@ -3,7 +3,8 @@ ghost use Rattle.std.specs.Prelude.{◌≡◌, ◌≤◌, ◌<◌, ◌+◌, ◌-
 ghost use Rattle.std.specs.Prelude.{IfErr, IfOk};
 ghost use Rattle.sg_wire.specs.Cut.{Puts};
 ghost use Rattle.sg_wire.specs.UnmapList.{descriptor_at, descriptor_count};
-ghost use Rattle.sg_wire.specs.UnmapList.{maximum_unmap_descriptors, unmap_descriptor_length};
+ghost use Rattle.sg_wire.specs.UnmapList.{maximum_unmap_descriptors, named_extents};
+ghost use Rattle.sg_wire.specs.UnmapList.{unmap_descriptor_length};
 ghost use Rattle.sg_wire.specs.UnmapListBytes.{unmap_descriptor, unmap_header, unmap_list_bytes};
 ghost use Rattle.sg_wire.specs.UnmapList.{unmap_header_length, unmap_list, unmap_list_length};
 
@@ -50,18 +51,19 @@ impl Model for UnmapList {
 pub struct ListedExtents<'a> {
     bytes: &'a [u8],
     count: usize,
+    only_with_blocks: bool,
     ghost at_most: { count ≤ maximum_unmap_descriptors },
     ghost whole: { unmap_descriptor_length * count ≤ length bytes.now - unmap_header_length },
 }
 
 impl<'a> Model for ListedExtents<'a> {
     ghost use Rattle.std.specs.Prelude.{List};
-    ghost use Rattle.sg_wire.specs.UnmapList.{first_descriptors};
+    ghost use Rattle.sg_wire.specs.UnmapList.{first_descriptors, named_extents};
     ghost use Rattle.sg_wire.specs.declared.extent.Extent.{Extent};
 
     ghost Value = { List Extent };
 
-    ghost view = { λ e. first_descriptors e.bytes.now e.count };
+    ghost view = { λ e. named_extents e.only_with_blocks (first_descriptors e.bytes.now e.count) };
 }
 
 impl UnmapList {
@@ -138,7 +140,11 @@ impl UnmapList {
         ensures passed { IfOk result (λ extents. unmap_list bytes.now ≡ Ok extents) }
     {
         if bytes.is_empty() {
-            return Ok(ListedExtents { bytes, count: 0 });
+            return Ok(ListedExtents {
+                bytes,
+                count: 0,
+                only_with_blocks: false,
+            });
         }
         if bytes.len() < UnmapList::HEADER_LENGTH {
             return Err(UnmapListFault::Short);
@@ -147,20 +153,49 @@ impl UnmapList {
         if count > MAXIMUM_UNMAP_DESCRIPTORS {
             return Err(UnmapListFault::TooManyDescriptors);
         }
-        Ok(ListedExtents { bytes, count })
+        Ok(ListedExtents {
+            bytes,
+            count,
+            only_with_blocks: false,
+        })
     }
 }
 
 impl<'a> ListedExtents<'a> {
+    /// These extents, or only those that name a block.
+    pub fn named(self, only_with_blocks: bool) -> ListedExtents<'a>
+        ensures { result ≡ named_extents only_with_blocks self.entry }
+    {
+        ListedExtents {
+            bytes: self.bytes,
+            count: self.count,
+            only_with_blocks: only_with_blocks | self.only_with_blocks,
+        }
+    }
+
     /// The list of these extents.
     pub fn to_list(&self) -> UnmapList
         ensures { result ≡ self.now }
     {
         let mut list = UnmapList::new();
         for index in 0..self.count {
-            list.push(descriptor_at(self.bytes, index));
+            push_named(
+                &mut list,
+                descriptor_at(self.bytes, index),
+                self.only_with_blocks,
+            );
         }
         list
+    }
+}
+
+/// Adds an extent at the end, unless it names no block and only those with blocks are asked for.
+fn push_named(list: &mut UnmapList, extent: Extent, only_with_blocks: bool)
+    requires { length list.old < maximum_unmap_descriptors }
+    ensures { list.new ≡ list.old ++ named_extents only_with_blocks (extent ∷ []) }
+{
+    if !only_with_blocks || extent.count > 0 {
+        list.push(extent);
     }
 }
 

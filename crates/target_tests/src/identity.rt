@@ -107,5 +107,7 @@ fn requests_for_mode_pages_are_refused(rt: HostRuntime) {
     let mut bytes = [0xEE; 4];
     let mut cut = Cut::new(&mut bytes, 4);
     assert!(rt; pages.sense(&ask, &mut cut) == Err(AskFault::Page));
-    assert!(rt; pages.select(&[0x00], CdbWidth::Six, false, 1).err() == Some(SelectFault::Length));
+    assert!(rt;
+        pages.select(&[0x00], CdbWidth::Six, false, Some(1)).err() == Some(SelectFault::Length)
+    );
 }

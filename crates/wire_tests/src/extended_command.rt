@@ -1,10 +1,10 @@
-// CDBs of the extended profile as SPC-4 and SBC-3 lay them out, with their faults and ignored bits.
+// CDBs of the extended profile as SPC-4 and SBC-3 lay them out, with their ignored bits.
 use crate::command::operation_code;
 use sg_wire::{
-    ByteCheck, CdbFault, Class, Command, Extent10, Extent12, Extent16, LogSense, PageCode, Profile,
-    ReadDefectData10, ReadDefectData12, ReportLuns, ReportSupportedOperationCodes,
-    ReportSupportedTaskManagementFunctions, SendDiagnostic, ThreeBits, Verify10, Verify12,
-    Verify16,
+    ByteCheck, CdbFault, Command, Extent10, Extent12, Extent16, FourBits, LogSense, PageCode,
+    Profile, ReadDefectData10, ReadDefectData12, ReportLuns, ReportSupportedOperationCodes,
+    ReportSupportedTaskManagementFunctions, SendDiagnostic, StartStopUnit, ThreeBits, Verify10,
+    Verify12, Verify16, WriteAtomic16,
 };
 use std::test::Fail;
 
@@ -97,8 +97,35 @@ const FUNCTIONS: Command = Command::ReportSupportedTaskManagementFunctions(
     },
 );
 
+/// WRITE ATOMIC with an ATOMIC BOUNDARY, which a disk refuses later, and with large values.
+const ATOMIC: Command = Command::WriteAtomic16(WriteAtomic16 {
+    lba: 0x0102_0304_0506_0708,
+    boundary: 0x090A,
+    count: 0x0B0C,
+});
+
+const LARGEST_ATOMIC: Command = Command::WriteAtomic16(WriteAtomic16 {
+    lba: u64::MAX,
+    boundary: 0xFFFE,
+    count: u16::MAX,
+});
+
 /// The CDBs of commands whose fields have no numbers of a few bits.
-const CDBS: [(&[u8], Command); 20] = [
+const CDBS: [(&[u8], Command); 23] = [
+    (
+        &[0x8B, 0, 1, 2, 3, 4, 5, 6, 7, 8, 9, 10, 11, 12, 0, 0],
+        Command::OrWrite16(EXTENT_16),
+    ),
+    (
+        &[0x9C, 0, 1, 2, 3, 4, 5, 6, 7, 8, 9, 10, 11, 12, 0, 0],
+        ATOMIC,
+    ),
+    (
+        &[
+            0x9C, 0, 0xFF, 0xFF, 0xFF, 0xFF, 0xFF, 0xFF, 0xFF, 0xFF, 0xFF, 0xFE, 0xFF, 0xFF, 0, 0,
+        ],
+        LARGEST_ATOMIC,
+    ),
     (
         &[0x34, 0, 1, 2, 3, 4, 0, 5, 6, 0],
         Command::PreFetch10(EXTENT_10),
@@ -245,6 +272,34 @@ fn send_diagnostic_is_read_and_written(rt: HostRuntime) -> Result<(), Fail> {
 }
 
 #[test]
+fn start_stop_unit_is_read_and_written(rt: HostRuntime) -> Result<(), Fail> {
+    let start = Command::StartStopUnit(StartStopUnit {
+        power_condition_modifier: FourBits::new(0).ok_or("no modifier")?,
+        power_condition: FourBits::new(0).ok_or("no condition")?,
+        loej: false,
+        start: true,
+    });
+    let standby = Command::StartStopUnit(StartStopUnit {
+        power_condition_modifier: FourBits::new(1).ok_or("no modifier")?,
+        power_condition: FourBits::new(3).ok_or("no condition")?,
+        loej: true,
+        start: false,
+    });
+    let largest = Command::StartStopUnit(StartStopUnit {
+        power_condition_modifier: FourBits::new(15).ok_or("no modifier")?,
+        power_condition: FourBits::new(15).ok_or("no condition")?,
+        loej: true,
+        start: true,
+    });
+    assert!(rt; is_read_and_written(&[0x1B, 0, 0, 0, 0x01, 0], start));
+    assert!(rt; is_read_and_written(&[0x1B, 0, 0, 0x01, 0x32, 0], standby));
+    assert!(rt; is_read_and_written(&[0x1B, 0, 0, 0x0F, 0xF3, 0], largest));
+    // IMMED and NO_FLUSH change nothing.
+    assert!(rt; read(&[0x1B, 0x01, 0, 0, 0x05, 0]) == Ok(start));
+    Ok(())
+}
+
+#[test]
 fn a_report_of_operation_codes_is_read_and_written(rt: HostRuntime) -> Result<(), Fail> {
     let one = Command::ReportSupportedOperationCodes(ReportSupportedOperationCodes {
         timeouts: false,
@@ -348,147 +403,5 @@ fn ignored_bits_change_no_extended_command(rt: HostRuntime) {
     for (cdb, command) in &IGNORED {
         let code = operation_code(cdb);
         assert!(rt; read(cdb) == Ok(*command), "operation code {code}");
-    }
-}
-
-/// CDBs with a bit that no field has, which is the first fault of its byte; CDBs that end early; and
-/// MAINTENANCE IN with service actions that no command has.
-const FAULTS: [(&[u8], CdbFault); 32] = [
-    // PPC and SP of LOG SENSE.
-    (&[0x4D, 0x02, 0, 0, 0, 0, 0, 0, 0, 0], CdbFault::Field(1)),
-    (&[0x4D, 0x01, 0, 0, 0, 0, 0, 0, 0, 0], CdbFault::Field(1)),
-    (&[0x4D, 0, 0, 0, 0x01, 0, 0, 0, 0, 0], CdbFault::Field(4)),
-    (&[0x4D, 0, 0, 0, 0, 0, 0, 0, 0], CdbFault::Short(9)),
-    (
-        &[0xA0, 0x01, 0, 0, 0, 0, 0, 0, 0, 0, 0, 0],
-        CdbFault::Field(1),
-    ),
-    (
-        &[0xA0, 0, 0, 0x80, 0, 0, 0, 0, 0, 0, 0, 0],
-        CdbFault::Field(3),
-    ),
-    (
-        &[0xA0, 0, 0, 0, 0, 0, 0, 0, 0, 0, 0x01, 0],
-        CdbFault::Field(10),
-    ),
-    (
-        &[0xA0, 0, 0, 0, 0, 0, 0, 0, 0, 0, 0, 0x01],
-        CdbFault::Field(11),
-    ),
-    (&[0xA0, 0, 0, 0, 0, 0, 0, 0, 0, 0, 0], CdbFault::Short(11)),
-    (
-        &[0xA3, 0x2C, 0, 0, 0, 0, 0, 0, 0, 0, 0, 0],
-        CdbFault::Field(1),
-    ),
-    (
-        &[0xA3, 0x0C, 0x08, 0, 0, 0, 0, 0, 0, 0, 0, 0],
-        CdbFault::Field(2),
-    ),
-    (
-        &[0xA3, 0x0D, 0x01, 0, 0, 0, 0, 0, 0, 0, 0, 0],
-        CdbFault::Field(2),
-    ),
-    (
-        &[0xA3, 0x0D, 0, 0, 0, 0x01, 0, 0, 0, 0, 0, 0],
-        CdbFault::Field(5),
-    ),
-    (
-        &[0xA3, 0x0D, 0, 0, 0, 0, 0, 0, 0, 0, 0],
-        CdbFault::Short(11),
-    ),
-    // No command has these service actions.
-    (
-        &[0xA3, 0x00, 0, 0, 0, 0, 0, 0, 0, 0, 0, 0],
-        CdbFault::Field(1),
-    ),
-    (
-        &[0xA3, 0x0B, 0, 0, 0, 0, 0, 0, 0, 0, 0, 0],
-        CdbFault::Field(1),
-    ),
-    (
-        &[0xA3, 0x0E, 0, 0, 0, 0, 0, 0, 0, 0, 0, 0],
-        CdbFault::Field(1),
-    ),
-    (&[0xA3, 0x0E], CdbFault::Short(2)),
-    (&[0x1D, 0x08, 0, 0, 0, 0], CdbFault::Field(1)),
-    (&[0x1D, 0x04, 0x01, 0, 0, 0], CdbFault::Field(2)),
-    (&[0x34, 0x04, 0, 0, 0, 0, 0, 0, 1, 0], CdbFault::Field(1)),
-    (&[0x34, 0, 0, 0, 0, 0, 0x20, 0, 1, 0], CdbFault::Field(6)),
-    (
-        &[0x90, 0x04, 0, 0, 0, 0, 0, 0, 0, 0, 0, 0, 0, 1, 0, 0],
-        CdbFault::Field(1),
-    ),
-    (
-        &[0x91, 0x08, 0, 0, 0, 0, 0, 0, 0, 0, 0, 0, 0, 1, 0, 0],
-        CdbFault::Field(1),
-    ),
-    // RDPROTECT and WRPROTECT.
-    (
-        &[0xA8, 0x20, 0, 0, 0, 0, 0, 0, 0, 1, 0, 0],
-        CdbFault::Field(1),
-    ),
-    (
-        &[0xAA, 0x80, 0, 0, 0, 0, 0, 0, 0, 1, 0, 0],
-        CdbFault::Field(1),
-    ),
-    (&[0xA8, 0, 0, 0, 0, 0, 0, 0, 0, 1, 0], CdbFault::Short(11)),
-    (&[0x37, 0, 0x20, 0, 0, 0, 0, 0, 4, 0], CdbFault::Field(2)),
-    (
-        &[0xB7, 0x20, 0, 0, 0, 0, 0, 0, 0, 8, 0, 0],
-        CdbFault::Field(1),
-    ),
-    // WRITE AND VERIFY has no FUA.
-    (&[0x2E, 0x08, 0, 0, 0, 0, 0, 0, 1, 0], CdbFault::Field(1)),
-    (
-        &[0xAE, 0x01, 0, 0, 0, 0, 0, 0, 0, 1, 0, 0],
-        CdbFault::Field(1),
-    ),
-    (
-        &[0x8E, 0x40, 0, 0, 0, 0, 0, 0, 0, 0, 0, 0, 0, 1, 0, 0],
-        CdbFault::Field(1),
-    ),
-];
-
-#[test]
-fn faults_of_extended_commands_are_found(rt: HostRuntime) {
-    for (cdb, fault) in &FAULTS {
-        let code = operation_code(cdb);
-        assert!(rt; read(cdb) == Err(*fault), "operation code {code}");
-    }
-}
-
-/// The class on an extended disk, and whether a pending unit attention blocks the command.
-const COLUMNS: [(&[u8], Class, bool); 22] = [
-    (&[0xA0], Class::Always, false),
-    (&[0x4D], Class::Always, true),
-    (&[0xA3, 0x0C], Class::Reads, true),
-    (&[0xA3, 0x0D], Class::Reads, true),
-    (&[0x1D], Class::Writes, true),
-    (&[0x34], Class::Reads, true),
-    (&[0x90], Class::Reads, true),
-    (&[0xA8], Class::Reads, true),
-    (&[0xAA], Class::Writes, true),
-    (&[0x37], Class::Reads, true),
-    (&[0xB7], Class::Reads, true),
-    (&[0x91], Class::Writes, true),
-    (&[0x2E], Class::Writes, true),
-    (&[0xAE], Class::Writes, true),
-    (&[0x8E], Class::Writes, true),
-    (&[0x2F], Class::Reads, true),
-    (&[0xAF], Class::Reads, true),
-    (&[0x8F], Class::Reads, true),
-    (&[0x89], Class::Writes, true),
-    (&[0x3F], Class::Writes, true),
-    (&[0x12], Class::Always, false),
-    (&[0x28], Class::Reads, true),
-];
-
-#[test]
-fn an_extended_disk_has_a_class_for_each_command(rt: HostRuntime) {
-    for (cdb, class, blocked) in &COLUMNS {
-        let has_class = Command::class_in(Profile::Extended, cdb) == Some(*class);
-        let is_blocked = Command::is_blocked_in(Profile::Extended, cdb) == *blocked;
-        let code = operation_code(cdb);
-        assert!(rt; has_class && is_blocked, "operation code {code}");
     }
 }

@@ -10,6 +10,10 @@ mod cut;
 #[cfg(test)]
 mod extended_command;
 #[cfg(test)]
+mod extended_fault;
+#[cfg(test)]
+mod format;
+#[cfg(test)]
 mod next_start;
 #[cfg(test)]
 mod print;

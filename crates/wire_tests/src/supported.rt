@@ -143,12 +143,12 @@ fn the_base_commands_are_reported(rt: HostRuntime) {
 
 #[test]
 fn the_extended_commands_are_reported_with_timeouts(rt: HostRuntime) {
-    let mut buf = [0xEE; 1040];
-    let mut cut = Cut::new(&mut buf, 1040);
+    let mut buf = [0xEE; 1180];
+    let mut cut = Cut::new(&mut buf, 1180);
     let report = SupportReport::AllCommands { timeouts: true };
     report.write(Profile::Extended, &mut cut);
     let written = cut.written();
-    // 51 commands of 20 bytes
-    assert!(rt; written == 1024 && buf[..4] == [0x00, 0x00, 0x03, 0xFC]);
+    // 58 commands of 20 bytes
+    assert!(rt; written == 1164 && buf[..4] == [0x00, 0x00, 0x04, 0x88]);
     assert!(rt; buf[4..14] == [0x00, 0x00, 0x00, 0x00, 0x00, 0x02, 0x00, 0x06, 0x00, 0x0A]);
 }

@@ -1,11 +1,12 @@
 // The bytes that the words of the tools send, as SPC-4 and SBC-3 lay them out. Worked rows show
 // their refusals.
 use sg_tools::{MAX_DATA_OUT, Show, Tool, ToolName, status_of};
+use sg_wire::Profile;
 use std::alloc::Global;
 use std::test::Fail;
 
 /// The words of a tool, the CDB and the data-out that it sends, and how the answer is shown.
-const SENT: [(&str, &[u8], &[u8], Show); 28] = [
+const SENT: [(&str, &[u8], &[u8], Show); 49] = [
     ("sg_inq", b"\x12\x00\x00\x00\x24\x00", b"", Show::Inquiry),
     ("sg_inq --", b"\x12\x00\x00\x00\x24\x00", b"", Show::Inquiry),
     (
@@ -145,6 +146,122 @@ const SENT: [(&str, &[u8], &[u8], Show); 28] = [
         b"\x00\x00\x00\x00\x00\x00\x00\x00\x00\x00\x00\x00\x00\x00\x00\x00\x00\x00\x00\x00\x00\x00\x00\x00",
         Show::Nothing,
     ),
+    ("sg_turs", b"\x00\x00\x00\x00\x00\x00", b"", Show::Nothing),
+    ("sg_requests", b"\x03\x00\x00\x00\xFC\x00", b"", Show::Sense),
+    (
+        "sg_requests -dH -m 18",
+        b"\x03\x01\x00\x00\x12\x00",
+        b"",
+        Show::Hex,
+    ),
+    (
+        "sg_luns",
+        b"\xA0\x00\x00\x00\x00\x00\x00\x00\x20\x00\x00\x00",
+        b"",
+        Show::Luns,
+    ),
+    (
+        "sg_luns -s 0x11 --maxlen=16",
+        b"\xA0\x00\x11\x00\x00\x00\x00\x00\x00\x10\x00\x00",
+        b"",
+        Show::Luns,
+    ),
+    (
+        "sg_opcodes",
+        b"\xA3\x0C\x00\x00\x00\x00\x00\x00\x20\x00\x00\x00",
+        b"",
+        Show::AllCommands,
+    ),
+    (
+        "sg_opcodes --opcode=28h",
+        b"\xA3\x0C\x01\x28\x00\x00\x00\x00\x20\x00\x00\x00",
+        b"",
+        Show::OneCommand,
+    ),
+    (
+        "sg_opcodes -Ro 0x9e -s 18",
+        b"\xA3\x0C\x82\x9E\x00\x12\x00\x00\x20\x00\x00\x00",
+        b"",
+        Show::OneCommand,
+    ),
+    (
+        "sg_opcodes -t",
+        b"\xA3\x0D\x00\x00\x00\x00\x00\x00\x00\x04\x00\x00",
+        b"",
+        Show::TaskManagement,
+    ),
+    (
+        "sg_opcodes -tqR -s 1",
+        b"\xA3\x0D\x80\x00\x00\x00\x00\x00\x00\x10\x00\x00",
+        b"",
+        Show::TaskManagement,
+    ),
+    (
+        "sg_logs",
+        b"\x4D\x00\x00\x00\x00\x00\x00\xFF\xFC\x00",
+        b"",
+        Show::LogPage,
+    ),
+    (
+        "sg_logs -p 0xf,0xff -m 64",
+        b"\x4D\x00\x0F\xFF\x00\x00\x00\x00\x40\x00",
+        b"",
+        Show::LogPage,
+    ),
+    (
+        "sg_readcap",
+        b"\x25\x00\x00\x00\x00\x00\x00\x00\x00\x00",
+        b"",
+        Show::Capacity10,
+    ),
+    (
+        "sg_readcap --16",
+        b"\x9E\x10\x00\x00\x00\x00\x00\x00\x00\x00\x00\x00\x00\x20\x00\x00",
+        b"",
+        Show::Capacity16,
+    ),
+    (
+        "sg_readcap -lH",
+        b"\x9E\x10\x00\x00\x00\x00\x00\x00\x00\x00\x00\x00\x00\x20\x00\x00",
+        b"",
+        Show::Hex,
+    ),
+    (
+        "sg_sync",
+        b"\x35\x00\x00\x00\x00\x00\x00\x00\x00\x00",
+        b"",
+        Show::Nothing,
+    ),
+    (
+        "sg_sync -l 16 -c 2",
+        b"\x35\x00\x00\x00\x00\x10\x00\x00\x02\x00",
+        b"",
+        Show::Nothing,
+    ),
+    (
+        "sg_sync -S --lba 0x100000000 --count=65536",
+        b"\x91\x00\x00\x00\x00\x01\x00\x00\x00\x00\x00\x01\x00\x00\x00\x00",
+        b"",
+        Show::Nothing,
+    ),
+    (
+        "sg_verify -E 3 -i 00ff -c 8",
+        b"\x2F\x06\x00\x00\x00\x00\x00\x00\x08\x00",
+        b"\x00\xFF",
+        Show::Nothing,
+    ),
+    (
+        "sg_compare_and_write -l 1 -i aB01",
+        b"\x89\x00\x00\x00\x00\x00\x00\x00\x00\x01\x00\x00\x00\x01\x00\x00",
+        b"\xAB\x01",
+        Show::Nothing,
+    ),
+    (
+        "sg_write_same -U -l 1 -n 2 -i -",
+        b"\x93\x08\x00\x00\x00\x00\x00\x00\x00\x01\x00\x00\x00\x02\x00\x00",
+        b"",
+        Show::Nothing,
+    ),
 ];
 
 /// Reads the request that the words of a line make. The first word is the tool's name.
@@ -154,7 +271,7 @@ fn parse(alloc: Global, line: &str) -> Result<Tool, Fail> {
         words.push(word).or(Err("no memory"))?;
     }
     let word = words.first().ok_or("no word")?;
-    let name = ToolName::of_word(word).ok_or("no tool")?;
+    let name = ToolName::of_word(Profile::Extended, word).ok_or("no tool")?;
     Ok(Tool::parse(alloc, name, &words).or(Err("words are refused"))?)
 }
 

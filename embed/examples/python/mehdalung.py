@@ -98,6 +98,18 @@ class Kind(IntEnum):
     CAPABILITIES = 10
     FULL_STATUS = 11
     SENSE = 12
+    INQUIRY_EXTENDED = 13
+    VPD_EXTENDED = 14
+    SENSE_EXTENDED = 15
+    LUNS = 16
+    ALL_COMMANDS = 17
+    ONE_COMMAND = 18
+    TASK_MANAGEMENT = 19
+    LOG_PAGE = 20
+    CAPACITY_10 = 21
+    CAPACITY_16 = 22
+    DEFECTS_10 = 23
+    DEFECTS_12 = 24
 
 
 class Refused(Exception):
@@ -169,6 +181,8 @@ def load():
     library.mdl_power_cycle.argtypes = [slot]
     library.mdl_happen.argtypes = [slot, ctypes.POINTER(HappeningRecord)]
     library.mdl_read_happening.argtypes = [bytes_of, ctypes.POINTER(HappeningRecord)]
+    library.mdl_faults.argtypes = [slot, c_void_p, c_size_t]
+    library.mdl_faults.restype = c_size_t
     library.mdl_registered.argtypes = [slot, ctypes.POINTER(c_uint32)]
     library.mdl_forget.argtypes = [slot, c_uint32]
     library.mdl_read_sense.argtypes = [bytes_of, c_size_t, ctypes.POINTER(Sense)]
@@ -356,6 +370,10 @@ class Disk:
     def disarm_all(self):
         """Takes away all faults."""
         self.happen(HappeningRecord(kind=Happening.DISARM_ALL))
+
+    def faults(self):
+        """Lists the armed faults, in lines: each with its number, in the words that arm it."""
+        return text_of(LIBRARY.mdl_faults, self.slot)
 
     def happen(self, what):
         """Lets something happen: words such as "fault medium 3/11/00 blocks 10 2", or a

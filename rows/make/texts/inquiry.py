@@ -25,3 +25,16 @@ def text(data):
     yield from answer.lines(TABLE)
     yield from hex_lines(answer.rest(36))
     answer.need(answer.end)
+
+
+def extended_text(data):
+    """The table, the version descriptors of bytes 58 to 73, and the other bytes in hex lines."""
+    answer = Answer(data, "4", least=36)
+    yield from answer.lines(TABLE)
+    before = min(58, answer.end)
+    yield from hex_lines(answer.data[36:before])
+    answer.need(before)
+    for at in range(58, 74, 2):
+        yield f"  version descriptor: 0x{answer.take(at, 2).hex()}"
+    yield from hex_lines(answer.rest(74))
+    answer.need(answer.end)

@@ -73,3 +73,65 @@ PAGES = {
     0xB0: lambda answer: answer.lines(BLOCK_LIMITS),
     0xB2: lambda answer: answer.lines(PROVISIONING),
 }
+
+
+# ------------------------------------------------------------------- pages of the extended profile
+
+# Extended INQUIRY Data (SPC-4, 7.8.7).
+EXTENDED_INQUIRY = [
+    [("activate microcode", "4.7-6"), ("SPT", "4.5-3"), ("GRD_CHK", "4.2"), ("APP_CHK", "4.1"),
+     ("REF_CHK", "4.0")],
+    [("UASK_SUP", "5.5"), ("GROUP_SUP", "5.4"), ("PRIOR_SUP", "5.3"), ("HEADSUP", "5.2"),
+     ("ORDSUP", "5.1"), ("SIMPSUP", "5.0")],
+    [("WU_SUP", "6.3"), ("CRD_SUP", "6.2"), ("NV_SUP", "6.1"), ("V_SUP", "6.0")],
+    [("P_I_I_SUP", "7.4"), ("LUICLR", "7.0")],
+    [("R_SUP", "8.4"), ("CBCS", "8.0")],
+    [("multi I_T nexus microcode download", "9.3-0")],
+    [("extended self-test completion minutes", "10-11")],
+    [("POA_SUP", "12.7"), ("HRA_SUP", "12.6"), ("VSA_SUP", "12.5")],
+    [("maximum supported sense data length", "13")],
+]
+
+# Block Device Characteristics (SBC-3, vital product data parameters).
+CHARACTERISTICS = [
+    [("medium rotation rate", "4-5")],
+    [("product type", "6", "code")],
+    [("WABEREQ", "7.7-6"), ("WACEREQ", "7.5-4"), ("nominal form factor", "7.3-0")],
+    [("FUAB", "8.1"), ("VBULS", "8.0")],
+]
+
+
+def extended_text(data):
+    """The header, and the page by its code, with the pages of the extended profile."""
+    answer = Answer(data, "2-3", least=4)
+    yield from answer.lines(HEADER)
+    yield from (PAGES | EXTENDED_PAGES).get(data[1], other_page)(answer)
+
+
+def policies(answer):
+    """Page 87h (SPC-4, 7.8): a line for each mode page policy descriptor."""
+    for at in range(4, answer.end, 4):
+        page, subpage, policy, _ = answer.take(at, 4)
+        yield (f"  page {page & 0x3F:02X}h/{subpage:02X}h, MLUS: {policy >> 7}, "
+               f"policy: {policy & 3}")
+
+
+def ports(answer):
+    """Page 88h (SPC-4, 7.8): two lines for each port. The second has all that follows its lengths."""
+    at = 4
+    while at < answer.end:
+        transport_id = int.from_bytes(answer.take(at, 8)[6:8], "big")
+        names = int.from_bytes(answer.take(at, 12 + transport_id)[-2:], "big")
+        whole = answer.take(at, 12 + transport_id + names)
+        port = int.from_bytes(whole[2:4], "big")
+        yield f"  port: {port}, TransportID length: {transport_id}"
+        yield "    hex: " + whole[8:].hex()
+        at += len(whole)
+
+
+EXTENDED_PAGES = {
+    0x86: lambda answer: answer.lines(EXTENDED_INQUIRY),
+    0x87: policies,
+    0x88: ports,
+    0xB1: lambda answer: answer.lines(CHARACTERISTICS),
+}

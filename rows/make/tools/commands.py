@@ -1,4 +1,4 @@
-"""The six tools: their options, and the command that each sends (docs/SCRIPT.md, man/sgrun-sg_*.1).
+"""The six tools of each disk: their options, and the command that each sends (docs/SCRIPT.md).
 
 A tool is a table of options, what they exclude, and a function from their values to a Request. An
 option that is given has the value that it reads, or True if it is a flag.
@@ -15,11 +15,11 @@ from .options import Option
 
 
 class Request(NamedTuple):
-    """A command, its data-out, and the function from data-in to the lines that are shown."""
+    """A command, its data-out, and the function from data-in and a profile to the lines that are shown."""
 
     cdb: bytes
     data_out: bytes = b""
-    show: Callable = lambda data: []
+    show: Callable = lambda data, profile: []
 
 
 class Usage(Exception):
@@ -27,17 +27,23 @@ class Usage(Exception):
 
 
 class Tool(NamedTuple):
-    """Options, the pairs that exclude one another, those that must be given, and the command."""
+    """Options, the pairs that exclude one another, those that must be given, and the command.
+    Of `one_of` at least one must be given, unless it is empty. `in_range` returns whether the values
+    fit the fields that other options choose."""
 
     options: list
     request: Callable
     exclusive: list = []
     required: list = []
+    one_of: list = []
+    in_range: Callable = lambda values: True
 
 
 def shown(kind, values):
     """The answer as text, or in hex lines with --hex."""
-    return hex_lines if "hex" in values else lambda data: texts.show(kind, data)
+    if "hex" in values:
+        return lambda data, profile: hex_lines(data)
+    return lambda data, profile: texts.show(kind, data, profile)
 
 
 def below(limit):
@@ -172,7 +178,7 @@ def sg_persist(values):
 def persistent_reserve_in(action, kind):
     """PERSISTENT RESERVE IN, with an allocation length of 8,192."""
     cdb = bytes([0x5E, action]) + (8192).to_bytes(7, "big") + b"\0"
-    return Request(cdb, show=lambda data: texts.show(kind, data))
+    return Request(cdb, show=lambda data, profile: texts.show(kind, data, profile))
 
 
 def persistent_reserve_out(action, values):

@@ -1,10 +1,11 @@
 // Checks of a mode parameter list: of a part of it, of its header, and of its block descriptor.
 ghost use Rattle.std.specs.Prelude.{◌≡◌, ◌≤◌, ◌<◌, ◌==◌, ◌||◌, ◌+◌, ◌^◌, []};
-ghost use Rattle.std.specs.Prelude.{drop, take, length, IsTrue, OnOk};
+ghost use Rattle.std.specs.Prelude.{drop, take, length, true, false, IsTrue, OnOk, Some};
 ghost use Rattle.sg_pages.specs.BlockDescriptor.{descriptor_length};
 ghost use Rattle.sg_pages.specs.ModeSelect.{accepted_blocks, block_descriptor_length};
 ghost use Rattle.sg_pages.specs.ModeSelect.{descriptor_faults, differences, first_fault};
-ghost use Rattle.sg_pages.specs.ModeSelect.{header_faults, header_length, is_descriptor_length};
+ghost use Rattle.sg_pages.specs.ModeSelect.{header_faults, header_length};
+ghost use Rattle.sg_pages.specs.ModeSelect.{ignored_descriptor_bits, is_descriptor_length};
 ghost use Rattle.sg_pages.specs.ModeSelect.{least, part_at};
 ghost use Rattle.sg_pages.specs.ModeSelect.{part_faults, unless_fault};
 
@@ -30,6 +31,13 @@ const LENGTH_OFFSET_10: usize = 6;
 const IGNORED_IN_HEADER_6: [u8; LENGTH_OFFSET_6] = [0xFF, 0x00, 0xFF];
 
 const IGNORED_IN_HEADER_10: [u8; LENGTH_OFFSET_10] = [0xFF, 0xFF, 0x00, 0xFF, 0x01, 0x00];
+
+/// The bits of NUMBER OF LOGICAL BLOCKS in the short and the long block descriptor.
+const SHORT_NUMBER_BITS: [u8; SHORT_DESCRIPTOR_LENGTH] = [0xFF, 0xFF, 0xFF, 0xFF, 0, 0, 0, 0];
+
+const LONG_NUMBER_BITS: [u8; LONG_DESCRIPTOR_LENGTH] = [
+    0xFF, 0xFF, 0xFF, 0xFF, 0xFF, 0xFF, 0xFF, 0xFF, 0, 0, 0, 0, 0, 0, 0, 0,
+];
 
 /// LONGLBA of the header of MODE SELECT(10): its byte, and its bit there.
 const LONGLBA_OFFSET: usize = 4;
@@ -135,7 +143,7 @@ fn is_descriptor_length(length: usize, long: bool) -> bool
 pub(super) fn check_descriptor(
     list: &[u8],
     width: CdbWidth,
-    blocks: u64,
+    blocks: Option<u64>,
     descriptor: usize,
 ) -> Result<(), ModeSelectFault>
     requires header { header_length width ≤ length list.now }
@@ -152,25 +160,57 @@ pub(super) fn check_descriptor(
         SHORT_DESCRIPTOR_LENGTH => {
             let accepted = accepted_blocks(list, offset, SHORT_NUMBER_LENGTH, blocks);
             let expected = short_descriptor(accepted);
-            let ignored = [0; SHORT_DESCRIPTOR_LENGTH];
+            let ignored = ignored_in_short(blocks);
             check(list, offset, SHORT_DESCRIPTOR_LENGTH, &expected, &ignored)
         }
         _ => {
             let accepted = accepted_blocks(list, offset, LONG_NUMBER_LENGTH, blocks);
             let expected = long_descriptor(accepted);
-            let ignored = [0; LONG_DESCRIPTOR_LENGTH];
+            let ignored = ignored_in_long(blocks);
             check(list, offset, LONG_DESCRIPTOR_LENGTH, &expected, &ignored)
         }
     }
 }
 
-/// The number of blocks that is accepted in a descriptor whose number has `count` bytes. It is the
-/// disk's number, or zero if these bytes are zero as far as the list has them.
-fn accepted_blocks(list: &[u8], offset: usize, count: usize, blocks: u64) -> u64
+/// The number of blocks that is accepted in a descriptor whose number has `count` bytes. Without a
+/// number of the disk it is not compared.
+fn accepted_blocks(list: &[u8], offset: usize, count: usize, blocks: Option<u64>) -> u64
     requires { offset ≤ length list.now }
     ensures { result ≡ accepted_blocks blocks (take count (drop offset list.now)) }
+{
+    match blocks {
+        Some(blocks) => accepted_number(list, offset, count, blocks),
+        None => 0,
+    }
+}
+
+/// The disk's number of blocks, or zero if the bytes of the number are zero as far as the list has
+/// them.
+fn accepted_number(list: &[u8], offset: usize, count: usize, blocks: u64) -> u64
+    requires { offset ≤ length list.now }
+    ensures { result ≡ accepted_blocks (Some blocks) (take count (drop offset list.now)) }
 {
     let rest = &list[offset..];
     let number = &rest[..count.min(rest.len())];
     if are_zeros(number) { 0 } else { blocks }
+}
+
+/// The ignored bits of the short block descriptor.
+fn ignored_in_short(blocks: Option<u64>) -> [u8; SHORT_DESCRIPTOR_LENGTH]
+    ensures { result ≡ ignored_descriptor_bits false blocks }
+{
+    match blocks {
+        Some(_) => [0; SHORT_DESCRIPTOR_LENGTH],
+        None => SHORT_NUMBER_BITS,
+    }
+}
+
+/// The ignored bits of the long block descriptor.
+fn ignored_in_long(blocks: Option<u64>) -> [u8; LONG_DESCRIPTOR_LENGTH]
+    ensures { result ≡ ignored_descriptor_bits true blocks }
+{
+    match blocks {
+        Some(_) => [0; LONG_DESCRIPTOR_LENGTH],
+        None => LONG_NUMBER_BITS,
+    }
 }

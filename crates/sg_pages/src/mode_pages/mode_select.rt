@@ -36,8 +36,9 @@ const PAGE_CODE: u8 = 0x3F;
 
 impl ModePages {
     /// Changes the current values to the values of a mode parameter list. The list is the data-out
-    /// of a MODE SELECT whose CDB has the width. The disk has `blocks` logical blocks. A page may
-    /// differ from its current values only in the bits that can be changed. If a page is sent
+    /// of a MODE SELECT whose CDB has the width. `blocks` is the number of logical blocks that a
+    /// block descriptor has to have, or zero in its place. With `None` the number is ignored. A page
+    /// may differ from its current values only in the bits that can be changed. If a page is sent
     /// twice, the last one counts. With `save`, the SP bit, all pages are saved. On a fault nothing
     /// has changed.
     ///
@@ -48,7 +49,7 @@ impl ModePages {
         list: &[u8],
         width: CdbWidth,
         save: bool,
-        blocks: u64,
+        blocks: Option<u64>,
     ) -> Result<Changed, ModeSelectFault>
         ensures state { self.new
             ≡ result_unwrap_or (mode_select self.old list.now width save blocks) self.old }
@@ -72,7 +73,7 @@ fn selected_values(
     current: &PageValues,
     list: &[u8],
     width: CdbWidth,
-    blocks: u64,
+    blocks: Option<u64>,
 ) -> Result<PageValues, ModeSelectFault>
     ensures values { result ≡ selected_values current.now width blocks list.now }
     ensures inside { IfErr (selected_values current.now width blocks list.now)

@@ -14,7 +14,7 @@ use super::words::{Words, word_text};
 use super::{LineFault, Request, TextFault, WORD_LIMIT};
 use arrayvec::ArrayVec;
 use sg_tools::{Tool, ToolFault, ToolName};
-use sg_wire::Initiator;
+use sg_wire::{Initiator, Profile};
 use std::alloc::Global;
 
 /// A line that begins with an initiator and the name of a tool.
@@ -33,8 +33,10 @@ impl<'a> ToolLine<'a> {
     ghost use Rattle.sg_run.specs.Request.{tool_line};
     ghost use Rattle.sg_run.specs.RequestLines.{line_request};
 
-    /// The request of a tool's line, by the first words after the initiator, which are kept.
+    /// The request of a tool's line on a disk of a profile, by the first words after the initiator,
+    /// which are kept.
     pub(super) fn of_operands(
+        profile: Profile,
         initiator: Initiator,
         operands: &[&[u8]],
         text: &'a [u8],
@@ -44,9 +46,9 @@ impl<'a> ToolLine<'a> {
         requires at_most_64 { length (words text.now) ≤ word_limit }
         requires operands { map (λ word. word.now) operands.now ≡ take 5 (tool_words text.now) }
         requires ascii { All (λ word. IsAscii word.now) operands.now }
-        ensures { line_request result ≡ tool_line initiator (tool_words text.now) }
+        ensures { line_request result ≡ tool_line profile initiator (tool_words text.now) }
     {
-        match first_tool(operands) {
+        match first_tool(profile, operands) {
             Some(name) => Request::Tool(ToolLine {
                 initiator,
                 name,
@@ -70,7 +72,7 @@ impl<'a> ToolLine<'a> {
 }
 
 /// Reads the request that a text's words make to a tool: the words of a script's line without its
-/// initiator. The first word is the tool's name. A text may have any length.
+/// initiator. The first word is the tool's name, of an extended disk too. A text may have any length.
 ///
 /// # Errors
 /// The first of these that applies:
@@ -92,7 +94,7 @@ pub fn read_tool(alloc: Global, text: &[u8]) -> Result<Tool, TextFault>
         return Err(TextFault::TooManyWords);
     }
     let words = words.as_slice();
-    match first_tool(words) {
+    match first_tool(Profile::Extended, words) {
         Some(name) => in_text(parse_words(alloc, name, words)),
         None => Err(TextFault::UnknownTool),
     }
@@ -108,13 +110,13 @@ fn in_text(request: Result<Tool, ToolFault>) -> Result<Tool, TextFault>
     }
 }
 
-/// The tool that the first word names.
-fn first_tool(words: &[&[u8]]) -> Option<ToolName>
+/// The tool of a profile that the first word names.
+fn first_tool(profile: Profile, words: &[&[u8]]) -> Option<ToolName>
     requires { All (λ word. IsAscii word.now) words.now }
-    ensures { result ≡ first_tool (map (λ word. word.now) words.now) }
+    ensures { result ≡ first_tool profile (map (λ word. word.now) words.now) }
 {
     match words {
-        [word, ..] => ToolName::of_word(word_text(word)),
+        [word, ..] => ToolName::of_word(profile, word_text(word)),
         [] => None,
     }
 }

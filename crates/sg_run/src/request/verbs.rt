@@ -6,11 +6,10 @@ ghost use Rattle.sg_run.specs.Limits.{longest_line};
 ghost use Rattle.sg_run.specs.Request.{by_short_verb, faults_of, lists_faults, raw, show_of};
 ghost use Rattle.sg_run.specs.RequestLines.{line_request};
 
-use super::hex_word::read_hex;
 use super::words::{is_word, read_initiator, word_text};
 use super::{FilledBlocks, LineFault, Request};
 use sg_target::Call;
-use sg_tools::Show;
+use sg_tools::{Show, read_hex};
 use sg_wire::Profile;
 
 /// The request of a verb that takes at most four operands. The buffer takes the bytes of its
@@ -32,7 +31,7 @@ pub(super) fn by_short_verb<'a>(
     } else if verb == b"fill".as_slice() {
         FilledBlocks::of_operands(operands)
     } else if verb == b"show".as_slice() {
-        read_show(operands, buffer)
+        read_show(profile, operands, buffer)
     } else if lists_faults(profile, verb) {
         read_faults(operands)
     } else {
@@ -79,23 +78,23 @@ fn read_raw<'a>(operands: &[&[u8]], buffer: &'a mut [u8]) -> Request<'a>
 }
 
 /// `show KIND HEX`: bytes are shown as an answer, and nothing is sent.
-fn read_show<'a>(operands: &[&[u8]], buffer: &'a mut [u8]) -> Request<'a>
+fn read_show<'a>(profile: Profile, operands: &[&[u8]], buffer: &'a mut [u8]) -> Request<'a>
     requires operands { All (λ word. length word.now ≤ longest_line) operands.now }
     requires ascii { All (λ word. IsAscii word.now) operands.now }
     requires buffer { longest_line ≤ length buffer.old }
-    ensures { line_request result ≡ show_of (map (λ word. word.now) operands.now) }
+    ensures { line_request result ≡ show_of profile (map (λ word. word.now) operands.now) }
 {
     let [kind, bytes] = operands else {
         return Request::Faulty(LineFault::Usage);
     };
-    let Some(show) = Show::of_word(word_text(kind)) else {
+    let Some(show) = Show::of_word(profile, word_text(kind)) else {
         return Request::Faulty(LineFault::Kind);
     };
     let Some(len) = read_hex(bytes, buffer) else {
         return Request::Faulty(LineFault::Hex);
     };
     let bytes: &'a [u8] = buffer;
-    Request::Show(show, &bytes[..len])
+    Request::Show(show.in_profile(profile), &bytes[..len])
 }
 
 /// `faults`: the armed faults are listed. No word may come after the verb.

@@ -6,8 +6,10 @@ ghost use Rattle.sg_decode.specs.HexText.{gathered_text};
 ghost use Rattle.sg_run.specs.AnswerText.{answer_text};
 
 use sg_decode::{
-    GATHERED, GATHERED_TEXT, put_capabilities, put_full_status, put_hex_lines, put_inquiry,
-    put_keys, put_lba_status, put_modes, put_reservation, put_sense, put_vpd,
+    GATHERED, GATHERED_TEXT, put_all_commands, put_capabilities, put_capacity_10, put_capacity_16,
+    put_defects_10, put_defects_12, put_extended_inquiry, put_extended_sense, put_extended_vpd,
+    put_full_status, put_hex_lines, put_inquiry, put_keys, put_lba_status, put_log_page, put_luns,
+    put_modes, put_one_command, put_reservation, put_sense, put_task_management, put_vpd,
 };
 use sg_tools::Show;
 use sg_wire::{CdbWidth, Printer, Watched};
@@ -39,6 +41,18 @@ pub(crate) fn put_answer<W: Write>(
         Show::Capabilities => put_capabilities(data_in, out),
         Show::FullStatus => put_full_status(data_in, out),
         Show::Sense => put_sense(data_in, out),
+        Show::ExtendedInquiry => put_extended_inquiry(data_in, out),
+        Show::ExtendedVpd => put_extended_vpd(data_in, out),
+        Show::ExtendedSense => put_extended_sense(data_in, out),
+        Show::Luns => put_luns(data_in, out),
+        Show::AllCommands => put_all_commands(data_in, out),
+        Show::OneCommand => put_one_command(data_in, out),
+        Show::TaskManagement => put_task_management(data_in, out),
+        Show::LogPage => put_log_page(data_in, out),
+        Show::Capacity10 => put_capacity_10(data_in, out),
+        Show::Capacity16 => put_capacity_16(data_in, out),
+        Show::Defects10 => put_defects_10(data_in, out),
+        Show::Defects12 => put_defects_12(data_in, out),
     }
 }
 

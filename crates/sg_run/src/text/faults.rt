@@ -1,8 +1,9 @@
 // The armed faults as text: each in the words that arm it, and what is left of it (docs/SCRIPT.md).
-ghost use Rattle.std.specs.Prelude.{◌≡◌, ◌<◌, ◌++◌, decimal};
+ghost use Rattle.std.specs.Prelude.{◌≡◌, ◌<◌, ◌++◌, decimal, false};
 ghost use Rattle.std.specs.List.{flat_map, range_with_len};
 ghost use Rattle.sg_wire.specs.Initiator.{initiator_count};
 ghost use Rattle.sg_wire.specs.Printer.{PrintsText};
+ghost use Rattle.sg_wire.specs.Watched.{SendsText, has_failed};
 ghost use Rattle.sg_units.specs.Initiators.{is_member};
 ghost use Rattle.sg_faults.specs.Arming.{count_for};
 ghost use Rattle.sg_run.specs.FaultText.{afterwards_text, armed_text, arrival_text, blocks_text};
@@ -11,15 +12,35 @@ ghost use Rattle.sg_run.specs.FaultText.{healed_text, initiators_text, is_counte
 ghost use Rattle.sg_run.specs.FaultText.{names_all, outcome_text, sense_code_text, skip_text};
 ghost use Rattle.sg_run.specs.FaultText.{slot_text, times_text, to_text, two_digits};
 
-use sg_decode::put_number;
+use sg_decode::{GATHERED, put_number};
 use sg_faults::{
     Afterwards, ArmedFault, AtMedium, BadBlocks, Count, Fault, OnArrival, Outcome, SenseCode,
 };
 use sg_units::Initiators;
-use sg_wire::{Initiator, Printer};
+use sg_wire::{Initiator, Printer, Watched};
+use std::io;
 use std::io::Write;
 
 const DIGITS: [u8; 16] = *b"0123456789ABCDEF";
+
+/// Prints the armed faults, by their numbers, as the verb `faults` of a script does below its first
+/// line.
+///
+/// # Errors
+///
+/// The writer failed: a proper prefix of the text has been written.
+pub fn print_faults<W: Write>(
+    slots: &[Option<ArmedFault>],
+    writer: &mut Watched<W>,
+) -> io::Result<()>
+    requires { has_failed writer.old ≡ false }
+    ensures { SendsText W.contents writer.old writer.new result (faults_text slots.now) }
+{
+    let mut buffer = [0; GATHERED];
+    let mut out = Printer::new(writer, &mut buffer);
+    put_faults(slots, &mut out);
+    out.finish()
+}
 
 /// Prints the armed faults, by their numbers.
 #[tactic(auto, using(crate::proofs::TextLemmas::prints), unfolding(crate::specs::FaultText::faults_text))]

@@ -14,13 +14,14 @@ ghost use Rattle.sg_wire.specs.declared.command.table.Name.{Name};
 
 use super::masks::two_bits;
 use super::rows::{
-    PRE_FETCH_10, PRE_FETCH_16, READ_6, READ_10, READ_12, READ_16, READ_CAPACITY_10,
-    READ_CAPACITY_16, SYNCHRONIZE_CACHE_10, SYNCHRONIZE_CACHE_16, VERIFY_10, VERIFY_12, VERIFY_16,
-    WRITE_6, WRITE_10, WRITE_12, WRITE_16, WRITE_AND_VERIFY_10, WRITE_AND_VERIFY_12,
-    WRITE_AND_VERIFY_16, WRITE_LONG_10,
+    ORWRITE_16, PRE_FETCH_10, PRE_FETCH_16, READ_6, READ_10, READ_12, READ_16, READ_CAPACITY_10,
+    READ_CAPACITY_16, SANITIZE_BLOCK_ERASE, SANITIZE_CRYPTOGRAPHIC_ERASE,
+    SANITIZE_EXIT_FAILURE_MODE, SYNCHRONIZE_CACHE_10, SYNCHRONIZE_CACHE_16, VERIFY_10, VERIFY_12,
+    VERIFY_16, WRITE_6, WRITE_10, WRITE_12, WRITE_16, WRITE_AND_VERIFY_10, WRITE_AND_VERIFY_12,
+    WRITE_AND_VERIFY_16, WRITE_ATOMIC_16, WRITE_LONG_10,
 };
 use super::table::{Name, Row, check_row};
-use super::{CdbFault, Command, ShortExtent, diagnostic, provisioning, verify};
+use super::{CdbFault, Command, ShortExtent, diagnostic, format, provisioning, start_stop, verify};
 use crate::bytes::{CdbBytes, MAX_CDB_LENGTH};
 use byteorder::{BigEndian, ByteOrder};
 
@@ -48,14 +49,25 @@ pub struct Extent12 {
     pub count: u32,
 }
 
-/// An extent of logical blocks in the CDBs of READ(16), WRITE(16), SYNCHRONIZE CACHE(16) and
-/// PRE-FETCH(16) (SBC-3, 5.13, 5.35, 5.27 and 5.9).
+/// An extent of logical blocks in the CDBs of READ(16), WRITE(16), ORWRITE(16), SYNCHRONIZE CACHE(16)
+/// and PRE-FETCH(16) (SBC-3, 5.13, 5.35, 5.5, 5.27 and 5.9).
 #[derive(Clone, Copy, Debug, PartialEq, Eq)]
 pub struct Extent16 {
     /// The first block's address.
     pub lba: u64,
     /// TRANSFER LENGTH, NUMBER OF LOGICAL BLOCKS or PREFETCH LENGTH, in blocks.
     pub count: u32,
+}
+
+/// The fields of WRITE ATOMIC(16), of SBC-4.
+#[derive(Clone, Copy, Debug, PartialEq, Eq)]
+pub struct WriteAtomic16 {
+    /// The first block's address.
+    pub lba: u64,
+    /// ATOMIC BOUNDARY, in blocks.
+    pub boundary: u16,
+    /// TRANSFER LENGTH, in blocks.
+    pub count: u16,
 }
 
 /// The fields of WRITE LONG(10) (SBC-3, 5.41).
@@ -87,6 +99,8 @@ pub(super) fn decode_block(name: Name, cdb: &[u8]) -> Result<Command, CdbFault>
 {
     match name {
         Name::CompareAndWrite => verify::decode_compare_and_write(cdb),
+        Name::FormatUnit => format::decode_format_unit(cdb),
+        Name::OrWrite16 => Ok(Command::OrWrite16(decode_extent_16(&ORWRITE_16, cdb)?)),
         Name::PreFetch10 => Ok(Command::PreFetch10(decode_extent_10(&PRE_FETCH_10, cdb)?)),
         Name::PreFetch16 => Ok(Command::PreFetch16(decode_extent_16(&PRE_FETCH_16, cdb)?)),
         Name::Read6 => Ok(Command::Read6(decode_extent_6(&READ_6, cdb)?)),
@@ -101,6 +115,10 @@ pub(super) fn decode_block(name: Name, cdb: &[u8]) -> Result<Command, CdbFault>
         Name::ReadCapacity16 => decode_read_capacity_16(cdb),
         Name::ReadDefectData10 => diagnostic::decode_read_defect_data_10(cdb),
         Name::ReadDefectData12 => diagnostic::decode_read_defect_data_12(cdb),
+        Name::SanitizeBlockErase => format::decode_block_erase(cdb),
+        Name::SanitizeCryptographicErase => format::decode_cryptographic_erase(cdb),
+        Name::SanitizeExitFailureMode => format::decode_exit_failure_mode(cdb),
+        Name::StartStopUnit => start_stop::decode_start_stop_unit(cdb),
         Name::SynchronizeCache10 => decode_synchronize_cache_10(cdb),
         Name::SynchronizeCache16 => decode_synchronize_cache_16(cdb),
         Name::Verify10 => verify::decode_verify_10(cdb),
@@ -109,6 +127,7 @@ pub(super) fn decode_block(name: Name, cdb: &[u8]) -> Result<Command, CdbFault>
         Name::WriteAndVerify10 => verify::decode_write_and_verify_10(cdb),
         Name::WriteAndVerify12 => verify::decode_write_and_verify_12(cdb),
         Name::WriteAndVerify16 => verify::decode_write_and_verify_16(cdb),
+        Name::WriteAtomic16 => decode_write_atomic_16(cdb),
         Name::WriteLong10 => decode_write_long_10(cdb),
         Name::WriteSame10 => provisioning::decode_write_same_10(cdb),
         Name::WriteSame16 => provisioning::decode_write_same_16(cdb),
@@ -146,6 +165,17 @@ pub(super) fn decode_synchronize_cache_16(cdb: &[u8]) -> Result<Command, CdbFaul
 {
     let extent = decode_extent_16(&SYNCHRONIZE_CACHE_16, cdb)?;
     Ok(Command::SynchronizeCache16(extent))
+}
+
+pub(super) fn decode_write_atomic_16(cdb: &[u8]) -> Result<Command, CdbFault>
+    ensures { result ≡ command_by (layout_of Name.WriteAtomic16) cdb.now }
+{
+    check_row(&WRITE_ATOMIC_16, cdb)?;
+    Ok(Command::WriteAtomic16(WriteAtomic16 {
+        lba: BigEndian::read_u64(&cdb[2..]),
+        boundary: BigEndian::read_u16(&cdb[10..]),
+        count: BigEndian::read_u16(&cdb[12..]),
+    }))
 }
 
 pub(super) fn decode_write_long_10(cdb: &[u8]) -> Result<Command, CdbFault>
@@ -236,6 +266,8 @@ impl Command {
     {
         match *self {
             Command::CompareAndWrite(fields) => fields.encode(),
+            Command::FormatUnit(fields) => fields.encode(),
+            Command::OrWrite16(extent) => extent.encode(&ORWRITE_16),
             Command::PreFetch10(extent) => extent.encode(&PRE_FETCH_10),
             Command::PreFetch16(extent) => extent.encode(&PRE_FETCH_16),
             Command::Read6(extent) => encode_extent_6(&READ_6, extent),
@@ -250,6 +282,12 @@ impl Command {
             Command::ReadCapacity16(fields) => fields.encode(),
             Command::ReadDefectData10(fields) => fields.encode(),
             Command::ReadDefectData12(fields) => fields.encode(),
+            Command::SanitizeBlockErase(fields) => fields.encode(&SANITIZE_BLOCK_ERASE),
+            Command::SanitizeCryptographicErase(fields) => {
+                fields.encode(&SANITIZE_CRYPTOGRAPHIC_ERASE)
+            }
+            Command::SanitizeExitFailureMode(fields) => fields.encode(&SANITIZE_EXIT_FAILURE_MODE),
+            Command::StartStopUnit(fields) => fields.encode(),
             Command::SynchronizeCache10(extent) => extent.encode(&SYNCHRONIZE_CACHE_10),
             Command::SynchronizeCache16(extent) => extent.encode(&SYNCHRONIZE_CACHE_16),
             Command::Verify10(fields) => fields.encode(&VERIFY_10),
@@ -258,6 +296,7 @@ impl Command {
             Command::WriteAndVerify10(fields) => fields.encode(&WRITE_AND_VERIFY_10),
             Command::WriteAndVerify12(fields) => fields.encode(&WRITE_AND_VERIFY_12),
             Command::WriteAndVerify16(fields) => fields.encode(&WRITE_AND_VERIFY_16),
+            Command::WriteAtomic16(fields) => fields.encode(),
             Command::WriteLong10(fields) => fields.encode(),
             Command::WriteSame10(fields) => fields.encode(),
             Command::WriteSame16(fields) => fields.encode(),
@@ -342,6 +381,20 @@ impl ReadCapacity16 {
     {
         let mut cdb = READ_CAPACITY_16.begin();
         BigEndian::write_u32(&mut cdb[10..], self.allocation_length);
+        CdbBytes::new(cdb, MAX_CDB_LENGTH)
+    }
+}
+
+impl WriteAtomic16 {
+    #[tactic(auto, unfolding(crate::specs::CdbEncoding::cdb_of))]
+    pub(super) fn encode(self) -> CdbBytes
+        ensures cdb { result ≡ cdb_of (Command.WriteAtomic16 self) }
+        ensures fits { fits_cdb (Command.WriteAtomic16 self) ≡ true }
+    {
+        let mut cdb = WRITE_ATOMIC_16.begin();
+        BigEndian::write_u64(&mut cdb[2..], self.lba);
+        BigEndian::write_u16(&mut cdb[10..], self.boundary);
+        BigEndian::write_u16(&mut cdb[12..], self.count);
         CdbBytes::new(cdb, MAX_CDB_LENGTH)
     }
 }

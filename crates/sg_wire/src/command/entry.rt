@@ -6,14 +6,16 @@ ghost use Rattle.sg_wire.specs.Table.{AreEntries, Describes, IsRow, action_optio
 ghost use Rattle.sg_wire.specs.Table.{is_row, names_block_command};
 
 use super::rows::{
-    COMPARE_AND_WRITE, GET_LBA_STATUS, INQUIRY, LOG_SENSE, MODE_SELECT_6, MODE_SELECT_10,
-    MODE_SENSE_6, MODE_SENSE_10, PERSISTENT_RESERVE_IN, PERSISTENT_RESERVE_OUT, PRE_FETCH_10,
-    PRE_FETCH_16, READ_6, READ_10, READ_12, READ_16, READ_CAPACITY_10, READ_CAPACITY_16,
-    READ_DEFECT_DATA_10, READ_DEFECT_DATA_12, REPORT_LUNS, REPORT_SUPPORTED_OPERATION_CODES,
-    REPORT_SUPPORTED_TASK_MANAGEMENT_FUNCTIONS, REQUEST_SENSE, SEND_DIAGNOSTIC,
-    SYNCHRONIZE_CACHE_10, SYNCHRONIZE_CACHE_16, TEST_UNIT_READY, UNMAP, VERIFY_10, VERIFY_12,
-    VERIFY_16, WRITE_6, WRITE_10, WRITE_12, WRITE_16, WRITE_AND_VERIFY_10, WRITE_AND_VERIFY_12,
-    WRITE_AND_VERIFY_16, WRITE_LONG_10, WRITE_SAME_10, WRITE_SAME_16,
+    COMPARE_AND_WRITE, FORMAT_UNIT, GET_LBA_STATUS, INQUIRY, LOG_SENSE, MODE_SELECT_6,
+    MODE_SELECT_10, MODE_SENSE_6, MODE_SENSE_10, ORWRITE_16, PERSISTENT_RESERVE_IN,
+    PERSISTENT_RESERVE_OUT, PRE_FETCH_10, PRE_FETCH_16, READ_6, READ_10, READ_12, READ_16,
+    READ_CAPACITY_10, READ_CAPACITY_16, READ_DEFECT_DATA_10, READ_DEFECT_DATA_12, REPORT_LUNS,
+    REPORT_SUPPORTED_OPERATION_CODES, REPORT_SUPPORTED_TASK_MANAGEMENT_FUNCTIONS, REQUEST_SENSE,
+    SANITIZE_BLOCK_ERASE, SANITIZE_CRYPTOGRAPHIC_ERASE, SANITIZE_EXIT_FAILURE_MODE,
+    SEND_DIAGNOSTIC, START_STOP_UNIT, SYNCHRONIZE_CACHE_10, SYNCHRONIZE_CACHE_16, TEST_UNIT_READY,
+    UNMAP, VERIFY_10, VERIFY_12, VERIFY_16, WRITE_6, WRITE_10, WRITE_12, WRITE_16,
+    WRITE_AND_VERIFY_10, WRITE_AND_VERIFY_12, WRITE_AND_VERIFY_16, WRITE_ATOMIC_16, WRITE_LONG_10,
+    WRITE_SAME_10, WRITE_SAME_16,
 };
 use super::table::{Name, Row};
 use super::{InAction, OutAction};
@@ -29,7 +31,7 @@ pub(super) enum Entry {
 }
 
 /// All commands, in the table's order.
-static ENTRIES: [Entry; 51] = [
+static ENTRIES: [Entry; 58] = [
     Entry::Named(Name::TestUnitReady),
     Entry::Named(Name::RequestSense),
     Entry::Named(Name::Inquiry),
@@ -43,6 +45,8 @@ static ENTRIES: [Entry; 51] = [
     Entry::Named(Name::ReportSupportedTaskManagementFunctions),
     Entry::Named(Name::SendDiagnostic),
     Entry::Named(Name::CompareAndWrite),
+    Entry::Named(Name::FormatUnit),
+    Entry::Named(Name::OrWrite16),
     Entry::Named(Name::PreFetch10),
     Entry::Named(Name::PreFetch16),
     Entry::Named(Name::Read6),
@@ -57,6 +61,10 @@ static ENTRIES: [Entry; 51] = [
     Entry::Named(Name::ReadCapacity16),
     Entry::Named(Name::ReadDefectData10),
     Entry::Named(Name::ReadDefectData12),
+    Entry::Named(Name::SanitizeBlockErase),
+    Entry::Named(Name::SanitizeCryptographicErase),
+    Entry::Named(Name::SanitizeExitFailureMode),
+    Entry::Named(Name::StartStopUnit),
     Entry::Named(Name::SynchronizeCache10),
     Entry::Named(Name::SynchronizeCache16),
     Entry::Named(Name::Verify10),
@@ -65,6 +73,7 @@ static ENTRIES: [Entry; 51] = [
     Entry::Named(Name::WriteAndVerify10),
     Entry::Named(Name::WriteAndVerify12),
     Entry::Named(Name::WriteAndVerify16),
+    Entry::Named(Name::WriteAtomic16),
     Entry::Named(Name::WriteLong10),
     Entry::Named(Name::WriteSame10),
     Entry::Named(Name::WriteSame16),
@@ -88,7 +97,7 @@ impl Entry {
     #[tactic(auto, unfolding(crate::specs::Table::AreEntries, crate::specs::Table::layouts_of))]
     pub(super) fn each() -> &'static [Entry]
         ensures entries { AreEntries result.now }
-        ensures count { length result.now ≡ 51 }
+        ensures count { length result.now ≡ 58 }
     {
         &ENTRIES
     }
@@ -177,6 +186,8 @@ fn block_row_named(name: Name) -> &'static Row
 {
     match name {
         Name::CompareAndWrite => &COMPARE_AND_WRITE,
+        Name::FormatUnit => &FORMAT_UNIT,
+        Name::OrWrite16 => &ORWRITE_16,
         Name::PreFetch10 => &PRE_FETCH_10,
         Name::PreFetch16 => &PRE_FETCH_16,
         Name::Read6 => &READ_6,
@@ -191,6 +202,10 @@ fn block_row_named(name: Name) -> &'static Row
         Name::ReadCapacity16 => &READ_CAPACITY_16,
         Name::ReadDefectData10 => &READ_DEFECT_DATA_10,
         Name::ReadDefectData12 => &READ_DEFECT_DATA_12,
+        Name::SanitizeBlockErase => &SANITIZE_BLOCK_ERASE,
+        Name::SanitizeCryptographicErase => &SANITIZE_CRYPTOGRAPHIC_ERASE,
+        Name::SanitizeExitFailureMode => &SANITIZE_EXIT_FAILURE_MODE,
+        Name::StartStopUnit => &START_STOP_UNIT,
         Name::SynchronizeCache10 => &SYNCHRONIZE_CACHE_10,
         Name::SynchronizeCache16 => &SYNCHRONIZE_CACHE_16,
         Name::Verify10 => &VERIFY_10,
@@ -199,6 +214,7 @@ fn block_row_named(name: Name) -> &'static Row
         Name::WriteAndVerify10 => &WRITE_AND_VERIFY_10,
         Name::WriteAndVerify12 => &WRITE_AND_VERIFY_12,
         Name::WriteAndVerify16 => &WRITE_AND_VERIFY_16,
+        Name::WriteAtomic16 => &WRITE_ATOMIC_16,
         Name::WriteLong10 => &WRITE_LONG_10,
         Name::WriteSame10 => &WRITE_SAME_10,
         Name::WriteSame16 => &WRITE_SAME_16,

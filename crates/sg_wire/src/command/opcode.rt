@@ -1,7 +1,10 @@
-// The operation codes of the commands (SPC-4, 6; SBC-3, 5; READ(6) and WRITE(6) of SBC-2).
+// The operation codes of the commands (SPC-4, 6; SBC-3, 5; READ(6) and WRITE(6) of SBC-2; WRITE
+// ATOMIC(16) of SBC-4).
 pub(super) const TEST_UNIT_READY: u8 = 0x00;
 
 pub(super) const REQUEST_SENSE: u8 = 0x03;
+
+pub(super) const FORMAT_UNIT: u8 = 0x04;
 
 pub(super) const READ_6: u8 = 0x08;
 
@@ -12,6 +15,8 @@ pub(super) const INQUIRY: u8 = 0x12;
 pub(super) const MODE_SELECT_6: u8 = 0x15;
 
 pub(super) const MODE_SENSE_6: u8 = 0x1A;
+
+pub(super) const START_STOP_UNIT: u8 = 0x1B;
 
 pub(super) const SEND_DIAGNOSTIC: u8 = 0x1D;
 
@@ -37,6 +42,8 @@ pub(super) const WRITE_SAME_10: u8 = 0x41;
 
 pub(super) const UNMAP: u8 = 0x42;
 
+pub(super) const SANITIZE: u8 = 0x48;
+
 pub(super) const LOG_SENSE: u8 = 0x4D;
 
 pub(super) const MODE_SELECT_10: u8 = 0x55;
@@ -53,6 +60,8 @@ pub(super) const COMPARE_AND_WRITE: u8 = 0x89;
 
 pub(super) const WRITE_16: u8 = 0x8A;
 
+pub(super) const ORWRITE_16: u8 = 0x8B;
+
 pub(super) const WRITE_AND_VERIFY_16: u8 = 0x8E;
 
 pub(super) const VERIFY_16: u8 = 0x8F;
@@ -62,6 +71,8 @@ pub(super) const PRE_FETCH_16: u8 = 0x90;
 pub(super) const SYNCHRONIZE_CACHE_16: u8 = 0x91;
 
 pub(super) const WRITE_SAME_16: u8 = 0x93;
+
+pub(super) const WRITE_ATOMIC_16: u8 = 0x9C;
 
 pub(super) const SERVICE_ACTION_IN_16: u8 = 0x9E;
 

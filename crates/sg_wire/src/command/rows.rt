@@ -70,7 +70,15 @@ macro_rules! compare_and_write {
     };
 }
 
-// The commands of SPC-4, 6, and then the commands of SBC-3, 5 (READ(6) and WRITE(6) of SBC-2).
+// The bits of SANITIZE.
+macro_rules! sanitize {
+    ($byte_1:expr) => {
+        [0xFF, $byte_1, 0x00, 0x00, 0x00, 0x00, 0x00, 0xFF, 0xFF, 0x00]
+    };
+}
+
+// The commands of SPC-4, 6, and then the commands of SBC-3, 5 (READ(6) and WRITE(6) of SBC-2, WRITE
+// ATOMIC(16) of SBC-4).
 pub(super) static TEST_UNIT_READY: Row = row! {
     TestUnitReady, Base, opcode::TEST_UNIT_READY, None, Always, BLOCKED,
     [0xFF, 0x00, 0x00, 0x00, 0x00, 0x00]
@@ -149,6 +157,17 @@ pub(super) static COMPARE_AND_WRITE: Row = row! {
     compare_and_write!(0x1A, 0x1F), compare_and_write!(0x18, 0x00)
 };
 
+pub(super) static FORMAT_UNIT: Row = row! {
+    FormatUnit, Extended, opcode::FORMAT_UNIT, None, Writes, BLOCKED,
+    [0xFF, 0x3F, 0x00, 0x00, 0x00, 0x00],
+    [0xFF, 0x30, 0x00, 0x00, 0x00, 0x00]
+};
+
+pub(super) static ORWRITE_16: Row = row! {
+    OrWrite16, Extended, opcode::ORWRITE_16, None, Writes, BLOCKED,
+    range_16!(0x1A, 0x1F), range_16!(0x18, 0x00)
+};
+
 pub(super) static PRE_FETCH_10: Row = row! {
     PreFetch10, Extended, opcode::PRE_FETCH_10, None, Reads, BLOCKED,
     range_10!(0x02, 0x1F), range_10!(0x02, 0x00)
@@ -219,6 +238,27 @@ pub(super) static READ_DEFECT_DATA_12: Row = row! {
     range_12!(0x1F, 0x00)
 };
 
+pub(super) static SANITIZE_BLOCK_ERASE: Row = row! {
+    SanitizeBlockErase, Extended, opcode::SANITIZE, Some(0x02), Writes, BLOCKED,
+    sanitize!(0xBF), sanitize!(0x9F)
+};
+
+pub(super) static SANITIZE_CRYPTOGRAPHIC_ERASE: Row = row! {
+    SanitizeCryptographicErase, Extended, opcode::SANITIZE, Some(0x03), Writes, BLOCKED,
+    sanitize!(0xBF), sanitize!(0x9F)
+};
+
+pub(super) static SANITIZE_EXIT_FAILURE_MODE: Row = row! {
+    SanitizeExitFailureMode, Extended, opcode::SANITIZE, Some(0x1F), Writes, BLOCKED,
+    sanitize!(0xBF), sanitize!(0x9F)
+};
+
+// The class is that of a command that stops the unit: see `class_of`.
+pub(super) static START_STOP_UNIT: Row = row! {
+    StartStopUnit, Extended, opcode::START_STOP_UNIT, None, Writes, BLOCKED,
+    [0xFF, 0x01, 0x00, 0x0F, 0xF7, 0x00]
+};
+
 pub(super) static SYNCHRONIZE_CACHE_10: Row = row! {
     SynchronizeCache10, Base, opcode::SYNCHRONIZE_CACHE_10, None, Writes, BLOCKED,
     range_10!(0x06, 0x1F), range_10!(0x02, 0x00)
@@ -257,6 +297,11 @@ pub(super) static WRITE_AND_VERIFY_12: Row = row! {
 pub(super) static WRITE_AND_VERIFY_16: Row = row! {
     WriteAndVerify16, Extended, opcode::WRITE_AND_VERIFY_16, None, Writes, BLOCKED,
     range_16!(0x16, 0x1F), range_16!(0x16, 0x00)
+};
+
+pub(super) static WRITE_ATOMIC_16: Row = row! {
+    WriteAtomic16, Extended, opcode::WRITE_ATOMIC_16, None, Writes, BLOCKED,
+    range_16!(0x18, 0x1F), range_16!(0x18, 0x00)
 };
 
 pub(super) static WRITE_LONG_10: Row = row! {

@@ -6,14 +6,16 @@ ghost use Rattle.sg_wire.specs.Table.{IsDecoded, IsFound, IsRefused, IsRow};
 
 use super::masks::check_masks;
 use super::rows::{
-    COMPARE_AND_WRITE, GET_LBA_STATUS, INQUIRY, LOG_SENSE, MODE_SELECT_6, MODE_SELECT_10,
-    MODE_SENSE_6, MODE_SENSE_10, PERSISTENT_RESERVE_IN, PERSISTENT_RESERVE_OUT, PRE_FETCH_10,
-    PRE_FETCH_16, READ_6, READ_10, READ_12, READ_16, READ_CAPACITY_10, READ_CAPACITY_16,
-    READ_DEFECT_DATA_10, READ_DEFECT_DATA_12, REPORT_LUNS, REPORT_SUPPORTED_OPERATION_CODES,
-    REPORT_SUPPORTED_TASK_MANAGEMENT_FUNCTIONS, REQUEST_SENSE, SEND_DIAGNOSTIC,
-    SYNCHRONIZE_CACHE_10, SYNCHRONIZE_CACHE_16, TEST_UNIT_READY, UNMAP, VERIFY_10, VERIFY_12,
-    VERIFY_16, WRITE_6, WRITE_10, WRITE_12, WRITE_16, WRITE_AND_VERIFY_10, WRITE_AND_VERIFY_12,
-    WRITE_AND_VERIFY_16, WRITE_LONG_10, WRITE_SAME_10, WRITE_SAME_16,
+    COMPARE_AND_WRITE, FORMAT_UNIT, GET_LBA_STATUS, INQUIRY, LOG_SENSE, MODE_SELECT_6,
+    MODE_SELECT_10, MODE_SENSE_6, MODE_SENSE_10, ORWRITE_16, PERSISTENT_RESERVE_IN,
+    PERSISTENT_RESERVE_OUT, PRE_FETCH_10, PRE_FETCH_16, READ_6, READ_10, READ_12, READ_16,
+    READ_CAPACITY_10, READ_CAPACITY_16, READ_DEFECT_DATA_10, READ_DEFECT_DATA_12, REPORT_LUNS,
+    REPORT_SUPPORTED_OPERATION_CODES, REPORT_SUPPORTED_TASK_MANAGEMENT_FUNCTIONS, REQUEST_SENSE,
+    SANITIZE_BLOCK_ERASE, SANITIZE_CRYPTOGRAPHIC_ERASE, SANITIZE_EXIT_FAILURE_MODE,
+    SEND_DIAGNOSTIC, START_STOP_UNIT, SYNCHRONIZE_CACHE_10, SYNCHRONIZE_CACHE_16, TEST_UNIT_READY,
+    UNMAP, VERIFY_10, VERIFY_12, VERIFY_16, WRITE_6, WRITE_10, WRITE_12, WRITE_16,
+    WRITE_AND_VERIFY_10, WRITE_AND_VERIFY_12, WRITE_AND_VERIFY_16, WRITE_ATOMIC_16, WRITE_LONG_10,
+    WRITE_SAME_10, WRITE_SAME_16,
 };
 use super::{CdbFault, Class, opcode};
 use crate::bytes::MAX_CDB_LENGTH;
@@ -37,6 +39,8 @@ pub(super) enum Name {
     ReportSupportedTaskManagementFunctions,
     SendDiagnostic,
     CompareAndWrite,
+    FormatUnit,
+    OrWrite16,
     PreFetch10,
     PreFetch16,
     Read6,
@@ -51,6 +55,10 @@ pub(super) enum Name {
     ReadCapacity16,
     ReadDefectData10,
     ReadDefectData12,
+    SanitizeBlockErase,
+    SanitizeCryptographicErase,
+    SanitizeExitFailureMode,
+    StartStopUnit,
     SynchronizeCache10,
     SynchronizeCache16,
     Verify10,
@@ -59,6 +67,7 @@ pub(super) enum Name {
     WriteAndVerify10,
     WriteAndVerify12,
     WriteAndVerify16,
+    WriteAtomic16,
     WriteLong10,
     WriteSame10,
     WriteSame16,
@@ -75,7 +84,7 @@ pub(super) struct Row {
     // Present if several commands share the operation code. PERSISTENT RESERVE IN and PERSISTENT
     // RESERVE OUT have one row each, with the first of their service actions.
     pub(super) service_action: Option<u8>,
-    // How the command meets a reservation of another initiator.
+    // How the command meets a reservation of another initiator. START STOP UNIT may meet it otherwise.
     pub(super) class: Class,
     // A pending unit attention is reported in place of the command.
     pub(super) is_blocked: bool,
@@ -175,11 +184,13 @@ fn row_of_6(code: u8, _cdb: &[u8]) -> Found
     match code {
         opcode::TEST_UNIT_READY => Found::Row(&TEST_UNIT_READY),
         opcode::REQUEST_SENSE => Found::Row(&REQUEST_SENSE),
+        opcode::FORMAT_UNIT => Found::Row(&FORMAT_UNIT),
         opcode::READ_6 => Found::Row(&READ_6),
         opcode::WRITE_6 => Found::Row(&WRITE_6),
         opcode::INQUIRY => Found::Row(&INQUIRY),
         opcode::MODE_SELECT_6 => Found::Row(&MODE_SELECT_6),
         opcode::MODE_SENSE_6 => Found::Row(&MODE_SENSE_6),
+        opcode::START_STOP_UNIT => Found::Row(&START_STOP_UNIT),
         opcode::SEND_DIAGNOSTIC => Found::Row(&SEND_DIAGNOSTIC),
         _ => Found::NoOpcode,
     }
@@ -187,11 +198,11 @@ fn row_of_6(code: u8, _cdb: &[u8]) -> Found
 
 /// The row of a CDB of 10 bytes by its operation code, in any profile.
 #[inline(always)]
-fn row_of_10(code: u8, _cdb: &[u8]) -> Found
+fn row_of_10(code: u8, cdb: &[u8]) -> Found
     requires group { (0x20 ≤ code) × (code ≤ 0x5F) }
-    requires byte { 1 ≤ length _cdb.now }
-    requires code { slice_index _cdb.now 0 ≡ code }
-    ensures { IsFound Profile.Extended _cdb.now result }
+    requires byte { 1 ≤ length cdb.now }
+    requires code { slice_index cdb.now 0 ≡ code }
+    ensures { IsFound Profile.Extended cdb.now result }
 {
     match code {
         opcode::READ_CAPACITY_10 => Found::Row(&READ_CAPACITY_10),
@@ -205,6 +216,7 @@ fn row_of_10(code: u8, _cdb: &[u8]) -> Found
         opcode::WRITE_LONG_10 => Found::Row(&WRITE_LONG_10),
         opcode::WRITE_SAME_10 => Found::Row(&WRITE_SAME_10),
         opcode::UNMAP => Found::Row(&UNMAP),
+        opcode::SANITIZE => with_sanitize(cdb),
         opcode::LOG_SENSE => Found::Row(&LOG_SENSE),
         opcode::MODE_SELECT_10 => Found::Row(&MODE_SELECT_10),
         opcode::MODE_SENSE_10 => Found::Row(&MODE_SENSE_10),
@@ -246,11 +258,13 @@ fn row_of_16(code: u8, cdb: &[u8]) -> Found
         opcode::READ_16 => Found::Row(&READ_16),
         opcode::COMPARE_AND_WRITE => Found::Row(&COMPARE_AND_WRITE),
         opcode::WRITE_16 => Found::Row(&WRITE_16),
+        opcode::ORWRITE_16 => Found::Row(&ORWRITE_16),
         opcode::WRITE_AND_VERIFY_16 => Found::Row(&WRITE_AND_VERIFY_16),
         opcode::VERIFY_16 => Found::Row(&VERIFY_16),
         opcode::PRE_FETCH_16 => Found::Row(&PRE_FETCH_16),
         opcode::SYNCHRONIZE_CACHE_16 => Found::Row(&SYNCHRONIZE_CACHE_16),
         opcode::WRITE_SAME_16 => Found::Row(&WRITE_SAME_16),
+        opcode::WRITE_ATOMIC_16 => Found::Row(&WRITE_ATOMIC_16),
         opcode::SERVICE_ACTION_IN_16 => with_service_action_in(cdb),
         _ => Found::NoOpcode,
     }
@@ -266,6 +280,26 @@ fn with_service_action_in(cdb: &[u8]) -> Found
         action if action == READ_CAPACITY_16.service_action => Found::Row(&READ_CAPACITY_16),
         action if action == GET_LBA_STATUS.service_action => Found::Row(&GET_LBA_STATUS),
         _ => Found::NoServiceAction(&READ_CAPACITY_16),
+    }
+}
+
+/// The row of SANITIZE, whose service action says how (SBC-3, 5.24).
+#[tactic(auto, using(crate::proofs::TableLemmas::without_sanitize_action))]
+fn with_sanitize(cdb: &[u8]) -> Found
+    requires { slice_index cdb.now 0 ≡ 0x48 }
+    ensures { IsFound Profile.Extended cdb.now result }
+{
+    match Some(service_action(cdb)) {
+        action if action == SANITIZE_BLOCK_ERASE.service_action => {
+            Found::Row(&SANITIZE_BLOCK_ERASE)
+        }
+        action if action == SANITIZE_CRYPTOGRAPHIC_ERASE.service_action => {
+            Found::Row(&SANITIZE_CRYPTOGRAPHIC_ERASE)
+        }
+        action if action == SANITIZE_EXIT_FAILURE_MODE.service_action => {
+            Found::Row(&SANITIZE_EXIT_FAILURE_MODE)
+        }
+        _ => Found::NoServiceAction(&SANITIZE_BLOCK_ERASE),
     }
 }
 

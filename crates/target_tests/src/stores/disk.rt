@@ -166,7 +166,7 @@ impl<S: Store> Disk<S> {
         requires { lba + count ≤ CAPACITY }
     {
         self.store.restart_counts();
-        self.store.unmap(lba, count);
+        self.store.unmap(lba, u64::from(count));
         DONE
     }
 

@@ -1,9 +1,9 @@
 use Rattle.std.proofs.Common.{◌≡◌, refl, true}
 use Rattle.sg_target.specs.State.{State}
-use Rattle.sg_fencing.specs.Fencing.{holds_alone, view_of}
+use Rattle.sg_fencing.specs.Fencing.{IsLeft, holds_alone}
 use Rattle.sg_fencing.proofs.FaultLemmas.{kept-away, left-without-writing}
 use Rattle.sg_fencing.proofs.HolderLemmas.{alone, is-exclusive, refuses-others}
-use Rattle.sg_fencing.proofs.OthersLemmas.{others-keep}
+use Rattle.sg_fencing.proofs.OthersLemmas.{nothing-left, others-keep}
 use Rattle.sg_fencing.proofs.laws.faults_let_nobody_past_the_holder.Goals as goal
 
 pub returns : goal.returns
@@ -19,9 +19,9 @@ returns c disk holder other cdb data_out w differ held =
           (λ exclusive. no.reads (is-exclusive state holder h exclusive));
       view =
           left-without-writing c.faults_only_drop_or_shorten.ensures disk other cdb data_out
-          (λ (after : State). holds_alone after holder ≡ true → view_of after holder ≡ view_of state holder)
-          (λ still. refl)
+          (λ (after : State). holds_alone after holder ≡ true → IsLeft state after holder)
+          (λ still. nothing-left state holder)
           (λ still. (others-keep c.limits_are_kept.ensures refuses classes state holder other cdb data_out w
-          differ held still).view)
+          differ held still).left)
           classes no.writes;
     }

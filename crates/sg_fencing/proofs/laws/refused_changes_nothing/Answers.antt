@@ -14,9 +14,23 @@ use Rattle.sg_fencing.proofs.laws.refused_changes_nothing.Goals as goal
 refused-keeps : (state : State) (i : ℕ) (refusal : Refusal)
     → IsKept state (refused state i refusal).state i
 refused-keeps state i (CheckCondition (Attention condition)) =
-    record { identity = refl; disk = refl; modes = refl; reservations = refl; attentions = inr refl }
+    record {
+      identity = refl;
+      disk = refl;
+      modes = refl;
+      reservations = refl;
+      stopped = refl;
+      attentions = inr refl;
+    }
 refused-keeps state i _ =
-    record { identity = refl; disk = refl; modes = refl; reservations = refl; attentions = inl refl }
+    record {
+      identity = refl;
+      disk = refl;
+      modes = refl;
+      reservations = refl;
+      stopped = refl;
+      attentions = inl refl;
+    }
 
 abbrev KeptUnlessGood : State → ℕ → Step → Type 0
 KeptUnlessGood state i done = (done.answer.status ≡ Good → ⊥) → IsKept state done.state i

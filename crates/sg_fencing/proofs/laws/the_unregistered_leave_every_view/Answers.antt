@@ -4,4 +4,4 @@ use Rattle.sg_fencing.proofs.laws.the_unregistered_leave_every_view.Goals as goa
 pub returns : goal.returns
 returns c state initiator other cdb data_out w differ fenced =
     (outsider-keeps c.others_are_refused.ensures c.commands_have_their_class.ensures state initiator
-    other differ (outside state other fenced) w cdb data_out).view
+    other differ (outside state other fenced) w cdb data_out).left

@@ -4,7 +4,7 @@ use Rattle.std.proofs.lemmas.Slice.Eq.{slice_eq-Decides}
 use Rattle.std.proofs.lemmas.Iterator.{YieldsList-from_slice, YieldsList-from_zip}
 use Rattle.std.proofs.lemmas.Iterator.Search.{position_from_yields_List}
 use Rattle.sg_store.specs.Comparison.{first_difference}
-use Rattle.sg_pool.proofs.ComparisonLemmas.{same-none}
+use Rattle.sg_store.proofs.ComparisonLemmas.{same-none}
 use Rattle.sg_pool.proofs.compare.first_difference.Goals as goal
 
 pub returns-then-eq-clause-value : goal.returns-then-eq-clause-value

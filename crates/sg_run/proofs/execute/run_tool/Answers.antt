@@ -6,5 +6,5 @@ pub returns-in-Ok : goal.returns-in-Ok
 returns-in-Ok g c =
     let list = take-written _ _ _ _ c.plan-plan.ensures.data_out c.plan-plan.ensures.length in
     let cdb = c.as_slice.ensures.value ∙ c.plan-plan.ensures.cdb in
-    tool-outcome _ _ _ _ _ _ _ _ _ c.in-Ok.tool _ _ _ c.in-Ok.ensures cdb list
-    c.plan-plan.ensures.show c.send.ensures
+    tool-outcome _ _ _ _ _ _ _ _ _ c.in-Ok.tool _ _ _ _ _ c.in-Ok.ensures cdb list
+    c.plan-plan.ensures.show c.profile.ensures c.in_profile-show.ensures c.send.ensures

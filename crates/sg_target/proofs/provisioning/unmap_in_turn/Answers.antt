@@ -13,7 +13,7 @@ unmap-requires-clause-range g c =
     let first : Extent = record { lba = 0; count = 0 } in
     let here = on_disk-at _ c.args.extents.now c.loop-extent.extent-index first
     c.loop-extent-test.true c.requires.on_disk in
-    omega (arith, same, here)
+    omega (arith, same, here, c.from.ensures)
 
 pub unmap-requires-clause-headroom : goal.unmap-requires-clause-headroom
 unmap-requires-clause-headroom g c =
@@ -28,14 +28,16 @@ loop-extent-preserved g c =
     let i = c.loop-extent.extent-index in
     let here = c.loop-extent-test.true in
     let e = c.unmap.ensures in
+    let price = rw c.from.ensures at e.costs.price in
     let first : Extent = record { lba = 0; count = 0 } in
     let on_disk = on_disk-at _ extents i first here c.requires.on_disk in
     let within = g.met.S.Store.price_within (g.S.Store.disk c.loop-extent.store).contents
     (get_or extents i first).lba (get_or extents i first).count in
     record {
-      disk = disk-next unmapped extents i first here _ _ inv.disk _ e.disk;
+      disk = disk-next unmapped extents i first here _ _ inv.disk _
+          (rw c.from.ensures at e.disk);
       counted = turn-next unmapped extents i first here _ _ inv.disk
           (cost_bounds g.S.Store.price g.S.Store.least) [] _ _ _
-          inv.counted e.costs.cost e.costs.price e.costs.least;
-      few = omega (arith, e.costs.cost.visits, e.costs.price, within, on_disk);
+          inv.counted e.costs.cost price (rw c.from.ensures at e.costs.least);
+      few = omega (arith, e.costs.cost.visits, price, within, on_disk);
     }

@@ -94,6 +94,18 @@ pub mod kind {
     pub const CAPABILITIES: u32 = 10;
     pub const FULL_STATUS: u32 = 11;
     pub const SENSE: u32 = 12;
+    pub const INQUIRY_EXTENDED: u32 = 13;
+    pub const VPD_EXTENDED: u32 = 14;
+    pub const SENSE_EXTENDED: u32 = 15;
+    pub const LUNS: u32 = 16;
+    pub const ALL_COMMANDS: u32 = 17;
+    pub const ONE_COMMAND: u32 = 18;
+    pub const TASK_MANAGEMENT: u32 = 19;
+    pub const LOG_PAGE: u32 = 20;
+    pub const CAPACITY_10: u32 = 21;
+    pub const CAPACITY_16: u32 = 22;
+    pub const DEFECTS_10: u32 = 23;
+    pub const DEFECTS_12: u32 = 24;
 }
 
 #[repr(C)]
@@ -214,6 +226,7 @@ extern "C" {
     pub fn mdl_power_cycle(disk: *mut mdl_disk) -> c_uint;
     pub fn mdl_happen(disk: *mut mdl_disk, happening: *const mdl_happening) -> c_uint;
     pub fn mdl_read_happening(words: *const c_char, happening: *mut mdl_happening) -> c_uint;
+    pub fn mdl_faults(disk: *mut mdl_disk, text: *mut c_char, text_length: usize) -> usize;
     pub fn mdl_registered(disk: *mut mdl_disk, mask: *mut u32) -> c_uint;
     pub fn mdl_forget(disk: *mut mdl_disk, initiator: u32) -> c_uint;
     pub fn mdl_read_sense(sense: *const u8, length: usize, fields: *mut mdl_sense) -> c_uint;

@@ -17,7 +17,7 @@ pub use sys::{BUSY, NO_REPLY, TASK_SET_FULL};
 pub const ALL_INITIATORS: u64 = 0xFF;
 
 /// Returns the text that a function writes as snprintf(3) does, or None.
-fn text_of(write: impl Fn(&mut [u8]) -> usize) -> Option<String> {
+fn text_of(mut write: impl FnMut(&mut [u8]) -> usize) -> Option<String> {
     let length = write(&mut []);
     // If there is no text, the length is the greatest number.
     let mut text = vec![0; length.checked_add(1)?];
@@ -219,6 +219,15 @@ impl Disk {
     /// Takes away all faults.
     pub fn disarm_all(&mut self) -> Result<(), Error> {
         self.undergo(sys::mdl_happening { kind: happening::DISARM_ALL, ..Default::default() })
+    }
+
+    /// Lists the armed faults, in lines: each with its number, in the words that arm it. Returns None
+    /// if memory runs out.
+    pub fn faults(&mut self) -> Option<String> {
+        // SAFETY: the slot has a disk, and the text has the bytes that its length says.
+        text_of(|text| unsafe {
+            sys::mdl_faults(&mut self.slot, text.as_mut_ptr().cast(), text.len())
+        })
     }
 
     /// Lets happen what words say, such as "fault medium 3/11/00 blocks 10 2" or "nexus 0".

@@ -116,7 +116,9 @@ fn words_say_what_happens() -> Result<(), Error> {
     let read = [0x28, 0, 0, 0, 0, 8, 0, 0, 4, 0];
     let fields = disk.execute(2, &read, &[])?.fields().unwrap();
     assert_eq!((fields.key, fields.asc, fields.ascq, fields.information), (3, 0x11, 0x00, 10));
+    assert_eq!(disk.faults().unwrap(), "  0: medium 3/11/00 blocks 10 2 healed to 2\n");
     disk.happen("heal 0")?;
+    assert_eq!(disk.faults().unwrap(), "");
     assert_eq!(disk.execute(2, &read, &[])?.status(), GOOD);
     assert_eq!(disk.happen("faults"), Err(Error::UnknownVerb));
     assert_eq!(disk.happen("nexus 8"), Err(Error::Usage));

@@ -31,8 +31,8 @@ returns-then-count-eq0-clause-costs c =
     let s = c.args.self.now in
     nothing-costs (disk_of s) c.args.lba c.args.count (meter_at s.table s.pool) c.if-count-eq0.true
 
-pub gather-requires-clause-room : goal.gather-requires-clause-room
-gather-requires-clause-room c =
+pub gather_between-requires-clause-room : goal.gather_between-requires-clause-room
+gather_between-requires-clause-room c =
     let s = c.args.self.now in
     have-room s.table s.pool s.gathered s.runs s.pool_fits s.gathered_empty
 
@@ -40,10 +40,10 @@ gather-requires-clause-room c =
 pub unmap_runs-requires-clause-ready : goal.unmap_runs-requires-clause-ready
 unmap_runs-requires-clause-ready c =
     let s = c.args.self.now in
-    let table = c.gather.ensures.visits.table in
+    let table = c.gather_between.ensures.visits.table in
     record {
       runs = rw table s.runs;
-      gathered_runs = rw (table, c.from.ensures) c.gather.ensures.gathered;
+      gathered_runs = rw table c.gather_between.ensures.gathered;
       table_size = omega (arith, ap (λ (t : Table). t.room) table, s.pool_fits);
       headroom = c.requires.headroom.links;
     }
@@ -60,11 +60,11 @@ invariant_of-self-clause-well_formed c =
     ap (chained_contents after.table.records) c.renew_slots.ensures.pool
     ∙ ap (contents_of (expanded after.pool.next after.table.records)) c.unmap_runs.ensures.blocks
     ∙ ap (λ zs. contents_of zs s.pool.blocks) c.unmap_runs.ensures.records
-    ∙ contents-unmapped (expanded s.pool.next c.gather.new.table.records) s.pool.blocks lba
-    (lba + c.from.result - lba)
+    ∙ contents-unmapped (expanded s.pool.next c.gather_between.new.table.records) s.pool.blocks lba
+    (lba + count - lba)
     ∙ ap (λ (t : Table). unmapped (chained_contents t.records s.pool) lba
-    (lba + c.from.result - lba)) c.gather.ensures.visits.table
-    ∙ ap (unmapped (chained_contents rs s.pool) lba) (omega (arith, c.from.ensures)) in
+    (lba + count - lba)) c.gather_between.ensures.visits.table
+    ∙ ap (unmapped (chained_contents rs s.pool) lba) (omega arith) in
     subst (IsWellFormed s.capacity) (sym is) (c.disks_stay_well_formed.ensures.unmapping s.capacity
     (chained_contents rs s.pool) lba count s.well_formed)
 
@@ -80,37 +80,38 @@ returns-clause-disk c =
     ap (chained_contents after.table.records) c.renew_slots.ensures.pool
     ∙ ap (contents_of (expanded after.pool.next after.table.records)) c.unmap_runs.ensures.blocks
     ∙ ap (λ zs. contents_of zs s.pool.blocks) c.unmap_runs.ensures.records
-    ∙ contents-unmapped (expanded s.pool.next c.gather.new.table.records) s.pool.blocks lba
-    (lba + c.from.result - lba)
+    ∙ contents-unmapped (expanded s.pool.next c.gather_between.new.table.records) s.pool.blocks lba
+    (lba + count - lba)
     ∙ ap (λ (t : Table). unmapped (chained_contents t.records s.pool) lba
-    (lba + c.from.result - lba)) c.gather.ensures.visits.table
-    ∙ ap (unmapped (chained_contents rs s.pool) lba) (omega (arith, c.from.ensures)) in
+    (lba + count - lba)) c.gather_between.ensures.visits.table
+    ∙ ap (unmapped (chained_contents rs s.pool) lba) (omega arith) in
     let room = ap (λ (t : Table). t.room) c.unmap_runs.ensures.table.table
-    ∙ ap (λ (t : Table). t.room) c.gather.ensures.visits.table in
+    ∙ ap (λ (t : Table). t.room) c.gather_between.ensures.visits.table in
     ap₂ (λ r m. record { capacity = s.capacity; pool = r; contents = m }) room is
 
 pub returns-clause-keeps : goal.returns-clause-keeps
 returns-clause-keeps c =
     let s = c.args.self.now in
     let lba = c.args.lba in
+    let count = c.args.count in
     let after = c.unmap_runs.new in
     ap (λ (p : Slots). slot_numbers (expanded p.next after.table.records)) c.renew_slots.ensures.pool
     ∙ ap slot_numbers c.unmap_runs.ensures.records
-    ∙ contents-outside slot_number (expanded s.pool.next c.gather.new.table.records) lba
-    (lba + c.from.result - lba)
+    ∙ contents-outside slot_number (expanded s.pool.next c.gather_between.new.table.records) lba
+    (lba + count - lba)
     ∙ ap (λ (t : Table). outside_range (slot_numbers (expanded s.pool.next t.records)) lba
-    (lba + c.from.result - lba)) c.gather.ensures.visits.table
+    (lba + count - lba)) c.gather_between.ensures.visits.table
     ∙ ap (outside_range (slot_numbers (expanded s.pool.next s.table.records)) lba)
-    (omega (arith, c.from.ensures))
+    (omega arith)
 
 pub returns-clause-costs : goal.returns-clause-costs
 returns-clause-costs c =
     let s = c.args.self.now in
-    let e = c.gather.ensures in
+    let e = c.gather_between.ensures in
     let pool = c.unmap_runs.new.pool in
     subst (λ (m : Meter). CostsRange (disk_of s) c.args.lba c.args.count (meter_at s.table s.pool) m)
     (sym (ap (λ p. meter_at c.unmap_runs.new.table p) c.renew_slots.ensures.pool
     ∙ ap (λ t. meter_at t pool) c.unmap_runs.ensures.table.table))
-    (gathered-range s.table c.gather.new.table s.pool pool s.capacity c.args.lba c.args.count
-    c.gather.new.gathered s.runs e.gathered s.pool_fits e.visits
+    (gathered-range s.table c.gather_between.new.table s.pool pool s.capacity c.args.lba c.args.count
+    c.gather_between.new.gathered s.runs e.gathered s.pool_fits e.visits
     c.unmap_runs.ensures.links.links_rise c.unmap_runs.ensures.links.most_links)

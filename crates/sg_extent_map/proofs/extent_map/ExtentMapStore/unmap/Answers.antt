@@ -16,6 +16,6 @@ pub returns-clause-costs : goal.returns-clause-costs
 returns-clause-costs c =
     let s = c.args.self.now in
     gathered-charged s.table.records c.gather.new.gathered s.pool s.table.room c.args.lba
-    c.args.count s.extents (rw c.from.ensures at c.gather.ensures.gathered) s.table.room s.table
+    c.args.count s.extents c.gather.ensures.gathered s.table.room s.table
     c.gather.new.table c.gather.ensures.visits c.unmap_range.new.table
     c.unmap_range.ensures.changes.table

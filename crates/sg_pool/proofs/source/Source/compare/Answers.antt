@@ -1,5 +1,5 @@
 use Rattle.std.proofs.Common.{sym, ◌∙◌, ap, length}
-use Rattle.sg_pool.proofs.ComparisonLemmas.{none-same}
+use Rattle.sg_store.proofs.ComparisonLemmas.{none-same}
 use Rattle.sg_pool.proofs.source.Source.compare.Goals as goal
 
 pub returns-in-None-clause-same : goal.returns-in-None-clause-same

@@ -1,0 +1,11 @@
+use Rattle.std.proofs.Common.{◌≡◌, [], refl}
+use Rattle.sg_decode.specs.Items.{body_text, shown}
+use Rattle.sg_decode.specs.Capacity.{capacity_10}
+use Rattle.sg_decode.proofs.DecoderLemmas.{all_header}
+use Rattle.sg_decode.proofs.capacity.put_capacity_10.Goals as goal
+
+pub returns : goal.returns
+unfolding shown
+returns g c =
+    let nothing : body_text capacity_10 c.args.bytes.now ≡ [] = refl in
+    all_header capacity_10 _ _ _ nothing c.show_lines.ensures.text

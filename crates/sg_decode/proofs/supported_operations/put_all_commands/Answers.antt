@@ -1,0 +1,14 @@
+use Rattle.sg_decode.specs.SupportedOperations.{all_commands}
+use Rattle.sg_decode.proofs.DecoderLemmas.{header_ends, goes_on}
+use Rattle.sg_decode.proofs.supported_operations.put_all_commands.Goals as goal
+
+pub returns-then-show_lines : goal.returns-then-show_lines
+returns-then-show_lines g c =
+    goes_on all_commands _ _ _ _ _ c.show_lines.ensures.verdict c.if-show_lines.true
+    c.show_lines.ensures.text
+    (rw c.number_of_four-end.ensures.value at c.show_entries.ensures)
+
+pub returns-else-show_lines : goal.returns-else-show_lines
+returns-else-show_lines g c =
+    header_ends all_commands _ _ _ _ c.show_lines.ensures.verdict c.if-show_lines.false
+    c.show_lines.ensures.text
