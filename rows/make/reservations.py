@@ -207,17 +207,17 @@ def check_key(request):
 
 
 def register(request):
-    """SPC-4, 5.13 (registering; unregistering) and 6.16. On an extended disk a REGISTER that leaves
-    an initiator unregistered counts as any other."""
+    """SPC-4, 5.13 (registering; unregistering) and 6.16. A REGISTER that leaves an initiator
+    unregistered does nothing."""
     state, caller = request.state, request.caller
     if caller not in state.keys:
-        if request.action_key == 0 and request.device.profile == "base":
+        if request.action_key == 0:
             return
-        if request.action_key and len(state.keys) == MOST_REGISTRANTS:
+        if len(state.keys) == MOST_REGISTRANTS:
             raise CheckCondition(ILLEGAL_REQUEST, INSUFFICIENT_REGISTRATION_RESOURCES)
     if request.action_key:
         state.keys[caller] = request.action_key  # a known caller keeps its place
-    elif caller in state.keys:
+    else:
         ended = state.remove([caller])
         if ended in SHARED:
             request.notify(state.keys, RESERVATIONS_RELEASED)

@@ -1,14 +1,15 @@
 -- Lists of commands of registrants and others. While a reservation is held, the commands of
 -- initiators that are not registered may be left out.
-use Rattle.std.proofs.Common.{◌≡◌, ◌==◌, ℕ, suc, Bool, true, false, cond, not, ◌&&◌, List, [], ◌∷◌}
-use Rattle.std.proofs.Common.{filter, Option, Some, None, Ok, Err, refl, sym, ap, ◌∙◌, subst, arith}
-use Rattle.std.specs.Prelude.{◌≢◌}
+use Rattle.std.proofs.Common.{◌≡◌, ℕ, suc, Bool, true, false, cond, not, List, [], ◌∷◌}
+use Rattle.std.proofs.Common.{filter, Result, Ok, Err, refl, sym, ap, ◌∙◌, subst, arith}
 use Rattle.std.specs.List.{zip}
-use Rattle.std.specs.Option.{option_map_or}
 use Rattle.std.specs.Result.{result_map_both}
 use Rattle.std.proofs.lemmas.Bool.{false≢true}
 use Rattle.sg_wire.specs.Laws.{CommandsHaveTheirClass}
 use Rattle.sg_wire.specs.CdbDecoding.{command_of}
+use Rattle.sg_wire.specs.declared.command.CdbFault.{CdbFault}
+use Rattle.sg_wire.specs.declared.command.Command.{Command}
+use Rattle.sg_wire.specs.declared.command.Command.TheVariants.{PersistentReserveOut}
 use Rattle.sg_wire.specs.declared.command.out_action.OutAction.{OutAction}
 use Rattle.sg_wire.specs.declared.out_list.OutList.{OutList}
 use Rattle.sg_units.specs.Attentions.{pending_for}
@@ -18,34 +19,24 @@ use Rattle.sg_units.specs.ReserveOut.{Outcome, outcome}
 use Rattle.sg_units.specs.declared.reservation_change.ReservationChange.{ReservationChange}
 use Rattle.sg_units.specs.declared.reservation_state.ReservationState.{ReservationState}
 use Rattle.sg_units.proofs.OutcomeLemmas.{EffectIs}
-use Rattle.sg_target.specs.Charge.{step_by}
 use Rattle.sg_target.specs.Laws.{LimitsAreKept}
 use Rattle.sg_target.specs.Refusal.{when_sound}
 use Rattle.sg_target.specs.ReservationCommands.{changing_reservations, out_refusal}
 use Rattle.sg_target.specs.ReservationCommands.{reservation_change}
 use Rattle.sg_target.specs.Runs.{all_calls, answers, state_after_all, step_of}
 use Rattle.sg_target.specs.State.{IsWithinLimits, State}
-use Rattle.sg_target.specs.Step.{Answer, Step, outcome as step_outcome, refused as refused_step, step}
+use Rattle.sg_target.specs.Step.{Answer, step}
 use Rattle.sg_target.specs.declared.call.Call.{Call}
-use Rattle.sg_target.specs.declared.operation.Operation.TheVariants.{ChangeReservations}
-use Rattle.sg_target.specs.declared.refusal.Reason.TheVariants.{UnitAttention as Attention}
-use Rattle.sg_target.specs.declared.refusal.Refusal.{Refusal}
-use Rattle.sg_target.specs.declared.refusal.Refusal.TheVariants.{CheckCondition}
-use Rattle.sg_target.specs.declared.reply.Status.TheVariants.{Good}
 use Rattle.sg_fencing.specs.ChosenAnswers.{calls_among}
 use Rattle.sg_fencing.specs.Fencing.{View, view_of}
 use Rattle.sg_fencing.specs.Group.{IsAsIfInsideAlone, IsReservedFrom, answers_inside, calls_inside}
-use Rattle.sg_fencing.specs.Group.{NoneIsCounted, NoneStarts, group_view, is_from_inside}
-use Rattle.sg_fencing.specs.Laws.{RefusedChangesNothing}
-use Rattle.sg_fencing.specs.Registrants.{StaysUnregistered, is_registering, is_registrant}
-use Rattle.sg_fencing.specs.Registrants.{registering_list, rules_for}
+use Rattle.sg_fencing.specs.Group.{NoneStarts, group_view, is_from_inside}
+use Rattle.sg_fencing.specs.Registrants.{StaysUnregistered, is_registrant, rules_for}
 use Rattle.sg_fencing.proofs.AgreeLemmas.{AreSame, steps-agree, with_attentions}
 use Rattle.sg_fencing.proofs.AlikeLemmas.{StepsAgree, with_others}
 use Rattle.sg_fencing.proofs.FencedRunLemmas.{answers_in}
-use Rattle.sg_fencing.proofs.NewcomerLemmas.{with-list}
 use Rattle.sg_fencing.proofs.OthersLemmas.{Keeps, same-stopped}
 use Rattle.sg_fencing.proofs.OutsiderLemmas.{IsOutside, outsider-keeps}
-use Rattle.sg_fencing.proofs.PersistLemmas.{is_other, of-kind}
 use Rattle.sg_fencing.proofs.RegistrationLemmas.{IsIdle, outcome-idle}
 use Rattle.sg_fencing.proofs.StandingLemmas.{EffectStands, step-stands}
 
@@ -64,72 +55,27 @@ module _ (state : State) (j : ℕ) (unknown : is_registrant state j ≡ false) w
   changing-stays (Ok change) k = k.shown change refl
   changing-stays (Err fault) k = tt
 
-  reserving-stays : (action : OutAction) (scope_type : ℕ) (list : OutList) → is_other action ≡ true
+  abbrev any_action : OutAction → Bool
+  any_action action = true
+
+  reserving-stays : (action : OutAction) (scope_type : ℕ) (list : OutList) → any_action action ≡ true
       → EffectStands Same state j (λ _. refl)
       (when_sound (reservation_change state j action scope_type list) (changing_reservations state j))
   unfolding reservation_change
   reserving-stays action scope_type list h =
       changing-stays (outcome (rules_for state) state.reservations j action scope_type list)
-      (outcome-idle (rules_for state) state.reservations j unknown action scope_type list
-      (λ is. absurd (false≢true (sym (ap not is) ∙ h))))
+      (outcome-idle (rules_for state) state.reservations j unknown action scope_type list)
 
-  -- a REGISTER that does not count
-  module _ (list : OutList)
-      (uncounted : ((rules_for state).each_register_counts && list.service_action_key == 0) ≡ false) where
-    abbrev SameAfter : Step → Type 0
-    SameAfter done = Same done.state.reservations
+  of-any-kind : (parsed : Result Command CdbFault) → is_of_kind any_action parsed ≡ true
+  of-any-kind (Ok (PersistentReserveOut c)) = refl
+  of-any-kind (Ok _) = refl
+  of-any-kind (Err fault) = refl
 
-    refused-stays : (refusal : Refusal) → SameAfter (refused_step state j refusal)
-    refused-stays (CheckCondition (Attention condition)) gone = refl
-    refused-stays _ gone = refl
-
-    by-outcome : (o : Outcome) → EffectIs Idle o
-        → SameAfter (step_outcome state j (when_sound (result_map_both (λ change. change) out_refusal o)
-        (changing_reservations state j)))
-    by-outcome (Ok change) k = k.shown change refl
-    by-outcome (Err fault) k = refused-stays (out_refusal fault)
-
-    registering-stays : (action : OutAction) (scope_type : ℕ) → is_registering action ≡ true
-        → SameAfter (step_by state j (ChangeReservations action scope_type list))
-    unfolding reservation_change
-    registering-stays action scope_type h =
-        by-outcome (outcome (rules_for state) state.reservations j action scope_type list)
-        (outcome-idle (rules_for state) state.reservations j unknown action scope_type list
-        (λ is. uncounted))
-
-    register-stays : (cdb data_out : List ℕ) → registering_list (command_of cdb) data_out ≡ Some list
-        → SameAfter (step state j cdb data_out)
-    register-stays = with-list state j list SameAfter refused-stays registering-stays
-
-  abbrev counts : Option OutList → Bool
-  counts sent =
-      (rules_for state).each_register_counts
-      && option_map_or (λ (list : OutList). list.service_action_key == 0) sent false
-
-  by-list : (cdb data_out : List ℕ) (sent : Option OutList)
-      → registering_list (command_of cdb) data_out ≡ sent → counts sent ≡ false
-      → Same (step state j cdb data_out).state.reservations
-  by-list cdb data_out None e uncounted =
-      step-stands Same state j (λ _. refl) is_other reserving-stays cdb data_out
-      (of-kind (command_of cdb) data_out e)
-  by-list cdb data_out (Some list) e uncounted = register-stays list uncounted cdb data_out e
-
-  by-count : RefusedChangesNothing → (cdb data_out : List ℕ) (counted : Bool)
-      → counts (registering_list (command_of cdb) data_out) ≡ counted
-      → (counted ≡ true → (step state j cdb data_out).answer.status ≢ Good)
-      → Same (step state j cdb data_out).state.reservations
-  by-count keeps_refused cdb data_out true e refused =
-      λ gone. (keeps_refused state j cdb data_out (refused refl)).reservations
-  by-count keeps_refused cdb data_out false e refused =
-      by-list cdb data_out (registering_list (command_of cdb) data_out) refl e
-
-  reservations-stay : RefusedChangesNothing → (cdb data_out : List ℕ)
-      → (counts (registering_list (command_of cdb) data_out) ≡ true
-      → (step state j cdb data_out).answer.status ≢ Good)
-      → is_registrant (step state j cdb data_out).state j ≡ false
+  reservations-stay : (cdb data_out : List ℕ) → is_registrant (step state j cdb data_out).state j ≡ false
       → (step state j cdb data_out).state.reservations ≡ state.reservations
-  reservations-stay keeps_refused cdb data_out uncounted =
-      by-count keeps_refused cdb data_out _ refl uncounted
+  reservations-stay cdb data_out =
+      step-stands Same state j (λ _. refl) any_action reserving-stays cdb data_out
+      (of-any-kind (command_of cdb))
 
 -- nothing has changed except unit attentions of j
 record LeavesOthers (j : ℕ) (before after : State) : Type 0 where
@@ -139,14 +85,12 @@ record LeavesOthers (j : ℕ) (before after : State) : Type 0 where
 next-differs : (j : ℕ) → j ≡ suc j → ⊥
 next-differs j e = omega arith
 
-idle : OthersAreRefused → CommandsHaveTheirClass → RefusedChangesNothing → (state : State) (j : ℕ)
-    → (h : IsOutside state j) → IsWithinLimits state → (cdb data_out : List ℕ)
-    → (counts state j h.unknown (registering_list (command_of cdb) data_out) ≡ true
-    → (step state j cdb data_out).answer.status ≢ Good)
+idle : OthersAreRefused → CommandsHaveTheirClass → (state : State) (j : ℕ) → IsOutside state j
+    → IsWithinLimits state → (cdb data_out : List ℕ)
     → is_registrant (step state j cdb data_out).state j ≡ false
     → (state.stopped ≡ true → (step state j cdb data_out).state.stopped ≡ true)
     → LeavesOthers j state (step state j cdb data_out).state
-idle refuses classes keeps_refused state j h w cdb data_out uncounted gone starts =
+idle refuses classes state j h w cdb data_out gone starts =
     let after = (step state j cdb data_out).state in
     let kept : (k : ℕ) (other : j ≡ k → ⊥) → Keeps state after k =
     λ k other. outsider-keeps refuses classes state k j other h w cdb data_out in
@@ -154,8 +98,7 @@ idle refuses classes keeps_refused state j h w cdb data_out uncounted gone start
     let disk = ap (λ (v : View). v.disk) (sym one.left.view) in
     let modes = ap (λ (v : View). v.modes) (sym one.left.view) in
     let stopped = same-stopped state.stopped after.stopped one.left.not_stopped starts in
-    let same = reservations-stay state j h.unknown keeps_refused cdb data_out uncounted gone in
-    let reservations = sym same in
+    let reservations = sym (reservations-stay state j h.unknown cdb data_out gone) in
     let identity = sym one.identity in
     record {
       rest =
@@ -173,7 +116,7 @@ idle refuses classes keeps_refused state j h w cdb data_out uncounted gone start
 -- ---- Two runs
 
 module _ (limits : LimitsAreKept) (refuses : OthersAreRefused) (classes : CommandsHaveTheirClass)
-    (keeps_refused : RefusedChangesNothing) (outside : ℕ → Bool) where
+    (outside : ℕ → Bool) where
   -- two states that are the same except for unit attentions of initiators outside
   record LookSame (s t : State) : Type 0 where
     rest : with_attentions s t.attentions ≡ t
@@ -205,7 +148,6 @@ module _ (limits : LimitsAreKept) (refuses : OthersAreRefused) (classes : Comman
     same : LookSame s t
     stay : (k : ℕ) → outside k ≡ true → StaysUnregistered k s calls
     reserved : IsReservedFrom outside s calls
-    uncounted : NoneIsCounted outside s calls
     starts : NoneStarts outside s calls
 
   record Ends (s t : State) (calls own : List Call) : Type 0 where
@@ -222,7 +164,6 @@ module _ (limits : LimitsAreKept) (refuses : OthersAreRefused) (classes : Comman
     same = same;
     stay = λ k o n other e from. h.stay k o (suc n) other e from;
     reserved = λ n other e o. h.reserved (suc n) other e o;
-    uncounted = λ n other e o. h.uncounted (suc n) other e o;
     starts = λ n other e o. h.starts (suc n) other e o;
   }
 
@@ -256,8 +197,8 @@ module _ (limits : LimitsAreKept) (refuses : OthersAreRefused) (classes : Comman
       let j = call.initiator in
       let unknown = h.stay j e 0 call refl refl in
       let is_out : IsOutside s j = record { held = h.reserved 0 call refl e; unknown = unknown.0 } in
-      let after = idle refuses classes keeps_refused s j is_out h.within call.cdb.now call.data_out.now
-      (h.uncounted 0 call refl e) unknown.1 (h.starts 0 call refl e) in
+      let after = idle refuses classes s j is_out h.within call.cdb.now call.data_out.now unknown.1
+      (h.starts 0 call refl e) in
       let same = one-next s t (step_of s call).state j h.same e after in
       let ends = rest (step_of s call).state t (begins-next s t t call calls h same) in
       let more = exchanges (step_of s call).state calls in
@@ -276,16 +217,15 @@ module _ (limits : LimitsAreKept) (refuses : OthersAreRefused) (classes : Comman
 
   pub left-out : (state : State) (calls : List Call) → IsWithinLimits state
       → ((k : ℕ) → outside k ≡ true → StaysUnregistered k state calls)
-      → IsReservedFrom outside state calls → NoneIsCounted outside state calls
-      → NoneStarts outside state calls → IsAsIfInsideAlone outside state calls
-  left-out state calls w stay reserved uncounted starts =
+      → IsReservedFrom outside state calls → NoneStarts outside state calls
+      → IsAsIfInsideAlone outside state calls
+  left-out state calls w stay reserved starts =
       let start : LookSame state state = record { rest = refl; queues = λ k i. refl } in
       let ends = run-alike calls state state (record {
         within = w;
         same = start;
         stay = stay;
         reserved = reserved;
-        uncounted = uncounted;
         starts = starts;
       }) in
       let all = state_after_all state calls in

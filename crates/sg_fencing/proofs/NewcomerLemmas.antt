@@ -64,12 +64,10 @@ module _ (rules : Rules) (state : ReservationState) (j : ℕ)
   AddsIf change = is_registered change.registrations j ≡ true → Adds state j list change
 
   register-adds : FirstIs (EffectIs AddsIf)
-      (register_cases rules state j list.service_action_key list.aptpl)
+      (register_cases state j list.service_action_key list.aptpl)
   unfolding register_cases
   register-adds =
       case_or (EffectIs AddsIf) _ _
-      (λ _. effective AddsIf _ (λ known. absurd (false≢true (sym unknown ∙ known))))
-      (λ _. case_or (EffectIs AddsIf) _ _
       (λ _. effective AddsIf _ (λ known. absurd (false≢true (sym unknown ∙ known))))
       (λ keyed. case_or (EffectIs AddsIf) _ _ (λ _. refused AddsIf _)
       (λ _. case_or (EffectIs AddsIf) _ _
@@ -80,7 +78,7 @@ module _ (rules : Rules) (state : ReservationState) (j : ℕ)
         aptpl = refl;
         key = and_false (not (is_registered state.registrations j)) _ (ap not unknown) keyed;
       }))
-      (λ known. absurd (not_so (is_registered state.registrations j) unknown known)))))
+      (λ known. absurd (not_so (is_registered state.registrations j) unknown known))))
 
   action-adds : (action : OutAction) (type : Option ReservationType) → is_registering action ≡ true
       → EffectIs AddsIf (action_outcome rules state j action type list.service_action_key list.aptpl)

@@ -109,10 +109,6 @@ not_known : (known b : Bool) → known ≡ true → (not known && b) ≡ true �
 not_known true b e h = false≢true h
 not_known false b e h = false≢true e
 
-not_counted : (counts known b : Bool) → known ≡ true → (counts && (not known && b)) ≡ true → ⊥
-not_counted true known b e h = not_known known b e h
-not_counted false known b e h = false≢true h
-
 not_none : (needs zero : Bool) → (needs && false && zero) ≡ true → ⊥
 not_none true zero h = false≢true h
 not_none false zero h = false≢true h
@@ -166,15 +162,13 @@ module _ (rules : Rules) (all : List Registration) (kind : ReservationType) (bef
       ap (λ b. if b then held else None) gone
 
   register_leaves : (sark : ℕ) (aptpl : Bool) → key_of all i ≡ Some k
-      → FirstIs (Leaves state i (register_left sark)) (register_cases rules state i sark aptpl)
+      → FirstIs (Leaves state i (register_left sark)) (register_cases state i sark aptpl)
   unfolding register_cases
   register_leaves sark aptpl key =
       let v = register_left sark in
       let known = is_registered all i in
       let is = here key in
-      case_or (Leaves state i v) _ _
-      (λ h. absurd (not_counted rules.each_register_counts known (sark == 0) is h))
-      (λ _. case_or (Leaves state i v) _ _ (λ h. absurd (not_known known (sark == 0) is h))
+      case_or (Leaves state i v) _ _ (λ h. absurd (not_known known (sark == 0) is h))
       (λ _. case_or (Leaves state i v) _ _ (λ h. absurd (not_known known (length all == 6) is h))
       (λ _. case_or (Leaves state i v) _ _ (λ h. absurd (not_true known is h))
       (λ _. case_or (Leaves state i v) _ _
@@ -182,7 +176,7 @@ module _ (rules : Rules) (all : List Registration) (kind : ReservationType) (bef
       (leaves _ (Some sark, held) (key_of-own_replaced all i sark is) refl))
       (λ zero. last_case (Leaves state i v) _ _ refl
       (at state i v (None, None) _ (ap (λ b. register_or b sark) (not-false _ zero))
-      (leaves _ (None, None) (key_of-unregistered all i) ended)))))))
+      (leaves _ (None, None) (key_of-unregistered all i) ended))))))
 
   reserve_leaves : (new : ReservationType) → key_of all i ≡ Some k
       → FirstIs (Leaves state i as_before) (reserve_cases state i new)

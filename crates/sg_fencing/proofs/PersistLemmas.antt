@@ -63,23 +63,16 @@ Leaves change = change.aptpl ≡ None
 abbrev Sets : Bool → ReservationChange → Type 0
 Sets aptpl change = change.aptpl ≡ Some aptpl
 
-not-idle : (counts known zero_key : Bool) → (counts || (known || not zero_key)) ≡ true
-    → (counts && (not known && zero_key)) ≡ false → (not known && zero_key) ≡ true → ⊥
-not-idle true known zero_key a b c = false≢true (sym b ∙ c)
-not-idle false true zero_key a b c = false≢true c
-not-idle false false true a b c = false≢true a
-not-idle false false false a b c = false≢true c
+not-idle : (known zero_key : Bool) → (known || not zero_key) ≡ true → (not known && zero_key) ≡ true → ⊥
+not-idle true zero_key a b = false≢true b
+not-idle false true a b = false≢true a
+not-idle false false a b = false≢true b
 
-not-counting : (counts acts idle : Bool) → (counts || acts) ≡ false → (counts && idle) ≡ true → ⊥
-not-counting true acts idle a b = false≢true (sym a)
-not-counting false acts idle a b = false≢true b
-
-not-acting : (counts known zero_key : Bool) → (counts || (known || not zero_key)) ≡ false
-    → (not known && zero_key) ≡ false → ⊥
-not-acting true known zero_key a b = false≢true (sym a)
-not-acting false true zero_key a b = false≢true (sym a)
-not-acting false false true a b = false≢true (sym b)
-not-acting false false false a b = false≢true (sym a)
+not-acting : (known zero_key : Bool) → (known || not zero_key) ≡ false → (not known && zero_key) ≡ false
+    → ⊥
+not-acting true zero_key a b = false≢true (sym a)
+not-acting false true a b = false≢true (sym b)
+not-acting false false a b = false≢true (sym a)
 
 -- another action than those that register
 abbrev pub is_other : OutAction → Bool
@@ -131,35 +124,30 @@ module _ (rules : Rules) (state : ReservationState) (j : ℕ) where
 
   -- those that register
   abbrev acts : (sark : ℕ) → Bool
-  acts sark =
-      rules.each_register_counts || (is_registered state.registrations j || not (sark == 0))
+  acts sark = is_registered state.registrations j || not (sark == 0)
 
   register-sets : (sark : ℕ) (aptpl : Bool) → acts sark ≡ true
-      → FirstIs (EffectIs (Sets aptpl)) (register_cases rules state j sark aptpl)
+      → FirstIs (EffectIs (Sets aptpl)) (register_cases state j sark aptpl)
   unfolding register_cases
   register-sets sark aptpl h =
       let known = is_registered state.registrations j in
-      case_or (EffectIs (Sets aptpl)) _ _ (λ _. effective (Sets aptpl) _ refl)
-      (λ uncounted. case_or (EffectIs (Sets aptpl)) _ _
-      (λ idle. absurd (not-idle rules.each_register_counts known (sark == 0) h uncounted idle))
+      case_or (EffectIs (Sets aptpl)) _ _ (λ idle. absurd (not-idle known (sark == 0) h idle))
       (λ _. case_or (EffectIs (Sets aptpl)) _ _ (λ _. refused (Sets aptpl) _)
       (λ _. case_or (EffectIs (Sets aptpl)) _ _ (λ _. effective (Sets aptpl) _ refl)
       (λ _. case_or (EffectIs (Sets aptpl)) _ _ (λ _. effective (Sets aptpl) _ refl)
-      (λ _. last_case (EffectIs (Sets aptpl)) _ _ refl (effective (Sets aptpl) _ refl))))))
+      (λ _. last_case (EffectIs (Sets aptpl)) _ _ refl (effective (Sets aptpl) _ refl)))))
 
   register-leaves : (sark : ℕ) (aptpl : Bool) → acts sark ≡ false
-      → FirstIs (EffectIs Leaves) (register_cases rules state j sark aptpl)
+      → FirstIs (EffectIs Leaves) (register_cases state j sark aptpl)
   unfolding register_cases
   register-leaves sark aptpl h =
       let known = is_registered state.registrations j in
-      case_or (EffectIs Leaves) _ _
-      (λ counted. absurd (not-counting rules.each_register_counts _ _ h counted))
-      (λ _. case_or (EffectIs Leaves) _ _ (λ _. effective Leaves _ refl)
-      (λ acting. absurd (not-acting rules.each_register_counts known (sark == 0) h acting)))
+      case_or (EffectIs Leaves) _ _ (λ _. effective Leaves _ refl)
+      (λ acting. absurd (not-acting known (sark == 0) h acting))
 
   by-register : (P : ReservationChange → Type 0) (action : OutAction) (scope_type : ℕ) (list : OutList)
       → is_registering action ≡ true
-      → FirstIs (EffectIs P) (register_cases rules state j list.service_action_key list.aptpl)
+      → FirstIs (EffectIs P) (register_cases state j list.service_action_key list.aptpl)
       → EffectIs P (outcome rules state j action scope_type list)
   by-register P Register scope_type list h f =
       if-accepted P rules state j Register scope_type list (λ _. f.first)
@@ -236,7 +224,7 @@ module _ (state : State) (j : ℕ) where
         → After (step_outcome state j (when_sound (result_map_both (λ change. change) out_refusal o)
         (changing_reservations state j))))
         (cases : FirstIs (EffectIs P)
-        (register_cases (rules_for state) state.reservations j list.service_action_key list.aptpl)) where
+        (register_cases state.reservations j list.service_action_key list.aptpl)) where
       after-action : (action : OutAction) (scope_type : ℕ) → is_registering action ≡ true
           → After (step_by state j (ChangeReservations action scope_type list))
       unfolding reservation_change

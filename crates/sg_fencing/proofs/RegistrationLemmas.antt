@@ -76,7 +76,7 @@ module _ (rules : Rules) (state : ReservationState) (j : ℕ)
 
   abbrev Registering : Type 0
   Registering =
-      FirstIs (EffectIs P) (register_cases rules state j list.service_action_key list.aptpl)
+      FirstIs (EffectIs P) (register_cases state j list.service_action_key list.aptpl)
 
   by-action : (action : OutAction) (type : Option ReservationType) (key : ℕ)
       → (is_registering action ≡ true → Registering)
@@ -114,15 +114,14 @@ module _ (rules : Rules) (state : ReservationState) (i j : ℕ) (other : (j == i
   })
 
   register-leaves : (sark : ℕ) (aptpl : Bool)
-      → FirstIs (EffectIs Leaves) (register_cases rules state j sark aptpl)
+      → FirstIs (EffectIs Leaves) (register_cases state j sark aptpl)
   unfolding register_cases
   register-leaves sark aptpl =
       case_or (EffectIs Leaves) _ _ (λ _. left _ refl refl refl refl)
-      (λ _. case_or (EffectIs Leaves) _ _ (λ _. left _ refl refl refl refl)
       (λ _. case_or (EffectIs Leaves) _ _ (λ _. refused Leaves _)
       (λ _. case_or (EffectIs Leaves) _ _
       (λ _. left _ (key_of-push state.registrations i j sark other) refl refl refl)
-      (λ known. absurd (not_so (is_registered state.registrations j) unknown known)))))
+      (λ known. absurd (not_so (is_registered state.registrations j) unknown known))))
 
   pub outcome-leaves : (action : OutAction) (scope_type : ℕ) (list : OutList)
       → EffectIs Leaves (outcome rules state j action scope_type list)
@@ -137,41 +136,28 @@ pub pushed-known : (rs : List Registration) (j key : ℕ)
 pushed-known [] j key = ap (λ b. b || false) (eq-eqb j j refl)
 pushed-known (r ∷ rs) j key = or_right (is_of j r) _ (pushed-known rs j key)
 
--- what counts though nothing is registered or unregistered
-counted-if : (counts unknown zero : Bool) → (counts && zero) ≡ false
-    → (counts && (unknown && zero)) ≡ true → ⊥
-counted-if true true zero a b = false≢true (sym a ∙ b)
-counted-if true false zero a b = false≢true b
-counted-if false unknown zero a b = false≢true b
-
 module _ (rules : Rules) (state : ReservationState) (j : ℕ)
     (unknown : is_registered state.registrations j ≡ false) where
   -- all is as it was, unless j is registered afterwards
   abbrev pub IsIdle : ReservationChange → Type 0
   IsIdle change = is_registered change.registrations j ≡ false → state_after state (Ok change) ≡ state
 
-  register-idle : (sark : ℕ) (aptpl : Bool) → (rules.each_register_counts && sark == 0) ≡ false
-      → FirstIs (EffectIs IsIdle) (register_cases rules state j sark aptpl)
+  register-idle : (sark : ℕ) (aptpl : Bool)
+      → FirstIs (EffectIs IsIdle) (register_cases state j sark aptpl)
   unfolding register_cases
-  register-idle sark aptpl uncounted =
-      let new = not (is_registered state.registrations j) in
-      case_or (EffectIs IsIdle) _ _
-      (λ counted. absurd (counted-if rules.each_register_counts new (sark == 0) uncounted counted))
-      (λ _. case_or (EffectIs IsIdle) _ _ (λ _. effective IsIdle _ (λ _. refl))
+  register-idle sark aptpl =
+      case_or (EffectIs IsIdle) _ _ (λ _. effective IsIdle _ (λ _. refl))
       (λ _. case_or (EffectIs IsIdle) _ _ (λ _. refused IsIdle _)
       (λ _. case_or (EffectIs IsIdle) _ _
       (λ _. effective IsIdle _ (λ gone. absurd (false≢true
       (sym gone ∙ pushed-known state.registrations j sark))))
-      (λ known. absurd (not_so (is_registered state.registrations j) unknown known)))))
+      (λ known. absurd (not_so (is_registered state.registrations j) unknown known))))
 
-  -- this holds of a command that does not register, and of one that does not count
   pub outcome-idle : (action : OutAction) (scope_type : ℕ) (list : OutList)
-      → (is_registering action ≡ true
-      → (rules.each_register_counts && list.service_action_key == 0) ≡ false)
       → EffectIs IsIdle (outcome rules state j action scope_type list)
-  outcome-idle action scope_type list uncounted =
+  outcome-idle action scope_type list =
       by-registering rules state j unknown IsIdle list action scope_type
-      (λ is. register-idle list.service_action_key list.aptpl (uncounted is))
+      (λ _. register-idle list.service_action_key list.aptpl)
 
 -- ---- An initiator stays unregistered
 
@@ -191,7 +177,7 @@ module _ (rules : Rules) (state : ReservationState) (i j : ℕ)
   stays change h = effective IsUnknown change h
 
   registering-other : (sark : ℕ) (aptpl : Bool) → (j == i) ≡ false
-      → FirstIs (EffectIs IsUnknown) (register_cases rules state j sark aptpl)
+      → FirstIs (EffectIs IsUnknown) (register_cases state j sark aptpl)
   unfolding register_cases
   registering-other sark aptpl other =
       let all = state.registrations in
@@ -199,11 +185,10 @@ module _ (rules : Rules) (state : ReservationState) (i j : ℕ)
       let pushed = by-key (with_registration all j sark) (key_of-push all i j sark other) in
       let replaced = by-key (with_key_replaced all j sark) (key_of-replaced all i j sark other) in
       case_or (EffectIs IsUnknown) _ _ (λ _. stays _ unknown)
-      (λ _. case_or (EffectIs IsUnknown) _ _ (λ _. stays _ unknown)
       (λ _. case_or (EffectIs IsUnknown) _ _ (λ _. refused IsUnknown _)
       (λ _. case_or (EffectIs IsUnknown) _ _ (λ _. stays _ pushed)
       (λ _. case_or (EffectIs IsUnknown) _ _ (λ _. stays _ replaced)
-      (λ _. last_case (EffectIs IsUnknown) _ _ refl (stays _ gone))))))
+      (λ _. last_case (EffectIs IsUnknown) _ _ refl (stays _ gone)))))
 
   reserving : (type : ReservationType) → FirstIs (EffectIs IsUnknown) (reserve_cases state j type)
   unfolding reserve_cases

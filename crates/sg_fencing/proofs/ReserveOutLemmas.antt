@@ -241,21 +241,20 @@ module _ (rules : Rules) (all : List Registration) (kind : ReservationType) (bef
   P = IsLeftIfHolder all (held_alone kind i) i j
 
   register_leaves : (sark : ℕ) (aptpl : Bool) → is_registered all i ≡ true → (j == i) ≡ false
-      → FirstIs (EffectIs P) (register_cases rules (alone_in all kind i before) j sark aptpl)
+      → FirstIs (EffectIs P) (register_cases (alone_in all kind i before) j sark aptpl)
   unfolding register_cases
   register_leaves sark aptpl here other =
       let held = held_alone kind i in
       let gone = key_of-without all i j other in
       let left = stays_registered all (without_initiator all j) i gone here in
       case_or (EffectIs P) _ _ (λ _. stays all held i j _ here refl refl refl)
-      (λ _. case_or (EffectIs P) _ _ (λ _. stays all held i j _ here refl refl refl)
       (λ _. case_or (EffectIs P) _ _ (λ _. refused P _)
       (λ _. case_or (EffectIs P) _ _
       (λ _. stays all held i j _ here (key_of-push all i j sark other) refl refl)
       (λ _. case_or (EffectIs P) _ _
       (λ _. stays all held i j _ here (key_of-replaced all i j sark other) refl refl)
       (λ _. last_case (EffectIs P) _ _ refl
-      (stays all held i j _ here gone (while_held-alone kind i _ left) (released-alone kind i _ left)))))))
+      (stays all held i j _ here gone (while_held-alone kind i _ left) (released-alone kind i _ left))))))
 
   reserve_leaves : (new : ReservationType) → is_registered all i ≡ true
       → FirstIs (EffectIs P) (reserve_cases (alone_in all kind i before) j new)
@@ -336,7 +335,7 @@ module _ (rules : Rules) (all : List Registration) (kind : ReservationType) (bef
   H = IsHeld (held_alone kind i) i
 
   register_holds : (sark : ℕ) (aptpl : Bool) → is_registered all i ≡ true → (j == i) ≡ false
-      → FirstIs (EffectIs H) (register_cases rules (alone_in all kind i before) j sark aptpl)
+      → FirstIs (EffectIs H) (register_cases (alone_in all kind i before) j sark aptpl)
   unfolding register_cases
   register_holds sark aptpl here other =
       let held = held_alone kind i in
@@ -347,11 +346,10 @@ module _ (rules : Rules) (all : List Registration) (kind : ReservationType) (bef
       let replaced = stays_registered all (with_key_replaced all j sark) i
       (key_of-replaced all i j sark other) here in
       case_or (EffectIs H) _ _ (λ _. stands held i _ here refl)
-      (λ _. case_or (EffectIs H) _ _ (λ _. stands held i _ here refl)
       (λ _. case_or (EffectIs H) _ _ (λ _. refused H _)
       (λ _. case_or (EffectIs H) _ _ (λ _. stands held i _ pushed refl)
       (λ _. case_or (EffectIs H) _ _ (λ _. stands held i _ replaced refl)
-      (λ _. last_case (EffectIs H) _ _ refl (stands held i _ left (while_held-alone kind i _ left)))))))
+      (λ _. last_case (EffectIs H) _ _ refl (stands held i _ left (while_held-alone kind i _ left))))))
 
   reserve_holds : (new : ReservationType) → is_registered all i ≡ true
       → FirstIs (EffectIs H) (reserve_cases (alone_in all kind i before) j new)

@@ -1,6 +1,6 @@
 -- The group of a disk. Its registrants see a view together, and nothing more. A new registration
 -- changes that view in one place. The commands of initiators outside may be left out.
-use Rattle.std.specs.Prelude.{◌≡◌, ◌≢◌, ℕ, ◌+◌, ◌%◌, ◌^◌, Bool, true, false, not, ◌&&◌, List, filter}
+use Rattle.std.specs.Prelude.{◌≡◌, ◌≢◌, ℕ, ◌+◌, ◌%◌, ◌^◌, Bool, true, false, not, List, filter}
 use Rattle.std.specs.Prelude.{slice_get, take, Option, Some}
 use Rattle.std.specs.List.{list_any}
 use Rattle.sg_wire.specs.CdbDecoding.{command_of}
@@ -15,11 +15,10 @@ use Rattle.sg_target.specs.Runs.{answers, state_after_all, step_of}
 use Rattle.sg_target.specs.State.{IsWithinLimits, State}
 use Rattle.sg_target.specs.Step.{Answer, Step, step}
 use Rattle.sg_target.specs.declared.call.Call.{Call}
-use Rattle.sg_target.specs.declared.reply.Status.TheVariants.{Good}
 use Rattle.sg_fencing.specs.ChosenAnswers.{answers_where}
 use Rattle.sg_fencing.specs.Fencing.{is_from, view_of}
 use Rattle.sg_fencing.specs.Registrants.{StaysUnregistered, is_registrant, is_reserved}
-use Rattle.sg_fencing.specs.Registrants.{asks_to_unregister, registering_list, rules_for}
+use Rattle.sg_fencing.specs.Registrants.{registering_list}
 
 -- ---- What a group sees
 
@@ -142,20 +141,6 @@ IsReservedFrom outside state calls =
     (n : ℕ) (call : Call) → slice_get calls n ≡ Some call → outside call.initiator ≡ true
     → is_reserved (state_after_all state (take n calls)) ≡ true
 
--- A call asks to unregister its initiator, and the disk counts that even if the initiator is not
--- registered: PRGENERATION is incremented, and APTPL is taken. A base disk does not count it.
-abbrev pub is_counted : State → Call → Bool
-is_counted state call =
-    (rules_for state).each_register_counts
-    && asks_to_unregister (command_of call.cdb.now) call.data_out.now
-
--- No such call from outside ends with GOOD. On a base disk there is no such call.
-abbrev pub NoneIsCounted : (outside : ℕ → Bool) → State → List Call → Type 0
-NoneIsCounted outside state calls =
-    (n : ℕ) (call : Call) → slice_get calls n ≡ Some call → outside call.initiator ≡ true →
-    (let before = state_after_all state (take n calls) in
-    is_counted before call ≡ true → (step_of before call).answer.status ≢ Good)
-
 -- No call from outside starts a stopped unit. On a base disk the unit is never stopped.
 abbrev pub NoneStarts : (outside : ℕ → Bool) → State → List Call → Type 0
 NoneStarts outside state calls =
@@ -169,6 +154,5 @@ abbrev pub OutsidersMayBeLeftOut : Type 0
 OutsidersMayBeLeftOut =
     (outside : ℕ → Bool) (state : State) (calls : List Call) → IsWithinLimits state
     → ((initiator : ℕ) → outside initiator ≡ true → StaysUnregistered initiator state calls)
-    → IsReservedFrom outside state calls → NoneIsCounted outside state calls
-    → NoneStarts outside state calls
+    → IsReservedFrom outside state calls → NoneStarts outside state calls
     → IsAsIfInsideAlone outside state calls

@@ -19,7 +19,7 @@ use Rattle.sg_target.specs.declared.reply.Status.TheVariants.{Good}
 use Rattle.sg_fencing.specs.ChosenAnswers.{answers_among}
 use Rattle.sg_fencing.specs.Fencing.{NobodyElseStarts, holds_alone, is_compared, is_from, view_of}
 use Rattle.sg_fencing.specs.Registrants.{IsNeverGranted, is_registrant, is_reserved}
-use Rattle.sg_fencing.specs.Registrants.{registering_list, rules_for}
+use Rattle.sg_fencing.specs.Registrants.{registering_list}
 
 -- ---- One power cycle
 
@@ -75,13 +75,11 @@ TwoAreOne =
 -- ---- Lists of events
 
 -- A REGISTER or a REGISTER AND IGNORE EXISTING KEY counts if it ends with GOOD, and increments
--- PRGENERATION then. On a base disk it does not count if its initiator is not registered and sends
--- the key zero.
+-- PRGENERATION then. It does not count if its initiator is not registered and sends the key zero.
 pub record Counts (state : State) (call : Call) (list : OutList) : Type 0 where
   pub sent : registering_list (command_of call.cdb.now) call.data_out.now ≡ Some list
   pub good : (step_of state call).answer.status ≡ Good
-  pub acts : ((rules_for state).each_register_counts
-      || (is_registrant state call.initiator || not (list.service_action_key == 0))) ≡ true
+  pub acts : (is_registrant state call.initiator || not (list.service_action_key == 0)) ≡ true
 
 -- None of the events from an index on counts.
 abbrev pub NoneCountsFrom : (index : ℕ) → State → List Event → Type 0

@@ -82,11 +82,6 @@ asks_to_register command data_out =
     option_map_or (λ (list : OutList). not (list.service_action_key == 0))
     (registering_list command data_out) false
 
-abbrev pub asks_to_unregister : Result Command CdbFault → (data_out : List ℕ) → Bool
-asks_to_unregister command data_out =
-    option_map_or (λ (list : OutList). list.service_action_key == 0)
-    (registering_list command data_out) false
-
 -- The key of the registrations that a PREEMPT or a PREEMPT AND ABORT is to remove.
 abbrev pub is_preempting : OutAction → Bool
 is_preempting Preempt = true

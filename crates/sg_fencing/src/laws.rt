@@ -313,17 +313,15 @@ pub fn a_new_registration_is_seen()
 {}
 
 /// Some initiators stay unregistered over a list of commands of registrants and others. Whenever
-/// one of them sends a command, a reservation of any type is held. The disk counts no REGISTER of
-/// theirs with key 0, and none of them starts a stopped unit; on a base disk both are so. Then their
-/// commands may be left out. Without these, the answers to all others are the same, and so is what
-/// the others see in the end.
+/// one of them sends a command, a reservation of any type is held. None of them starts a stopped unit;
+/// the unit of a base disk is never stopped. Then their commands may be left out. Without these, the
+/// answers to all others are the same, and so is what the others see in the end.
 pub fn outsiders_may_be_left_out()
     ensures { OutsidersMayBeLeftOut }
 {
     limits_are_kept();
     others_are_refused();
     commands_have_their_class();
-    refused_changes_nothing();
 }
 
 /// After a PREEMPT or a PREEMPT AND ABORT that ends with GOOD, no initiator but its sender is

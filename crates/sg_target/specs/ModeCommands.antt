@@ -76,4 +76,4 @@ changing_modes state initiator modes = let changed = (changed_by state.modes mod
 -- Choice (SPC-4, 6.11): with PF 0 pages of the vendor may be sent.
 abbrev pub bad_page_format : Rules → (pf : Bool) → (list_length : ℕ) → Option ℕ
 bad_page_format rules pf list_length =
-    if pf || rules.no_list_needs_no_page_format && list_length == 0 then None else Some 1
+    if pf || rules.select_of_nothing_ignores_page_format && list_length == 0 then None else Some 1

@@ -1,4 +1,4 @@
--- START STOP UNIT (SBC-3, 5.25), and what a stopped unit refuses.
+-- START STOP UNIT (SBC-3, 5.25).
 use Rattle.std.specs.Prelude.{Bool, not}
 use Rattle.sg_target.specs.Effect.{Effect, no_effect}
 use Rattle.sg_target.specs.State.{State}

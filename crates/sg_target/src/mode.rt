@@ -188,7 +188,7 @@ fn check_mode_select<'a>(
     ensures { result
         ≡ requested (mode_select config.now width pf sp list_length data_out.now) data_out.now }
 {
-    if !pf && !(config.rules().no_list_needs_no_page_format && list_length == 0) {
+    if !pf && !(config.rules().select_of_nothing_ignores_page_format && list_length == 0) {
         return Err(Refusal::CheckCondition(Reason::InvalidFieldInCdb {
             byte: PAGE_FORMAT_BYTE,
         }));

@@ -296,16 +296,15 @@ consistent-none = record {
 
 -- ---- Outcomes
 
-consistent-register : (rules : Rules) (state : ReservationState) (i sark : ℕ) (aptpl : Bool)
+consistent-register : (state : ReservationState) (i sark : ℕ) (aptpl : Bool)
     → IsConsistent state
-    → FirstIs (EffectIs IsConsistentChange) (register_cases rules state i sark aptpl)
+    → FirstIs (EffectIs IsConsistentChange) (register_cases state i sark aptpl)
 unfolding register_cases
-consistent-register rules state i sark aptpl h =
+consistent-register state i sark aptpl h =
     let all = state.registrations in
     let held = state.reservation in
     let others = λ (r : Registration). not (is_of i r) in
     case_or (EffectIs IsConsistentChange) _ _ (λ _. effective IsConsistentChange _ h)
-    (λ _. case_or (EffectIs IsConsistentChange) _ _ (λ _. effective IsConsistentChange _ h)
     (λ zero. case_or (EffectIs IsConsistentChange) _ _ (λ _. refused IsConsistentChange _)
     (λ full. case_or (EffectIs IsConsistentChange) _ _
     (λ new. effective IsConsistentChange _
@@ -316,7 +315,7 @@ consistent-register rules state i sark aptpl h =
     (λ _. last_case (EffectIs IsConsistentChange) _ _ refl
     (effective IsConsistentChange _
     (consistent-filter others all held _ h (held-while_held held _)
-    (named-while_held held _ h.holder))))))))
+    (named-while_held held _ h.holder)))))))
 
 consistent-reserve : (state : ReservationState) (i : ℕ) (type : ReservationType)
     → is_registered state.registrations i ≡ true → IsConsistent state
@@ -376,7 +375,7 @@ consistent-action : (rules : Rules) (state : ReservationState) (i : ℕ) (action
     → accepts_key state.registrations i action key ≡ true → IsConsistent state
     → EffectIs IsConsistentChange (action_outcome rules state i action type sark aptpl)
 consistent-action rules state i Register type key sark aptpl a h =
-    (consistent-register rules state i sark aptpl h).first
+    (consistent-register state i sark aptpl h).first
 consistent-action rules state i Reserve type key sark aptpl a h =
     let here = is_registered-under state.registrations i key a in
     typed IsConsistentChange type _ (λ type. (consistent-reserve state i type here h).first)
@@ -391,7 +390,7 @@ consistent-action rules state i PreemptAndAbort type key sark aptpl a h =
     let here = is_registered-under state.registrations i key a in
     (consistent-preempt rules state i type sark here h).first
 consistent-action rules state i RegisterAndIgnoreExistingKey type key sark aptpl a h =
-    (consistent-register rules state i sark aptpl h).first
+    (consistent-register state i sark aptpl h).first
 
 pub consistent-outcome : (rules : Rules) (state : ReservationState) (i : ℕ) (action : OutAction)
     (scope_type : ℕ) (list : OutList) → IsConsistent state

@@ -300,17 +300,16 @@ counts : (state : ReservationState) (change : ReservationChange)
 counts state change is =
     effective (Counted state) change (λ e. absurd (false≢true (sym e ∙ is)))
 
-counted-register : (rules : Rules) (state : ReservationState) (i sark : ℕ) (aptpl : Bool)
-    → FirstIs (EffectIs (Counted state)) (register_cases rules state i sark aptpl)
+counted-register : (state : ReservationState) (i sark : ℕ) (aptpl : Bool)
+    → FirstIs (EffectIs (Counted state)) (register_cases state i sark aptpl)
 unfolding register_cases
-counted-register rules state i sark aptpl =
+counted-register state i sark aptpl =
     let P = Counted state in
-    case_or (EffectIs P) _ _ (λ _. counts state _ refl)
-    (λ _. case_or (EffectIs P) _ _ (λ _. stays state _ _)
+    case_or (EffectIs P) _ _ (λ _. stays state _ _)
     (λ _. case_or (EffectIs P) _ _ (λ _. refused P _)
     (λ _. case_or (EffectIs P) _ _ (λ _. counts state _ refl)
     (λ _. case_or (EffectIs P) _ _ (λ _. counts state _ refl)
-    (λ _. last_case (EffectIs P) _ _ refl (counts state _ refl))))))
+    (λ _. last_case (EffectIs P) _ _ refl (counts state _ refl)))))
 
 counted-reserve : (state : ReservationState) (i : ℕ) (type : ReservationType)
     → FirstIs (EffectIs (Counted state)) (reserve_cases state i type)
@@ -347,7 +346,7 @@ counted-action : (rules : Rules) (state : ReservationState) (i : ℕ) (action : 
     (type : Option ReservationType) (sark : ℕ) (aptpl : Bool)
     → EffectIs (Counted state) (action_outcome rules state i action type sark aptpl)
 counted-action rules state i Register type sark aptpl =
-    (counted-register rules state i sark aptpl).first
+    (counted-register state i sark aptpl).first
 counted-action rules state i Reserve type sark aptpl =
     typed (Counted state) type _ (λ type. (counted-reserve state i type).first)
 counted-action rules state i Release type sark aptpl =
@@ -358,7 +357,7 @@ counted-action rules state i Preempt type sark aptpl =
 counted-action rules state i PreemptAndAbort type sark aptpl =
     (counted-preempt rules state i type sark).first
 counted-action rules state i RegisterAndIgnoreExistingKey type sark aptpl =
-    (counted-register rules state i sark aptpl).first
+    (counted-register state i sark aptpl).first
 
 counted-outcome : (rules : Rules) (state : ReservationState) (i : ℕ) (action : OutAction)
     (scope_type : ℕ) (list : OutList)

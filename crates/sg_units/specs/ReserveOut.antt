@@ -102,20 +102,15 @@ released_unless_type held type = if has_type held type then None else Some Reser
 -- ---- The service actions. SARK is the SERVICE ACTION RESERVATION KEY
 
 -- REGISTER and REGISTER AND IGNORE EXISTING KEY (SPC-4, 5.13, registering and unregistering). If
--- an initiator that is not registered sends key 0, then nothing is registered or unregistered. An
--- extended disk counts this REGISTER, because PRGENERATION counts each REGISTER (SPC-4, 6.15.2). It
--- takes APTPL, because the last REGISTER decides (SPC-4, 5.13).
--- A base disk leaves PRGENERATION and APTPL then (SPC-4, 5.13, registering).
-unfoldable pub register_cases : Rules → ReservationState → (caller sark : ℕ) → (aptpl : Bool)
-    → List Case
-register_cases rules state caller sark aptpl =
+-- an initiator that is not registered sends key 0, then nothing changes, PRGENERATION and APTPL
+-- included.
+unfoldable pub register_cases : ReservationState → (caller sark : ℕ) → (aptpl : Bool) → List Case
+register_cases state caller sark aptpl =
     let all = state.registrations in
     let held = state.reservation in
     let known = is_registered all caller in
     let rest = without_initiator all caller in
-    let idle = not known && sark == 0 in
-    when (rules.each_register_counts && idle) (Ok (registering state all aptpl))
-    ∷ when idle (Ok (unchanged state))
+    when (not known && sark == 0) (Ok (unchanged state))
     ∷ when (not known && length all == max_registrations) (Err NoRoom)
     ∷ when (not known) (Ok (registering state (with_registration all caller sark) aptpl))
     ∷ when (not (sark == 0)) (Ok (registering state (with_key_replaced all caller sark) aptpl))
@@ -227,7 +222,7 @@ preempt_cases rules state caller type sark =
 abbrev pub action_outcome : Rules → ReservationState → (caller : ℕ) → OutAction
     → Option ReservationType → (sark : ℕ) → (aptpl : Bool) → Outcome
 action_outcome rules state i Register type sark aptpl =
-    first_case (register_cases rules state i sark aptpl)
+    first_case (register_cases state i sark aptpl)
 action_outcome rules state i Reserve type sark aptpl =
     with_type type (λ type. first_case (reserve_cases state i type))
 action_outcome rules state i Release type sark aptpl = release_outcome rules state i type
@@ -237,7 +232,7 @@ action_outcome rules state i Preempt type sark aptpl =
 action_outcome rules state i PreemptAndAbort type sark aptpl =
     first_case (preempt_cases rules state i type sark)
 action_outcome rules state i RegisterAndIgnoreExistingKey type sark aptpl =
-    first_case (register_cases rules state i sark aptpl)
+    first_case (register_cases state i sark aptpl)
 
 -- The RESERVATION KEY has to be the caller's. To register for the first time it has to be 0, and
 -- REGISTER AND IGNORE EXISTING KEY ignores it.

@@ -58,7 +58,6 @@ maximum_transfer_length = extended_limits.transfer_length
 -- Departure (SBC-3, 4.12): SWP of a base disk refuses what names no block, too, and is 27h/02h.
 -- Departure (SAM-5, 5.3.3): on a base disk, each unit attention comes before a conflict.
 -- Departure (SPC-4, 5.13.11.4): on a base disk, PREEMPT of key 0 may be a conflict.
--- Departure (SPC-4, 5.13.7): a REGISTER that changes no key counts for nothing on a base disk.
 -- Departure (SPC-4, 5.13.11.2): on a base disk, RELEASE of nothing may be refused for its TYPE.
 -- Choice (SPC-4, 6.15.4): a base disk does not say which commands a reservation allows.
 abbrev pub rules_of : Profile → Rules
@@ -66,12 +65,11 @@ rules_of Base = record {
   zero_reaches_last = false;
   unmap_ignores_empty_extents = false;
   ignores_number_of_blocks = false;
-  no_list_needs_no_page_format = false;
+  select_of_nothing_ignores_page_format = false;
   short_data_out_is_illegal = false;
   protects_only_writes = false;
   only_resets_outrank_conflicts = false;
   preempt_needs_a_key = false;
-  each_register_counts = false;
   release_of_nothing_ignores_type = false;
   allow_commands = 0;
 }
@@ -79,12 +77,11 @@ rules_of Extended = record {
   zero_reaches_last = true;
   unmap_ignores_empty_extents = true;
   ignores_number_of_blocks = true;
-  no_list_needs_no_page_format = true;
+  select_of_nothing_ignores_page_format = true;
   short_data_out_is_illegal = true;
   protects_only_writes = true;
   only_resets_outrank_conflicts = true;
   preempt_needs_a_key = true;
-  each_register_counts = true;
   release_of_nothing_ignores_type = true;
   allow_commands = 3;
 }

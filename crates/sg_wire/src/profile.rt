@@ -62,7 +62,7 @@ pub struct Rules {
     /// 6.4.2).
     pub ignores_number_of_blocks: bool,
     /// MODE SELECT of no list is GOOD with any PF (SPC-4, 6.11).
-    pub no_list_needs_no_page_format: bool,
+    pub select_of_nothing_ignores_page_format: bool,
     /// Data-out that is too short is an ILLEGAL REQUEST, and no DATA PHASE ERROR (SPC-4, sense keys).
     pub short_data_out_is_illegal: bool,
     /// SWP refuses a command only if it writes a block, with WRITE PROTECTED (SBC-3, 4.12).
@@ -73,9 +73,6 @@ pub struct Rules {
     /// PREEMPT of key 0 is an error of the parameter list, unless an all registrants reservation is
     /// held (SPC-4, 5.13.11.4).
     pub preempt_needs_a_key: bool,
-    /// Each REGISTER raises PRGENERATION and takes APTPL, even one that changes no key (SPC-4,
-    /// 5.13.7).
-    pub each_register_counts: bool,
     /// A RELEASE of a registrant that holds nothing is GOOD with any TYPE (SPC-4, 5.13.11.2).
     pub release_of_nothing_ignores_type: bool,
     /// ALLOW COMMANDS of REPORT CAPABILITIES (SPC-4, 6.15.4).
@@ -86,12 +83,11 @@ const BASE_RULES: Rules = Rules {
     zero_reaches_last: false,
     unmap_ignores_empty_extents: false,
     ignores_number_of_blocks: false,
-    no_list_needs_no_page_format: false,
+    select_of_nothing_ignores_page_format: false,
     short_data_out_is_illegal: false,
     protects_only_writes: false,
     only_resets_outrank_conflicts: false,
     preempt_needs_a_key: false,
-    each_register_counts: false,
     release_of_nothing_ignores_type: false,
     allow_commands: 0,
 };
@@ -100,12 +96,11 @@ const EXTENDED_RULES: Rules = Rules {
     zero_reaches_last: true,
     unmap_ignores_empty_extents: true,
     ignores_number_of_blocks: true,
-    no_list_needs_no_page_format: true,
+    select_of_nothing_ignores_page_format: true,
     short_data_out_is_illegal: true,
     protects_only_writes: true,
     only_resets_outrank_conflicts: true,
     preempt_needs_a_key: true,
-    each_register_counts: true,
     release_of_nothing_ignores_type: true,
     allow_commands: 3,
 };

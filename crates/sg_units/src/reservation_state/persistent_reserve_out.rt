@@ -63,7 +63,7 @@ impl ReservationState {
         let service_action_key = list.service_action_key;
         match action {
             OutAction::Register | OutAction::RegisterAndIgnoreExistingKey => {
-                self.register(rules, caller, service_action_key, list.aptpl)
+                self.register(caller, service_action_key, list.aptpl)
             }
             OutAction::Reserve => { self.reserve(caller, kind.ok_or(OutFault::BadType)?) }
             OutAction::Release => self.release(rules, caller, kind),

@@ -1,7 +1,7 @@
 // REGISTER and REGISTER AND IGNORE EXISTING KEY (SPC-4, 5.13) differ only in the check of the key.
 // The check comes before.
-ghost use Rattle.std.specs.Prelude.{◌≡◌, if◌then◌else◌};
-ghost use Rattle.sg_units.specs.ReserveOut.{first_case, register_cases, registering, unchanged};
+ghost use Rattle.std.specs.Prelude.{◌≡◌};
+ghost use Rattle.sg_units.specs.ReserveOut.{first_case, register_cases, registering};
 ghost use Rattle.sg_units.specs.ReserveOut.{released_unless_held};
 ghost use Rattle.sg_units.specs.Registrations.{without_initiator};
 ghost use Rattle.sg_units.specs.Reservations.{while_held};
@@ -10,22 +10,20 @@ use super::ReservationState;
 use crate::registrations::Registrations;
 use crate::reservation_change::ReservationChange;
 use crate::{OutFault, Reservation, UnitAttention};
-use sg_wire::{Initiator, Rules};
+use sg_wire::Initiator;
 
 impl ReservationState {
     /// Registers an initiator, replaces its key, or with key 0 unregisters it. From then on APTPL
-    /// decides what a power loss leaves. The rules say whether key 0 of an initiator that is not
-    /// registered counts.
+    /// decides what a power loss leaves. Key 0 of an initiator that is not registered changes nothing.
     #[tactic(auto, unfolding(crate::specs::ReserveOut::register_cases))]
     pub(super) fn register(
         &self,
-        rules: Rules,
         caller: Initiator,
         service_action_key: u64,
         aptpl: bool,
     ) -> Result<ReservationChange, OutFault>
         ensures { result ≡
-            first_case (register_cases rules self.now caller service_action_key aptpl) }
+            first_case (register_cases self.now caller service_action_key aptpl) }
     {
         if self.registrations.has(caller) {
             if service_action_key == 0 {
@@ -37,7 +35,7 @@ impl ReservationState {
             return Ok(self.registering(replaced, aptpl));
         }
         if service_action_key == 0 {
-            return Ok(self.idle_register(rules, aptpl));
+            return Ok(self.unchanged());
         }
         if self.registrations.is_full() {
             return Err(OutFault::NoRoom);
@@ -45,18 +43,6 @@ impl ReservationState {
         let mut registrations = self.registrations.copied();
         registrations.register(caller, service_action_key);
         Ok(self.registering(registrations, aptpl))
-    }
-
-    /// An initiator that is not registered stays so.
-    fn idle_register(&self, rules: Rules, aptpl: bool) -> ReservationChange
-        ensures { result ≡ if rules.each_register_counts
-            then registering self.now self.now.registrations aptpl else unchanged self.now }
-    {
-        if rules.each_register_counts {
-            self.registering(self.registrations.copied(), aptpl)
-        } else {
-            self.unchanged()
-        }
     }
 
     /// An initiator is unregistered. The reservation ends if no registrant holds it any more.
