@@ -154,5 +154,5 @@ with Disk(64, 4, profile=Profile.EXTENDED) as disk:
 assert refusal(Disk, 64, 4, None, 2) == Error.UNKNOWN_PROFILE
 assert refusal(Disk, 64, 4, None, 1 << 32) is ValueError
 assert refusal(identity, "NINE BYTE") is ValueError and refusal(identity, "\xe9") is ValueError
-assert refusal(decode, 13, b"") is ValueError
+assert refusal(decode, max(Kind) + 1, b"") is ValueError
 print(version())

@@ -35,6 +35,7 @@ use Rattle.sg_fencing.specs.Registrants.{StaysUnregistered, is_registrant, rules
 use Rattle.sg_fencing.proofs.AgreeLemmas.{AreSame, steps-agree, with_attentions}
 use Rattle.sg_fencing.proofs.AlikeLemmas.{StepsAgree, with_others}
 use Rattle.sg_fencing.proofs.FencedRunLemmas.{answers_in}
+use Rattle.sg_fencing.proofs.OperationLemmas.{is_of_kind}
 use Rattle.sg_fencing.proofs.OthersLemmas.{Keeps, same-stopped}
 use Rattle.sg_fencing.proofs.OutsiderLemmas.{IsOutside, outsider-keeps}
 use Rattle.sg_fencing.proofs.RegistrationLemmas.{IsIdle, outcome-idle}

@@ -140,7 +140,7 @@ fn calls_are_refused() -> Result<(), Error> {
     assert_eq!(Disk::with_profile(2, 64, 4, None).err(), Some(Error::UnknownProfile));
     let mut extended = Disk::with_profile(profile::EXTENDED, 64, 4, None)?;
     assert_eq!(extended.execute(0, &INQUIRY, &[])?.status(), GOOD);
-    assert_eq!(decode(kind::SENSE + 1, &[]), None);
+    assert_eq!(decode(kind::DEFECTS_12 + 1, &[]), None);
     assert!(version().unwrap().starts_with("mehdalung "));
     Ok(())
 }
