@@ -1,6 +1,6 @@
 -- The changes of an accepted list.
 use Rattle.std.proofs.Common.{◌≡◌, ℕ, ◌+◌, List, [], ◌∷◌, ◌++◌, length, drop, Bool, true, false}
-use Rattle.std.proofs.Common.{cond, refl, sym, ap, Option, ◌∙◌}
+use Rattle.std.proofs.Common.{cond, refl, sym, ap, Option, ◌∙◌, map}
 use Rattle.std.specs.Prelude.{Some, Result, Ok, Err, bit_or, unwrap_or, ◌==◌}
 use Rattle.std.specs.List.{flat_map}
 use Rattle.std.specs.Option.{option_map_or}
@@ -33,6 +33,10 @@ starts-nil (x ∷ xs) ys e = cc
 ends-nil : (xs ys : List ℕ) → xs ++ ys ≡ [] → ys ≡ []
 ends-nil [] ys e = e
 ends-nil (x ∷ xs) ys e = cc
+
+unmapped : (f : ℕ → ℕ) (xs : List ℕ) → map f xs ≡ [] → xs ≡ []
+unmapped f [] e = refl
+unmapped f (x ∷ xs) e = cc
 
 differences-self : (offset : ℕ) (xs ignored : List ℕ) → differences offset xs ignored xs ≡ []
 differences-self offset [] ignored = refl
@@ -79,16 +83,16 @@ abbrev Kept : PageValues → ModePage → List ℕ → Type 0
 Kept current page values =
     differences 2 (values_of current page) (row_of page).changeable values ≡ []
 
-sent-kept : (current : PageValues) (sent : Part) (page : ModePage)
-    → faults_against current sent page ≡ [] → Kept current page (drop 2 sent.bytes)
+sent-kept : (points : Bool) (current : PageValues) (sent : Part) (page : ModePage)
+    → faults_against points current sent page ≡ [] → Kept current page (drop 2 sent.bytes)
 unfolding page_bytes
-sent-kept current sent page e =
+sent-kept points current sent page e =
     let own = values_of current page in
     let mask = (row_of page).changeable in
     let expected : List ℕ = (0x80 + code_of page) ∷ length own ∷ own in
     let all = differences sent.offset expected (0x80 ∷ 0x00 ∷ mask) sent.bytes in
     let first = tail-nil sent.offset (0x80 + code_of page) 0x80 (length own ∷ own) (0x00 ∷ mask)
-    sent.bytes (starts-nil all (truncation_of sent) e) in
+    sent.bytes (unmapped _ all (starts-nil _ (truncation_of sent) e)) in
     let second = tail-nil (sent.offset + 1) (length own) 0x00 own mask (drop 1 sent.bytes) first in
     ap (differences 2 own mask) (sym (drop-drop 1 1 sent.bytes))
     ∙ differences-at (sent.offset + 1 + 1) 2 own mask (drop 1 (drop 1 sent.bytes)) second
@@ -99,36 +103,36 @@ found Caching = refl
 found Control = refl
 found InformationalExceptionsControl = refl
 
-known-kept : (current : PageValues) (sent : Part) (page : ModePage)
-    → page_faults current sent ≡ [] → (sent_code sent == code_of page) ≡ true
+known-kept : (points : Bool) (current : PageValues) (sent : Part) (page : ModePage)
+    → page_faults points current sent ≡ [] → (sent_code sent == code_of page) ≡ true
     → Kept current page (drop 2 sent.bytes)
-known-kept current sent page e same =
+known-kept points current sent page e same =
     let known : page_with_code (sent_code sent) ≡ Some page =
     ap page_with_code (eqb-true (sent_code sent) (code_of page) same) ∙ found page in
-    sent-kept current sent page
-    (sym (ap (λ o. option_map_or (faults_against current sent) o (sent.offset ∷ [])) known) ∙ e)
+    sent-kept points current sent page
+    (sym (ap (λ o. option_map_or (faults_against points current sent) o (sent.offset ∷ [])) known) ∙ e)
 
-next-kept : (current : PageValues) (sent : Part) (page : ModePage) (values : List ℕ)
-    → page_faults current sent ≡ [] → Kept current page values
+next-kept : (points : Bool) (current : PageValues) (sent : Part) (page : ModePage) (values : List ℕ)
+    → page_faults points current sent ≡ [] → Kept current page values
     → Kept current page (cond (sent_code sent == code_of page) (drop 2 sent.bytes) values)
-next-kept current sent page values e k = by (sent_code sent == code_of page) refl
+next-kept points current sent page values e k = by (sent_code sent == code_of page) refl
   where
     by : (c : Bool) → (sent_code sent == code_of page) ≡ c
         → Kept current page (cond c (drop 2 sent.bytes) values)
-    by true same = known-kept current sent page e same
+    by true same = known-kept points current sent page e same
     by false other = k
 
-last-kept : (current : PageValues) (page : ModePage) (parts : List Part) (values : List ℕ)
-    → flat_map (page_faults current) parts ≡ [] → Kept current page values
+last-kept : (points : Bool) (current : PageValues) (page : ModePage) (parts : List Part) (values : List ℕ)
+    → flat_map (page_faults points current) parts ≡ [] → Kept current page values
     → Kept current page (unwrap_or (last_sent (code_of page) parts) values)
-last-kept current page [] values e k = k
-last-kept current page (sent ∷ parts) values e k =
-    let others = flat_map (page_faults current) parts in
+last-kept points current page [] values e k = k
+last-kept points current page (sent ∷ parts) values e k =
+    let others = flat_map (page_faults points current) parts in
     let next = cond (sent_code sent == code_of page) (drop 2 sent.bytes) values in
     ap (differences 2 (values_of current page) (row_of page).changeable)
     (last_sent-cons (code_of page) sent parts values)
-    ∙ last-kept current page parts next (ends-nil (page_faults current sent) others e)
-    (next-kept current sent page values (starts-nil (page_faults current sent) others e) k)
+    ∙ last-kept points current page parts next (ends-nil (page_faults points current sent) others e)
+    (next-kept points current sent page values (starts-nil (page_faults points current sent) others e) k)
 
 of-rule : (rule : ModePage → List ℕ) (page : ModePage) → values_of (by_page rule) page ≡ rule page
 of-rule rule ReadWriteErrorRecovery = refl
@@ -144,11 +148,11 @@ unfolding first_fault
 no-fault n [] values after e = (refl, cc)
 no-fault n (offset ∷ offsets) values after e = absurd (cc)
 
-values-kept : (current after : PageValues) (width : CdbWidth) (blocks : Option ℕ) (list : List ℕ)
-    (page : ModePage) → selected_values current width blocks list ≡ Ok after
+values-kept : (current after : PageValues) (width : CdbWidth) (blocks : Option ℕ)
+    (points : Bool) (list : List ℕ) (page : ModePage) → selected_values current width blocks points list ≡ Ok after
     → Kept current page (values_of after page)
 unfolding selected_values
-values-kept current after width blocks list page e = by (length list == 0) e
+values-kept current after width blocks points list page e = by (length list == 0) e
   where
     own : List ℕ
     own = values_of current page
@@ -160,7 +164,7 @@ values-kept current after width blocks list page e = by (length list == 0) e
     parts = pages_in width list
 
     all : List ℕ
-    all = list_faults current width blocks list
+    all = list_faults current width blocks points list
 
     to : (values : PageValues) → values ≡ after → Kept current page (values_of values page)
         → Kept current page (values_of after page)
@@ -175,16 +179,16 @@ values-kept current after width blocks list page e = by (length list == 0) e
         to current same (differences-self 2 own mask)
     by false e =
         let none = no-fault (length list) all (values_after current parts) after e in
-        let pages = flat_map (page_faults current) parts in
+        let pages = flat_map (page_faults points current) parts in
         let behind =
-        ends-nil (header_faults width list) (descriptor_faults width blocks list ++ pages)
+        ends-nil (header_faults width list) (descriptor_faults width blocks points list ++ pages)
         none.0 in
-        let sent = ends-nil (descriptor_faults width blocks list) pages behind in
+        let sent = ends-nil (descriptor_faults width blocks points list) pages behind in
         let rule : ModePage → List ℕ =
         λ p. unwrap_or (last_sent (code_of p) parts) (values_of current p) in
         to (values_after current parts) none.1
         (ap (differences 2 own mask) (of-rule rule page)
-        ∙ last-kept current page parts own sent (differences-self 2 own mask))
+        ∙ last-kept points current page parts own sent (differences-self 2 own mask))
 
 selected-ok : (save : Bool) (before after : ModeState) (r : Result PageValues ModeSelectFault)
     → result_map_both (saved_after save before) (λ fault. fault) r ≡ Ok after
@@ -195,6 +199,6 @@ selected-ok save before after (Ok values) e =
 selected-ok save before after (Err fault) e = cc
 
 pub only_changeable : OnlyChangeableBitsChange
-only_changeable before after list width save blocks page e =
-    values-kept before.current after.current width blocks list page
-    (selected-ok save before after (selected_values before.current width blocks list) e)
+only_changeable before after list width save blocks points page e =
+    values-kept before.current after.current width blocks points list page
+    (selected-ok save before after (selected_values before.current width blocks points list) e)

@@ -1,4 +1,5 @@
 -- Header, block descriptor and pages of a list, checked in turn.
+use Rattle.std.proofs.Common.{◌-◌, map}
 use Rattle.std.proofs.Common.{◌≡◌, ◌≤◌, ◌<◌, ℕ, ◌+◌, List, [], ◌∷◌, ◌++◌, length, drop, take, Bool}
 use Rattle.std.proofs.Common.{true, false, cond, ◌||◌, refl, sym, ap, ◌∙◌, arith, inl, inr}
 use Rattle.std.specs.Prelude.{Option, Some, None, Result, Ok, Err, IfErr, nat_lt, ◌==◌}
@@ -13,6 +14,7 @@ use Rattle.sg_pages.specs.declared.mode_pages.mode_select.ModeSelectFault.TheVar
 use Rattle.sg_pages.specs.declared.mode_pages.mode_select.ModeSelectFault.TheVariants.{Length}
 use Rattle.sg_pages.specs.declared.mode_pages.mode_page.PageValues.{PageValues}
 use Rattle.sg_pages.specs.BlockDescriptor.{number_length, descriptor_length, block_descriptor}
+use Rattle.sg_pages.specs.BlockDescriptor.{descriptor_fields}
 use Rattle.sg_pages.specs.ModeSelect.{part_at, header_length, header_in, length_offset}
 use Rattle.sg_pages.specs.ModeLaws.{IsInside}
 use Rattle.sg_pages.specs.ModeSelect.{block_descriptor_length, has_longlba, descriptor_in, pages_in}
@@ -21,9 +23,11 @@ use Rattle.sg_pages.specs.ModeSelect.{differences, truncation_of, part_faults, i
 use Rattle.sg_pages.specs.ModeSelect.{zeros_for, is_descriptor_length, length_faults, header_faults}
 use Rattle.sg_pages.specs.ModeSelect.{accepted_blocks, descriptor_faults, page_faults, list_faults}
 use Rattle.sg_pages.specs.ModeSelect.{least, fault_at, first_fault, unless_fault, values_after}
-use Rattle.sg_pages.specs.ModeSelect.{selected_values}
+use Rattle.sg_pages.specs.ModeSelect.{field_faults, pointed_fields, selected_values}
+use Rattle.sg_pages.specs.MultiByteField.{first_byte_of}
 use Rattle.sg_pages.proofs.FaultLemmas.{From, Below, From-append, From-weaker, Below-append}
-use Rattle.sg_pages.proofs.FaultLemmas.{Below-weaker, part_faults-from, part_faults-below}
+use Rattle.sg_pages.proofs.FaultLemmas.{Below-weaker, part_faults-below}
+use Rattle.sg_pages.proofs.FieldLemmas.{field_faults-from, field_faults-below}
 use Rattle.sg_pages.proofs.FaultLemmas.{first_fault-append, differences-below-expected}
 use Rattle.sg_pages.proofs.FaultLemmas.{differences-nil, field}
 use Rattle.sg_pages.proofs.SentPagesLemmas.{pages_from-from}
@@ -125,41 +129,44 @@ other-length width list whole e =
 -- ---- The block descriptor
 
 -- the faults of a descriptor, by the bytes of its number of blocks
-abbrev against : (offset : ℕ) (blocks : Option ℕ) (list : List ℕ) → (long : Bool) (size : ℕ) (number : List ℕ)
-    → List ℕ
-against offset blocks list long size number =
-    part_faults (block_descriptor long (accepted_blocks blocks number))
+abbrev against : (offset : ℕ) (blocks : Option ℕ) (points : Bool) (list : List ℕ)
+    → (long : Bool) (size : ℕ) (number : List ℕ) → List ℕ
+against offset blocks points list long size number =
+    field_faults (pointed_fields points (descriptor_fields long)) (block_descriptor long (accepted_blocks blocks number))
     (ignored_descriptor_bits long blocks) (part_at offset size list)
 
-pub descriptor_faults-at : (width : CdbWidth) (long : Bool) (blocks : Option ℕ) (size : ℕ) (list : List ℕ)
+pub descriptor_faults-at : (width : CdbWidth) (long : Bool) (blocks : Option ℕ) (points : Bool)
+    (size : ℕ) (list : List ℕ)
     → has_longlba width list ≡ long → block_descriptor_length width list ≡ size
     → number_length long ≤ size →
-    descriptor_faults width blocks list
-    ≡ against (header_length width) blocks list long size
+    descriptor_faults width blocks points list
+    ≡ against (header_length width) blocks points list long size
     (take (number_length long) (drop (header_length width) list))
-descriptor_faults-at width long blocks size list e f h =
+descriptor_faults-at width long blocks points size list e f h =
     let rest = drop (header_length width) list in
-    ap (λ l. against (header_length width) blocks list l (block_descriptor_length width list)
+    ap (λ l. against (header_length width) blocks points list l (block_descriptor_length width list)
     (take (number_length l) (take (block_descriptor_length width list) rest))) e
-    ∙ (ap (λ n. against (header_length width) blocks list long n
+    ∙ (ap (λ n. against (header_length width) blocks points list long n
     (take (number_length long) (take n rest))) f
-    ∙ ap (against (header_length width) blocks list long size)
+    ∙ ap (against (header_length width) blocks points list long size)
     (take-take (number_length long) size rest h))
 
 -- no descriptor
-pub no-descriptor : (width : CdbWidth) (blocks : Option ℕ) (list : List ℕ)
+pub no-descriptor : (width : CdbWidth) (blocks : Option ℕ) (points : Bool) (list : List ℕ)
     → block_descriptor_length width list ≡ 0
-    → first_fault (length list) (descriptor_faults width blocks list) ≡ None
+    → first_fault (length list) (descriptor_faults width blocks points list) ≡ None
 unfolding first_fault
-no-descriptor width blocks list e =
+no-descriptor width blocks points list e =
     let expected = λ (sent : List ℕ). block_descriptor (has_longlba width list)
     (accepted_blocks blocks (take (number_length (has_longlba width list)) sent)) in
     let ignored = ignored_descriptor_bits (has_longlba width list) blocks in
+    let fields = pointed_fields points (descriptor_fields (has_longlba width list)) in
     let rest = drop (header_length width) list in
     ap (λ n. let bytes = take n rest in
-    first_fault (length list) (part_faults (expected bytes) ignored
+    first_fault (length list) (field_faults fields (expected bytes) ignored
     (part_at (header_length width) n list))) e
-    ∙ ap (λ xs. first_fault (length list) (xs ++ []))
+    ∙ ap (λ xs. first_fault (length list)
+    (map (λ at. header_length width + first_byte_of fields (at - header_length width)) xs ++ []))
     (differences-nil (header_length width) (expected []) ignored)
 
 -- the descriptor that its length announces
@@ -191,28 +198,28 @@ announced-16 width list e h k =
     (long-by (block_descriptor_length width list) (has_longlba width list)
     (announced-long width list e h)).1 k
 
-pub short-faults : (width : CdbWidth) (blocks : Option ℕ) (list : List ℕ)
+pub short-faults : (width : CdbWidth) (blocks : Option ℕ) (points : Bool) (list : List ℕ)
     → is_descriptor_length width list ≡ true
     → block_descriptor_length width list ≡ 8 →
-    descriptor_faults width blocks list
-    ≡ part_faults (block_descriptor false
+    descriptor_faults width blocks points list
+    ≡ field_faults (pointed_fields points (descriptor_fields false)) (block_descriptor false
     (accepted_blocks blocks (take 4 (drop (header_length width) list))))
     (ignored_descriptor_bits false blocks) (part_at (header_length width) 8 list)
 unfolding block_descriptor
-short-faults width blocks list e h =
-    descriptor_faults-at width false blocks 8 list (announced-8 width list e h) h (omega arith)
+short-faults width blocks points list e h =
+    descriptor_faults-at width false blocks points 8 list (announced-8 width list e h) h (omega arith)
 
-pub long-faults : (width : CdbWidth) (blocks : Option ℕ) (list : List ℕ)
+pub long-faults : (width : CdbWidth) (blocks : Option ℕ) (points : Bool) (list : List ℕ)
     → is_descriptor_length width list ≡ true
     → (block_descriptor_length width list ≡ 0 → ⊥) → (block_descriptor_length width list ≡ 8 → ⊥) →
-    descriptor_faults width blocks list
-    ≡ part_faults (block_descriptor true
+    descriptor_faults width blocks points list
+    ≡ field_faults (pointed_fields points (descriptor_fields true)) (block_descriptor true
     (accepted_blocks blocks (take 8 (drop (header_length width) list))))
     (ignored_descriptor_bits true blocks) (part_at (header_length width) 16 list)
 unfolding block_descriptor
-long-faults width blocks list e h k =
+long-faults width blocks points list e h k =
     let long = announced-16 width list e h k in
-    descriptor_faults-at width true blocks 16 list long.0 long.1 (omega arith)
+    descriptor_faults-at width true blocks points 16 list long.0 long.1 (omega arith)
 
 -- ---- The three together
 
@@ -229,44 +236,47 @@ header_faults-below width list =
     (nat_lt (length list) (header_length width) || is_descriptor_length width list)
     (length_offset width) (header_length width) (offset-inside width))
 
-pub faults-split : (current : PageValues) (width : CdbWidth) (blocks : Option ℕ) (list : List ℕ)
-    → first_fault (length list) (list_faults current width blocks list)
+pub faults-split : (current : PageValues) (width : CdbWidth) (blocks : Option ℕ)
+    (points : Bool) (list : List ℕ)
+    → first_fault (length list) (list_faults current width blocks points list)
     ≡ option_or (first_fault (length list) (header_faults width list))
-    (option_or (first_fault (length list) (descriptor_faults width blocks list))
-    (first_fault (length list) (flat_map (page_faults current) (pages_in width list))))
-faults-split current width blocks list =
+    (option_or (first_fault (length list) (descriptor_faults width blocks points list))
+    (first_fault (length list) (flat_map (page_faults points current) (pages_in width list))))
+faults-split current width blocks points list =
     let n = length list in
     let offset = header_length width in
     let sent = descriptor_in width list in
     let expected = block_descriptor (has_longlba width list)
     (accepted_blocks blocks (take (number_length (has_longlba width list)) sent.bytes)) in
     let ignored = ignored_descriptor_bits (has_longlba width list) blocks in
-    let descriptor = descriptor_faults width blocks list in
-    let pages = flat_map (page_faults current) (pages_in width list) in
+    let fields = pointed_fields points (descriptor_fields (has_longlba width list)) in
+    let descriptor = descriptor_faults width blocks points list in
+    let pages = flat_map (page_faults points current) (pages_in width list) in
     let from : From (offset + block_descriptor_length width list) pages =
-    pages_from-from current (offset + block_descriptor_length width list) list in
+    pages_from-from points current (offset + block_descriptor_length width list) list in
     let behind : From offset (descriptor ++ pages) =
     From-append offset descriptor pages
-    (part_faults-from expected ignored offset
+    (field_faults-from fields expected ignored offset
     (block_descriptor_length width list) list)
     (From-weaker (offset + block_descriptor_length width list) offset pages (omega arith) from) in
     first_fault-append n offset (header_faults width list) (descriptor ++ pages)
     (header_faults-below width list) behind
     ∙ ap (option_or (first_fault n (header_faults width list)))
     (first_fault-append n (offset + block_descriptor_length width list) descriptor pages
-    (part_faults-below expected ignored offset
+    (field_faults-below fields expected ignored offset
     (block_descriptor_length width list) list)
     from)
 
 -- a list that is not empty
-pub selected_values-some : (current : PageValues) (width : CdbWidth) (blocks : Option ℕ) (list : List ℕ)
+pub selected_values-some : (current : PageValues) (width : CdbWidth) (blocks : Option ℕ)
+    (points : Bool) (list : List ℕ)
     → 0 < length list →
-    unless_fault (first_fault (length list) (list_faults current width blocks list))
-    (values_after current (pages_in width list)) ≡ selected_values current width blocks list
+    unless_fault (first_fault (length list) (list_faults current width blocks points list))
+    (values_after current (pages_in width list)) ≡ selected_values current width blocks points list
 unfolding selected_values
-selected_values-some current width blocks list h =
+selected_values-some current width blocks points list h =
     sym (ap (λ c. cond c (Ok current)
-    (unless_fault (first_fault (length list) (list_faults current width blocks list))
+    (unless_fault (first_fault (length list) (list_faults current width blocks points list))
     (values_after current (pages_in width list)))) (ne_eqb (length list) 0 (λ e. omega arith)))
 
 -- the header's length of the descriptor is at fault
@@ -299,10 +309,11 @@ inside-or : {A : Type 0} (n : ℕ) (c : Bool) (value : A) (r : Result A ModeSele
 inside-or n true value r h = tt
 inside-or n false value r h = h
 
-pub selected_values-inside : (current : PageValues) (width : CdbWidth) (blocks : Option ℕ) (list : List ℕ)
-    → IfErr (selected_values current width blocks list) (IsInside (length list))
+pub selected_values-inside : (current : PageValues) (width : CdbWidth) (blocks : Option ℕ)
+    (points : Bool) (list : List ℕ)
+    → IfErr (selected_values current width blocks points list) (IsInside (length list))
 unfolding selected_values first_fault
-selected_values-inside current width blocks list =
+selected_values-inside current width blocks points list =
     inside-or (length list) (length list == 0) current _
-    (inside-of (length list) (least (list_faults current width blocks list))
+    (inside-of (length list) (least (list_faults current width blocks points list))
     (values_after current (pages_in width list)))

@@ -21,7 +21,8 @@ use Rattle.sg_pages.specs.ModePage.{page_data, page_bytes, changeable_bits}
 use Rattle.sg_pages.specs.SentValues.{with_values, with_sent}
 use Rattle.sg_pages.specs.ModeSelect.{part_at, page_at, sent_code, faults_against}
 use Rattle.sg_pages.specs.ModeSelect.{differences, part_faults, page_faults, least, fault_at}
-use Rattle.sg_pages.specs.ModeSelect.{first_fault, unless_fault}
+use Rattle.sg_pages.specs.ModeSelect.{field_faults, pointed_fields, first_fault, unless_fault}
+use Rattle.sg_pages.specs.declared.mode_pages.multi_byte_field.MultiByteField.{MultiByteField}
 use Rattle.sg_pages.proofs.FaultLemmas.{From, From-append, differences-append}
 use Rattle.sg_pages.proofs.FaultLemmas.{differences-below-expected, differences-from}
 use Rattle.sg_pages.proofs.FaultLemmas.{first_fault-append, field}
@@ -244,21 +245,26 @@ changeable-of Control = refl
 changeable-of InformationalExceptionsControl = refl
 
 -- the faults of a page that the disk has
-pub known-faults : (current : PageValues) (page : ModePage) (offset code : ℕ)
-    (expected ignored list : List ℕ) → page_with_code (bit_and (get_or list offset 0) 0x3F)
-    ≡ Some page
-    → code ≡ code_of page → expected ≡ values_of current page
+pub known-faults : (points : Bool) (current : PageValues) (page : ModePage) (offset code : ℕ)
+    (fields : List MultiByteField) (expected ignored list : List ℕ)
+    → page_with_code (bit_and (get_or list offset 0) 0x3F) ≡ Some page
+    → code ≡ code_of page → fields ≡ pointed_fields points (row_of page).fields
+    → expected ≡ values_of current page
     → ignored ≡ values_of changeable_bits page
-    → part_faults (page_bytes code expected) (0x80 ∷ 0x00 ∷ ignored) (page_at offset list)
-    ≡ page_faults current (page_at offset list)
-known-faults current page offset code expected ignored list found e f g =
+    → field_faults fields (page_bytes code expected) (0x80 ∷ 0x00 ∷ ignored) (page_at offset list)
+    ≡ page_faults points current (page_at offset list)
+known-faults points current page offset code fields expected ignored list found e at f g =
     let sent = page_at offset list in
-    ap (λ (k : ℕ). part_faults (page_bytes k expected) (0x80 ∷ 0x00 ∷ ignored) sent) e
-    ∙ (ap (λ (v : List ℕ). part_faults (page_bytes (code_of page) v) (0x80 ∷ 0x00 ∷ ignored) sent) f
-    ∙ (ap (λ (b : List ℕ). part_faults (page_data current page) (0x80 ∷ 0x00 ∷ b) sent)
+    let own = pointed_fields points (row_of page).fields in
+    ap (λ (k : ℕ). field_faults fields (page_bytes k expected) (0x80 ∷ 0x00 ∷ ignored) sent) e
+    ∙ (ap (λ (k : List MultiByteField). field_faults k (page_bytes (code_of page) expected)
+    (0x80 ∷ 0x00 ∷ ignored) sent) at
+    ∙ (ap (λ (v : List ℕ). field_faults own (page_bytes (code_of page) v) (0x80 ∷ 0x00 ∷ ignored) sent)
+    f
+    ∙ (ap (λ (b : List ℕ). field_faults own (page_data current page) (0x80 ∷ 0x00 ∷ b) sent)
     (g ∙ changeable-of page)
-    ∙ sym (ap (λ o. option_map_or (faults_against current sent) o (offset ∷ []))
-    (ap page_with_code (sent_code-page_at offset list) ∙ found))))
+    ∙ sym (ap (λ o. option_map_or (faults_against points current sent) o (offset ∷ []))
+    (ap page_with_code (sent_code-page_at offset list) ∙ found)))))
 
 -- its values
 pub known-values : (values : PageValues) (page : ModePage) (offset : ℕ) (list bytes : List ℕ)
@@ -275,13 +281,13 @@ known-values values page offset list bytes found e =
     p)) same
 
 -- a page that the disk does not have
-pub unknown-page : (current : PageValues) (offset : ℕ) (list : List ℕ) → offset < length list
+pub unknown-page : (points : Bool) (current : PageValues) (offset : ℕ) (list : List ℕ) → offset < length list
     → page_with_code (bit_and (get_or list offset 0) 0x3F) ≡ None
-    → first_fault (length list) (page_faults current (page_at offset list)) ≡ Some (Field offset)
+    → first_fault (length list) (page_faults points current (page_at offset list)) ≡ Some (Field offset)
 unfolding first_fault
-unknown-page current offset list h none =
+unknown-page points current offset list h none =
     let sent = page_at offset list in
     ap (λ o. option_map (fault_at (length list))
-    (least (option_map_or (faults_against current sent) o (offset ∷ []))))
+    (least (option_map_or (faults_against points current sent) o (offset ∷ []))))
     (ap page_with_code (sent_code-page_at offset list) ∙ none)
     ∙ ap Some (field (length list) offset h)

@@ -14,10 +14,10 @@ use Rattle.sg_pages.specs.declared.mode_pages.mode_page.ModePage.{ModePage}
 use Rattle.sg_pages.specs.ModePage.{row_of, page_with_code, page_data}
 use Rattle.sg_pages.specs.ModeSelect.{Part, page_at, pages_up_to, pages_from, sent_code}
 use Rattle.sg_pages.specs.ModeSelect.{faults_against, page_faults, first_fault, unless_fault}
-use Rattle.sg_pages.specs.ModeSelect.{last_sent, values_after}
+use Rattle.sg_pages.specs.ModeSelect.{pointed_fields, last_sent, values_after}
 use Rattle.sg_pages.specs.SentValues.{with_sent}
-use Rattle.sg_pages.proofs.FaultLemmas.{From, Below, From-append, From-weaker, part_faults-from}
-use Rattle.sg_pages.proofs.FaultLemmas.{part_faults-below, first_fault-append}
+use Rattle.sg_pages.proofs.FaultLemmas.{From, Below, From-append, From-weaker, first_fault-append}
+use Rattle.sg_pages.proofs.FieldLemmas.{field_faults-from, field_faults-below}
 
 -- ---- The next page
 
@@ -57,72 +57,72 @@ pages_from-next offset (x ∷ xs) h =
 
 -- ---- The places of their faults
 
-against-from : (current : PageValues) (offset : ℕ) (list : List ℕ) → (o : Option ModePage) →
-    From offset (option_map_or (faults_against current (page_at offset list)) o (offset ∷ []))
-against-from current offset list None = (omega arith, tt)
-against-from current offset list (Some p) =
-    part_faults-from (page_data current p) (0x80 ∷ 0x00 ∷ (row_of p).changeable) offset
+against-from : (points : Bool) (current : PageValues) (offset : ℕ) (list : List ℕ) → (o : Option ModePage) →
+    From offset (option_map_or (faults_against points current (page_at offset list)) o (offset ∷ []))
+against-from points current offset list None = (omega arith, tt)
+against-from points current offset list (Some p) =
+    field_faults-from (pointed_fields points (row_of p).fields) (page_data current p) (0x80 ∷ 0x00 ∷ (row_of p).changeable) offset
     (page_at offset list).size list
 
-against-below : (current : PageValues) (offset : ℕ) (list : List ℕ) → (o : Option ModePage) →
+against-below : (points : Bool) (current : PageValues) (offset : ℕ) (list : List ℕ) → (o : Option ModePage) →
     Below (offset + (page_at offset list).size)
-    (option_map_or (faults_against current (page_at offset list)) o (offset ∷ []))
-against-below current offset list None = (omega arith, tt)
-against-below current offset list (Some p) =
-    part_faults-below (page_data current p) (0x80 ∷ 0x00 ∷ (row_of p).changeable) offset
+    (option_map_or (faults_against points current (page_at offset list)) o (offset ∷ []))
+against-below points current offset list None = (omega arith, tt)
+against-below points current offset list (Some p) =
+    field_faults-below (pointed_fields points (row_of p).fields) (page_data current p) (0x80 ∷ 0x00 ∷ (row_of p).changeable) offset
     (page_at offset list).size list
 
-pub page_faults-from : (current : PageValues) (offset : ℕ) (list : List ℕ)
-    → From offset (page_faults current (page_at offset list))
-page_faults-from current offset list =
-    against-from current offset list (page_with_code (sent_code (page_at offset list)))
+pub page_faults-from : (points : Bool) (current : PageValues) (offset : ℕ) (list : List ℕ)
+    → From offset (page_faults points current (page_at offset list))
+page_faults-from points current offset list =
+    against-from points current offset list (page_with_code (sent_code (page_at offset list)))
 
-pub page_faults-below : (current : PageValues) (offset : ℕ) (list : List ℕ)
-    → Below (offset + (page_at offset list).size) (page_faults current (page_at offset list))
-page_faults-below current offset list =
-    against-below current offset list (page_with_code (sent_code (page_at offset list)))
+pub page_faults-below : (points : Bool) (current : PageValues) (offset : ℕ) (list : List ℕ)
+    → Below (offset + (page_at offset list).size) (page_faults points current (page_at offset list))
+page_faults-below points current offset list =
+    against-below points current offset list (page_with_code (sent_code (page_at offset list)))
 
-up_to-from : (current : PageValues) (n offset : ℕ) (list : List ℕ)
-    → From offset (flat_map (page_faults current) (pages_up_to n offset list))
-up_to-from current zero offset list = tt
-up_to-from current (suc n) offset list =
+up_to-from : (points : Bool) (current : PageValues) (n offset : ℕ) (list : List ℕ)
+    → From offset (flat_map (page_faults points current) (pages_up_to n offset list))
+up_to-from points current zero offset list = tt
+up_to-from points current (suc n) offset list =
     let sent = page_at offset list in
     let next = offset + sent.size in
     go (nat_lt offset (length list))
-    (From-append offset (page_faults current sent)
-    (flat_map (page_faults current) (pages_up_to n next list))
-    (page_faults-from current offset list)
-    (From-weaker next offset _ (omega arith) (up_to-from current n next list)))
+    (From-append offset (page_faults points current sent)
+    (flat_map (page_faults points current) (pages_up_to n next list))
+    (page_faults-from points current offset list)
+    (From-weaker next offset _ (omega arith) (up_to-from points current n next list)))
   where
-    go : (c : Bool) → From offset (page_faults current (page_at offset list) ++ flat_map
-        (page_faults current) (pages_up_to n (offset + (page_at offset list).size) list)) →
-        From offset (flat_map (page_faults current)
+    go : (c : Bool) → From offset (page_faults points current (page_at offset list) ++ flat_map
+        (page_faults points current) (pages_up_to n (offset + (page_at offset list).size) list)) →
+        From offset (flat_map (page_faults points current)
         (cond c (page_at offset list ∷ pages_up_to n (offset + (page_at offset list).size) list)
         []))
     go true h = h
     go false h = tt
 
-pub pages_from-from : (current : PageValues) (offset : ℕ) (list : List ℕ)
-    → From offset (flat_map (page_faults current) (pages_from offset list))
+pub pages_from-from : (points : Bool) (current : PageValues) (offset : ℕ) (list : List ℕ)
+    → From offset (flat_map (page_faults points current) (pages_from offset list))
 unfolding pages_from
-pages_from-from current offset list = up_to-from current (length list) offset list
+pages_from-from points current offset list = up_to-from points current (length list) offset list
 
 -- ---- One page more
 
 -- its faults come first
-pub next-faults : (current : PageValues) (offset : ℕ) (list : List ℕ) → offset < length list →
-    first_fault (length list) (flat_map (page_faults current) (pages_from offset list))
-    ≡ option_or (first_fault (length list) (page_faults current (page_at offset list)))
-    (first_fault (length list) (flat_map (page_faults current)
+pub next-faults : (points : Bool) (current : PageValues) (offset : ℕ) (list : List ℕ) → offset < length list →
+    first_fault (length list) (flat_map (page_faults points current) (pages_from offset list))
+    ≡ option_or (first_fault (length list) (page_faults points current (page_at offset list)))
+    (first_fault (length list) (flat_map (page_faults points current)
     (pages_from (offset + (page_at offset list).size) list)))
-next-faults current offset list h =
+next-faults points current offset list h =
     let sent = page_at offset list in
     let next = offset + sent.size in
-    ap (λ pages. first_fault (length list) (flat_map (page_faults current) pages))
+    ap (λ pages. first_fault (length list) (flat_map (page_faults points current) pages))
     (pages_from-next offset list h)
-    ∙ first_fault-append (length list) next (page_faults current sent)
-    (flat_map (page_faults current) (pages_from next list)) (page_faults-below current offset list)
-    (pages_from-from current next list)
+    ∙ first_fault-append (length list) next (page_faults points current sent)
+    (flat_map (page_faults points current) (pages_from next list)) (page_faults-below points current offset list)
+    (pages_from-from points current next list)
 
 -- its values stay if no later page has its code
 later : (o : Option Part) (p : Part) (b : Bool) (v : List ℕ) →
@@ -185,19 +185,19 @@ pub fails : {A : Type 0} (w a b : Option ModeSelectFault) (fault : ModeSelectFau
 fails w a b fault v e h = sym (ap (λ o. unless_fault o v) (e ∙ ap (λ o. option_or o b) h))
 
 -- past the last page
-pub no-page : (current values : PageValues) (offset first : ℕ) (list : List ℕ)
+pub no-page : (points : Bool) (current values : PageValues) (offset first : ℕ) (list : List ℕ)
     → length list ≤ offset →
-    first_fault (length list) (flat_map (page_faults current) (pages_from offset list))
-    ≡ first_fault (length list) (flat_map (page_faults current) (pages_from first list)) →
+    first_fault (length list) (flat_map (page_faults points current) (pages_from offset list))
+    ≡ first_fault (length list) (flat_map (page_faults points current) (pages_from first list)) →
     values_after values (pages_from offset list) ≡ values_after current (pages_from first list) →
     Ok values ≡ unless_fault (first_fault (length list)
-    (flat_map (page_faults current) (pages_from first list)))
+    (flat_map (page_faults points current) (pages_from first list)))
     (values_after current (pages_from first list))
 unfolding first_fault
-no-page current values offset first list h faults kept =
-    let none : first_fault (length list) (flat_map (page_faults current) (pages_from first list))
+no-page points current values offset first list h faults kept =
+    let none : first_fault (length list) (flat_map (page_faults points current) (pages_from first list))
     ≡ None =
-    sym faults ∙ ap (λ pages. first_fault (length list) (flat_map (page_faults current) pages))
+    sym faults ∙ ap (λ pages. first_fault (length list) (flat_map (page_faults points current) pages))
     (pages_from-end offset list h) in
     let same : values ≡ values_after current (pages_from first list) =
     sym (ap (values_after values) (pages_from-end offset list h)) ∙ kept in

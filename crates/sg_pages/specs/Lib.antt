@@ -11,6 +11,7 @@ pub mod ModePage
 pub mod ModePowerOn
 pub mod ModeSelect
 pub mod ModeSense
+pub mod MultiByteField
 pub mod ProvisioningPages
 pub mod Reports
 pub mod VitalProductData

@@ -18,8 +18,8 @@ IsInside list_length (Field offset) = offset < list_length
 abbrev pub OnlyChangeableBitsChange : Type 0
 OnlyChangeableBitsChange =
     (before after : ModeState) (list : List ℕ) (width : CdbWidth) (save : Bool) (blocks : Option ℕ)
-    (page : ModePage)
-    → mode_select before list width save blocks ≡ Ok after
+    (points_at_fields : Bool) (page : ModePage)
+    → mode_select before list width save blocks points_at_fields ≡ Ok after
     → differences 2 (values_of before.current page) (row_of page).changeable
     (values_of after.current page)
     ≡ []
@@ -28,12 +28,12 @@ OnlyChangeableBitsChange =
 abbrev pub OnlySpSaves : Type 0
 OnlySpSaves =
     (before after : ModeState) (list : List ℕ) (width : CdbWidth) (blocks : Option ℕ)
-    → mode_select before list width false blocks ≡ Ok after
+    (points_at_fields : Bool) → mode_select before list width false blocks points_at_fields ≡ Ok after
     → after.saved ≡ before.saved
 
 -- A MODE SELECT with SP saves the current values of all pages, as they are afterwards.
 abbrev pub SpSavesAll : Type 0
 SpSavesAll =
     (before after : ModeState) (list : List ℕ) (width : CdbWidth) (blocks : Option ℕ)
-    → mode_select before list width true blocks ≡ Ok after
+    (points_at_fields : Bool) → mode_select before list width true blocks points_at_fields ≡ Ok after
     → after.saved ≡ after.current

@@ -9,16 +9,19 @@ use Rattle.sg_pages.specs.declared.mode_pages.mode_page.ModePage.TheVariants.{Re
 use Rattle.sg_pages.specs.declared.mode_pages.mode_page.ModePage.TheVariants.{Caching, Control}
 use Rattle.sg_pages.specs.declared.mode_pages.mode_page.ModePage.TheVariants.{InformationalExceptionsControl}
 use Rattle.sg_pages.specs.declared.mode_pages.mode_page.PageValues.{PageValues}
+use Rattle.sg_pages.specs.declared.mode_pages.multi_byte_field.MultiByteField.{MultiByteField}
+use Rattle.sg_pages.specs.MultiByteField.{field}
 
 -- ---- The table
 
 -- PAGE CODE and PAGE LENGTH. For each byte from byte 2 on, its default, and the bits that MODE
--- SELECT may change.
+-- SELECT may change. Then the page's fields of more than one byte.
 pub record PageRow : Type 0 where
   pub code : ℕ
   pub page_length : ℕ
   pub defaults : List ℕ
   pub changeable : List ℕ
+  pub fields : List MultiByteField
 
 -- A byte has the value that is named for it, and otherwise it is zero.
 abbrev pub value_at : (named : List (ℕ × ℕ)) → (byte : ℕ) → ℕ
@@ -29,24 +32,34 @@ value_at named byte =
 abbrev pub from_byte_2 : (count : ℕ) → (named : List (ℕ × ℕ)) → List ℕ
 from_byte_2 count named = map (value_at named) (range_with_len 2 count)
 
-abbrev row : (code page_length : ℕ) → (defaults changeable : List (ℕ × ℕ)) → PageRow
-row code page_length defaults changeable = record {
+abbrev row : (code page_length : ℕ) → (defaults changeable : List (ℕ × ℕ)) → List MultiByteField
+    → PageRow
+row code page_length defaults changeable fields = record {
   code = code;
   page_length = page_length;
   defaults = from_byte_2 page_length defaults;
   changeable = from_byte_2 page_length changeable;
+  fields = fields;
 }
 
 -- Byte 2: AWRE is bit 7, ARRE is bit 6. Bytes 3 and 8: READ RETRY COUNT and WRITE RETRY COUNT.
+-- From byte 10 on: RECOVERY TIME LIMIT.
 -- Choice (SBC-3, 6.4): AWRE and ARRE may be 0.
 abbrev error_recovery_row : PageRow
 error_recovery_row =
     row 0x01 0x0A ((2, 0xC0) ∷ (3, 0x08) ∷ (8, 0x08) ∷ []) ((2, 0xC0) ∷ (3, 0xFF) ∷ (8, 0xFF) ∷ [])
+    (field 10 2 ∷ [])
+
+-- From byte 4 on: DISABLE PRE-FETCH TRANSFER LENGTH, MINIMUM PRE-FETCH, MAXIMUM PRE-FETCH and
+-- MAXIMUM PRE-FETCH CEILING. Then CACHE SEGMENT SIZE, and an obsolete field, once NON CACHE SEGMENT
+-- SIZE.
+abbrev caching_fields : List MultiByteField
+caching_fields = field 4 2 ∷ field 6 2 ∷ field 8 2 ∷ field 10 2 ∷ field 14 2 ∷ field 17 3 ∷ []
 
 -- Byte 2: WCE is bit 2.
 -- Choice (SBC-3, 6.4): WCE may be 0.
 abbrev caching_row : PageRow
-caching_row = row 0x08 0x12 ((2, 0x04) ∷ []) ((2, 0x04) ∷ [])
+caching_row = row 0x08 0x12 ((2, 0x04) ∷ []) ((2, 0x04) ∷ []) caching_fields
 
 -- Byte 2: D_SENSE is bit 2. Byte 4: SWP is bit 3.
 abbrev d_sense : ℕ
@@ -55,12 +68,15 @@ d_sense = 0x04
 abbrev swp : ℕ
 swp = 0x08
 
+-- From byte 6 on: an obsolete field, once READY AER HOLDOFF PERIOD; BUSY TIMEOUT PERIOD; EXTENDED
+-- SELF-TEST COMPLETION TIME.
 abbrev control_row : PageRow
-control_row = row 0x0A 0x0A [] ((2, d_sense) ∷ (4, swp) ∷ [])
+control_row =
+    row 0x0A 0x0A [] ((2, d_sense) ∷ (4, swp) ∷ []) (field 6 2 ∷ field 8 2 ∷ field 10 2 ∷ [])
 
--- Byte 2: DEXCPT is bit 3.
+-- Byte 2: DEXCPT is bit 3. From byte 4 on: INTERVAL TIMER and REPORT COUNT.
 abbrev exceptions_row : PageRow
-exceptions_row = row 0x1C 0x0A ((2, 0x08) ∷ []) []
+exceptions_row = row 0x1C 0x0A ((2, 0x08) ∷ []) [] (field 4 4 ∷ field 8 4 ∷ [])
 
 abbrev pub row_of : ModePage → PageRow
 row_of ReadWriteErrorRecovery = error_recovery_row

@@ -20,6 +20,9 @@ use Rattle.sg_pages.specs.declared.mode_pages.mode_select.ModeSelectFault.TheVar
 use Rattle.sg_pages.specs.ModePage.{ModeState, row_of, code_of, page_with_code}
 use Rattle.sg_pages.specs.ModePage.{values_of, by_page, page_data, parameters_saveable}
 use Rattle.sg_pages.specs.BlockDescriptor.{number_length, descriptor_length, block_descriptor}
+use Rattle.sg_pages.specs.BlockDescriptor.{descriptor_fields}
+use Rattle.sg_pages.specs.declared.mode_pages.multi_byte_field.MultiByteField.{MultiByteField}
+use Rattle.sg_pages.specs.MultiByteField.{first_byte_of}
 
 -- ---- The parts of the list
 
@@ -82,7 +85,6 @@ pages_in width list = pages_from (header_length width + block_descriptor_length 
 
 -- The offsets of the bytes that differ from the expected ones in a bit that is not ignored. The
 -- first byte is at `offset`.
--- Departure (SPC-4, 4.5.2.4.2): the pointer is to the first byte of a field there.
 abbrev pub differences : (offset : ℕ) → (expected ignored bytes : List ℕ) → List ℕ
 differences offset [] ignored bytes = []
 differences offset (e ∷ expected) [] bytes = []
@@ -99,6 +101,20 @@ truncation_of p =
 -- A part has to have the expected bytes, except for the ignored bits, and has to be whole.
 abbrev pub part_faults : (expected ignored : List ℕ) → Part → List ℕ
 part_faults expected ignored p = differences p.offset expected ignored p.bytes ++ truncation_of p
+
+-- On an extended disk the pointer goes to the first byte of a field of several bytes. On a base disk
+-- each byte is a field of its own.
+abbrev pub pointed_fields : (points_at_fields : Bool) → List MultiByteField → List MultiByteField
+pointed_fields points_at_fields fields = if points_at_fields then fields else []
+
+-- The first byte of a field of a part, for each byte of the field.
+abbrev pub first_byte_in : (fields : List MultiByteField) → Part → (offset : ℕ) → ℕ
+first_byte_in fields p offset = p.offset + first_byte_of fields (offset - p.offset)
+
+-- The same faults as `part_faults`. A byte that differs points to the first byte of its field.
+abbrev pub field_faults : (fields : List MultiByteField) (expected ignored : List ℕ) → Part → List ℕ
+field_faults fields expected ignored p =
+    map (first_byte_in fields p) (differences p.offset expected ignored p.bytes) ++ truncation_of p
 
 -- The ignored bits of the header before BLOCK DESCRIPTOR LENGTH: MODE DATA LENGTH, DEVICE-SPECIFIC
 -- PARAMETER and LONGLBA. MEDIUM TYPE and the reserved bits have to be zero.
@@ -147,11 +163,13 @@ ignored_descriptor_bits long blocks =
     replicate (number_length long) (ignored_number_bits blocks)
     ++ replicate (descriptor_length long - number_length long) 0x00
 
-abbrev pub descriptor_faults : (width : CdbWidth) (blocks : Option ℕ) → List ℕ → List ℕ
-descriptor_faults width blocks list =
+abbrev pub descriptor_faults : (width : CdbWidth) (blocks : Option ℕ) (points_at_fields : Bool)
+    → List ℕ → List ℕ
+descriptor_faults width blocks points_at_fields list =
     let sent = descriptor_in width list in
     let long = has_longlba width list in
-    part_faults (accepted_descriptor long blocks sent.bytes) (ignored_descriptor_bits long blocks) sent
+    field_faults (pointed_fields points_at_fields (descriptor_fields long))
+    (accepted_descriptor long blocks sent.bytes) (ignored_descriptor_bits long blocks) sent
 
 -- PAGE CODE of a page that was sent.
 abbrev pub sent_code : Part → ℕ
@@ -160,21 +178,25 @@ sent_code sent = bits_of (slice_index sent.bytes 0) 5 0
 -- A page has to be as it is now, except for PS and the bits that can be changed. So SPF has to be
 -- zero.
 -- Choice (SPC-4, 6.11): a change of a reserved bit may be overlooked.
-abbrev pub faults_against : (current : PageValues) → Part → ModePage → List ℕ
-faults_against current sent page =
+abbrev pub faults_against : (points_at_fields : Bool) (current : PageValues) → Part → ModePage → List ℕ
+faults_against points_at_fields current sent page =
     let changeable = parameters_saveable ∷ 0x00 ∷ (row_of page).changeable in
-    part_faults (page_data current page) changeable sent
+    field_faults (pointed_fields points_at_fields (row_of page).fields) (page_data current page)
+    changeable sent
 
 -- If the disk does not have a page, the page's first byte is at fault.
-abbrev pub page_faults : (current : PageValues) → Part → List ℕ
-page_faults current sent =
-    option_map_or (faults_against current sent) (page_with_code (sent_code sent)) (sent.offset ∷ [])
+abbrev pub page_faults : (points_at_fields : Bool) (current : PageValues) → Part → List ℕ
+page_faults points_at_fields current sent =
+    option_map_or (faults_against points_at_fields current sent) (page_with_code (sent_code sent))
+    (sent.offset ∷ [])
 
 -- Every fault of a list.
-abbrev pub list_faults : (current : PageValues) (width : CdbWidth) (blocks : Option ℕ) → List ℕ → List ℕ
-list_faults current width blocks list =
+abbrev pub list_faults : (current : PageValues) (width : CdbWidth) (blocks : Option ℕ)
+    (points_at_fields : Bool) → List ℕ → List ℕ
+list_faults current width blocks points_at_fields list =
     header_faults width list
-    ++ (descriptor_faults width blocks list ++ flat_map (page_faults current) (pages_in width list))
+    ++ (descriptor_faults width blocks points_at_fields list
+    ++ flat_map (page_faults points_at_fields current) (pages_in width list))
 
 -- ---- The least offset decides
 
@@ -209,11 +231,12 @@ values_after current sent =
 
 -- The current values after a list, or its first fault. The empty list is accepted. `blocks` is the
 -- number of blocks that the block descriptor has to have; with None the field is ignored.
-unfoldable pub selected_values : (current : PageValues) (width : CdbWidth) (blocks : Option ℕ) → List ℕ
-    → Result PageValues ModeSelectFault
-selected_values current width blocks list =
+unfoldable pub selected_values : (current : PageValues) (width : CdbWidth) (blocks : Option ℕ)
+    (points_at_fields : Bool) → List ℕ → Result PageValues ModeSelectFault
+selected_values current width blocks points_at_fields list =
     if length list == 0 then Ok current
-    else unless_fault (first_fault (length list) (list_faults current width blocks list))
+    else
+    unless_fault (first_fault (length list) (list_faults current width blocks points_at_fields list))
     (values_after current (pages_in width list))
 
 -- With SP all pages are saved, sent or not.
@@ -223,10 +246,10 @@ saved_after save state current =
 
 -- The pages after a MODE SELECT, or the first fault of its list.
 abbrev pub mode_select : ModeState → (list : List ℕ) (width : CdbWidth) (save : Bool) (blocks : Option ℕ)
-    → Result ModeState ModeSelectFault
-mode_select state list width save blocks =
+    (points_at_fields : Bool) → Result ModeState ModeSelectFault
+mode_select state list width save blocks points_at_fields =
     result_map_both (saved_after save state) (λ fault. fault)
-    (selected_values state.current width blocks list)
+    (selected_values state.current width blocks points_at_fields list)
 
 -- A byte of a page differs.
 abbrev pub differ : PageValues → PageValues → Bool

@@ -1,6 +1,6 @@
 -- What a disk reports about itself, whatever its state: its logical units, its commands, its task management
 -- functions, its log pages and its defects.
-use Rattle.std.specs.Prelude.{ℕ, ◌+◌, ◌*◌, ◌==◌, ◌&&◌, List, [], ◌∷◌, ◌++◌, length, map, filter, find}
+use Rattle.std.specs.Prelude.{ℕ, ◌+◌, ◌==◌, ◌&&◌, List, [], ◌∷◌, length, map, filter, find}
 use Rattle.std.specs.Prelude.{Bool, true, false, if◌then◌else◌, Option, Some, None, Result, ok_or}
 use Rattle.std.specs.List.{flat_map, list_any}
 use Rattle.sg_wire.specs.Fields.{Field, field, fields_bytes}

@@ -1,7 +1,11 @@
 -- The values of the mode pages after a page that MODE SELECT sent.
-use Rattle.std.specs.Prelude.{ℕ, ◌==◌, if◌then◌else◌, List, drop}
+use Rattle.std.specs.Prelude.{ℕ, ◌+◌, ◌-◌, ◌==◌, if◌then◌else◌, List, drop}
 use Rattle.sg_pages.specs.declared.mode_pages.mode_page.ModePage.{ModePage}
 use Rattle.sg_pages.specs.declared.mode_pages.mode_page.PageValues.{PageValues}
+use Rattle.sg_pages.specs.declared.mode_pages.mode_select.ModeSelectFault.{ModeSelectFault}
+use Rattle.sg_pages.specs.declared.mode_pages.mode_select.ModeSelectFault.TheVariants.{Length, Field}
+use Rattle.sg_pages.specs.declared.mode_pages.multi_byte_field.MultiByteField.{MultiByteField}
+use Rattle.sg_pages.specs.MultiByteField.{first_byte_of}
 use Rattle.sg_pages.specs.ModePage.{by_page, code_of, values_of}
 use Rattle.sg_pages.specs.ModeSelect.{Part, sent_code}
 
@@ -16,3 +20,9 @@ with_sent values sent =
 abbrev pub with_values : PageValues → ModePage → List ℕ → PageValues
 with_values values changed bytes =
     by_page (λ page. if code_of changed == code_of page then bytes else values_of values page)
+
+-- The fault of a part that begins at an offset, if a byte that differs points to the first byte of
+-- its field.
+abbrev pub pointed_fault : (fields : List MultiByteField) (offset : ℕ) → ModeSelectFault → ModeSelectFault
+pointed_fault fields offset Length = Length
+pointed_fault fields offset (Field byte) = Field (offset + first_byte_of fields (byte - offset))

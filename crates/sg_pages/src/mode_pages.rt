@@ -6,6 +6,7 @@ mod list_check;
 mod mode_page;
 mod mode_select;
 mod mode_sense;
+mod multi_byte_field;
 mod request;
 
 pub(crate) use block_descriptor::LOGICAL_BLOCK_LENGTH;

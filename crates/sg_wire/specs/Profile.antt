@@ -59,6 +59,7 @@ maximum_transfer_length = extended_limits.transfer_length
 -- Departure (SAM-5, 5.3.3): on a base disk, each unit attention comes before a conflict.
 -- Departure (SPC-4, 5.13.11.4): on a base disk, PREEMPT of key 0 may be a conflict.
 -- Departure (SPC-4, 5.13.11.2): on a base disk, RELEASE of nothing may be refused for its TYPE.
+-- Departure (SPC-4, 4.5.2.4.2): on a base disk, MODE SELECT points into a field of several bytes.
 -- Choice (SPC-4, 6.15.4): a base disk does not say which commands a reservation allows.
 abbrev pub rules_of : Profile → Rules
 rules_of Base = record {
@@ -71,6 +72,7 @@ rules_of Base = record {
   only_resets_outrank_conflicts = false;
   preempt_needs_a_key = false;
   release_of_nothing_ignores_type = false;
+  points_at_fields = false;
   allow_commands = 0;
 }
 rules_of Extended = record {
@@ -83,5 +85,6 @@ rules_of Extended = record {
   only_resets_outrank_conflicts = true;
   preempt_needs_a_key = true;
   release_of_nothing_ignores_type = true;
+  points_at_fields = true;
   allow_commands = 3;
 }

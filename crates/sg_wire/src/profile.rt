@@ -75,6 +75,9 @@ pub struct Rules {
     pub preempt_needs_a_key: bool,
     /// A RELEASE of a registrant that holds nothing is GOOD with any TYPE (SPC-4, 5.13.11.2).
     pub release_of_nothing_ignores_type: bool,
+    /// A field pointer into the list of a MODE SELECT goes to the first byte of a field of several
+    /// bytes (SPC-4, 4.5.2.4.2).
+    pub points_at_fields: bool,
     /// ALLOW COMMANDS of REPORT CAPABILITIES (SPC-4, 6.15.4).
     pub allow_commands: u8,
 }
@@ -89,6 +92,7 @@ const BASE_RULES: Rules = Rules {
     only_resets_outrank_conflicts: false,
     preempt_needs_a_key: false,
     release_of_nothing_ignores_type: false,
+    points_at_fields: false,
     allow_commands: 0,
 };
 
@@ -102,6 +106,7 @@ const EXTENDED_RULES: Rules = Rules {
     only_resets_outrank_conflicts: true,
     preempt_needs_a_key: true,
     release_of_nothing_ignores_type: true,
+    points_at_fields: true,
     allow_commands: 3,
 };
 

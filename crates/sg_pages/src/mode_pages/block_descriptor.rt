@@ -2,6 +2,7 @@
 ghost use Rattle.std.specs.Prelude.{◌≡◌, true, false};
 ghost use Rattle.sg_pages.specs.BlockDescriptor.{block_descriptor};
 
+use super::multi_byte_field::MultiByteField;
 use byteorder::{BigEndian, ByteOrder};
 
 // Lengths in bytes: of the short and the long descriptor, of NUMBER OF LOGICAL BLOCKS in each, and
@@ -15,6 +16,20 @@ pub(super) const SHORT_NUMBER_LENGTH: usize = 4;
 pub(super) const LONG_NUMBER_LENGTH: usize = 8;
 
 pub(crate) const LOGICAL_BLOCK_LENGTH: u32 = 512;
+
+/// NUMBER OF LOGICAL BLOCKS and LOGICAL BLOCK LENGTH in the short and the long descriptor.
+pub(super) const SHORT_DESCRIPTOR_FIELDS: [MultiByteField; 2] = [
+    MultiByteField { first: 0, count: 4 },
+    MultiByteField { first: 5, count: 3 },
+];
+
+pub(super) const LONG_DESCRIPTOR_FIELDS: [MultiByteField; 2] = [
+    MultiByteField { first: 0, count: 8 },
+    MultiByteField {
+        first: 12,
+        count: 4,
+    },
+];
 
 /// A number of blocks that does not fit is FFFFFFFFh.
 #[tactic(auto, unfolding(crate::specs::BlockDescriptor::block_descriptor))]

@@ -6,14 +6,16 @@ ghost use Rattle.sg_pages.specs.ModeSelect.{accepted_blocks, block_descriptor_le
 ghost use Rattle.sg_pages.specs.ModeSelect.{descriptor_faults, differences, first_fault};
 ghost use Rattle.sg_pages.specs.ModeSelect.{header_faults, header_length};
 ghost use Rattle.sg_pages.specs.ModeSelect.{ignored_descriptor_bits, is_descriptor_length};
-ghost use Rattle.sg_pages.specs.ModeSelect.{least, part_at};
-ghost use Rattle.sg_pages.specs.ModeSelect.{part_faults, unless_fault};
+ghost use Rattle.sg_pages.specs.ModeSelect.{field_faults, least, part_at};
+ghost use Rattle.sg_pages.specs.ModeSelect.{part_faults, pointed_fields, unless_fault};
+ghost use Rattle.sg_pages.specs.SentValues.{pointed_fault};
 
 use super::ModeSelectFault;
 use super::block_descriptor::{
-    LONG_DESCRIPTOR_LENGTH, LONG_NUMBER_LENGTH, SHORT_DESCRIPTOR_LENGTH, SHORT_NUMBER_LENGTH,
-    long_descriptor, short_descriptor,
+    LONG_DESCRIPTOR_FIELDS, LONG_DESCRIPTOR_LENGTH, LONG_NUMBER_LENGTH, SHORT_DESCRIPTOR_FIELDS,
+    SHORT_DESCRIPTOR_LENGTH, SHORT_NUMBER_LENGTH, long_descriptor, short_descriptor,
 };
+use super::multi_byte_field::{MultiByteField, first_byte_of};
 use byteorder::{BigEndian, ByteOrder};
 use sg_wire::{CdbWidth, are_zeros};
 
@@ -139,11 +141,60 @@ fn is_descriptor_length(length: usize, long: bool) -> bool
     length == 0 || length == whole
 }
 
+/// The fields that a field pointer points to. Without the rule each byte is a field of its own.
+pub(super) fn pointed_fields(points_at_fields: bool, fields: &[MultiByteField]) -> &[MultiByteField]
+    ensures { result.now ≡ pointed_fields points_at_fields fields.now }
+{
+    if points_at_fields { fields } else { &[] }
+}
+
+/// The fault of a part that begins at an offset. A byte that differs points to the first byte of its
+/// field.
+pub(super) fn point_to_field(
+    fault: ModeSelectFault,
+    offset: usize,
+    fields: &[MultiByteField],
+) -> ModeSelectFault
+    requires { offset < 2 ^ 63 }
+    ensures { result ≡ pointed_fault fields.now offset fault }
+{
+    match fault {
+        ModeSelectFault::Length => ModeSelectFault::Length,
+        ModeSelectFault::Field(byte) => {
+            ModeSelectFault::Field(offset + first_byte_of(fields, byte.saturating_sub(offset)))
+        }
+    }
+}
+
+/// Checks a part of the list as `check` does. A byte that differs points to the first byte of its
+/// field.
+fn check_fields(
+    list: &[u8],
+    offset: usize,
+    size: usize,
+    expected: &[u8],
+    ignored: &[u8],
+    fields: &[MultiByteField],
+) -> Result<(), ModeSelectFault>
+    requires offset { offset ≤ length list.now }
+    requires ignored { length ignored.now ≡ length expected.now }
+    ensures result { let faults = field_faults fields.now expected.now ignored.now
+        (part_at offset size list.now) in
+        result ≡ unless_fault (first_fault (length list.now) faults) tt }
+    ensures whole { OnOk result (offset + size ≤ length list.now) }
+{
+    match check(list, offset, size, expected, ignored) {
+        Ok(()) => Ok(()),
+        Err(fault) => Err(point_to_field(fault, offset, fields)),
+    }
+}
+
 /// Checks the block descriptor, which has the length that the header names.
 pub(super) fn check_descriptor(
     list: &[u8],
     width: CdbWidth,
     blocks: Option<u64>,
+    points_at_fields: bool,
     descriptor: usize,
 ) -> Result<(), ModeSelectFault>
     requires header { header_length width ≤ length list.now }
@@ -151,7 +202,8 @@ pub(super) fn check_descriptor(
     requires known { IsTrue (is_descriptor_length width list.now) }
     ensures result { result
         ≡ unless_fault
-        (first_fault (length list.now) (descriptor_faults width blocks list.now)) tt }
+        (first_fault (length list.now)
+        (descriptor_faults width blocks points_at_fields list.now)) tt }
     ensures whole { OnOk result (header_length width + descriptor ≤ length list.now) }
 {
     let offset = header_length(width);
@@ -161,13 +213,29 @@ pub(super) fn check_descriptor(
             let accepted = accepted_blocks(list, offset, SHORT_NUMBER_LENGTH, blocks);
             let expected = short_descriptor(accepted);
             let ignored = ignored_in_short(blocks);
-            check(list, offset, SHORT_DESCRIPTOR_LENGTH, &expected, &ignored)
+            let fields = pointed_fields(points_at_fields, &SHORT_DESCRIPTOR_FIELDS);
+            check_fields(
+                list,
+                offset,
+                SHORT_DESCRIPTOR_LENGTH,
+                &expected,
+                &ignored,
+                fields,
+            )
         }
         _ => {
             let accepted = accepted_blocks(list, offset, LONG_NUMBER_LENGTH, blocks);
             let expected = long_descriptor(accepted);
             let ignored = ignored_in_long(blocks);
-            check(list, offset, LONG_DESCRIPTOR_LENGTH, &expected, &ignored)
+            let fields = pointed_fields(points_at_fields, &LONG_DESCRIPTOR_FIELDS);
+            check_fields(
+                list,
+                offset,
+                LONG_DESCRIPTOR_LENGTH,
+                &expected,
+                &ignored,
+                fields,
+            )
         }
     }
 }

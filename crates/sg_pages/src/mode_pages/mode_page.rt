@@ -1,7 +1,9 @@
 // The four mode pages of the disk, by code, and the bytes of each from byte 2 on.
 ghost use Rattle.std.specs.Prelude.{◌≡◌, ◌<◌, ◌≤◌, length};
-ghost use Rattle.sg_pages.specs.ModePage.{code_of, page_length, page_with_code, values_of};
+ghost use Rattle.sg_pages.specs.ModePage.{code_of, page_length, page_with_code, row_of, values_of};
 ghost use Rattle.sg_pages.specs.SentValues.{with_values};
+
+use super::multi_byte_field::MultiByteField;
 
 /// A mode page that the disk has (SPC-4, 7.5; SBC-3, 6.4), with its page code.
 #[derive(Clone, Copy)]
@@ -39,7 +41,61 @@ impl ModePage {
     {
         self as u8
     }
+
+    /// The page's fields of more than one byte.
+    pub(super) fn multi_byte_fields(self) -> &'static [MultiByteField]
+        ensures { result.now ≡ (row_of self).fields }
+    {
+        match self {
+            ModePage::ReadWriteErrorRecovery => &ERROR_RECOVERY_FIELDS,
+            ModePage::Caching => &CACHING_FIELDS,
+            ModePage::Control => &CONTROL_FIELDS,
+            ModePage::InformationalExceptionsControl => &EXCEPTIONS_FIELDS,
+        }
+    }
 }
+
+/// RECOVERY TIME LIMIT (SBC-3, 6.4).
+static ERROR_RECOVERY_FIELDS: [MultiByteField; 1] = [MultiByteField {
+    first: 10,
+    count: 2,
+}];
+
+/// DISABLE PRE-FETCH TRANSFER LENGTH, MINIMUM PRE-FETCH, MAXIMUM PRE-FETCH, MAXIMUM PRE-FETCH
+/// CEILING, CACHE SEGMENT SIZE, and an obsolete field (SBC-3, 6.4).
+static CACHING_FIELDS: [MultiByteField; 6] = [
+    MultiByteField { first: 4, count: 2 },
+    MultiByteField { first: 6, count: 2 },
+    MultiByteField { first: 8, count: 2 },
+    MultiByteField {
+        first: 10,
+        count: 2,
+    },
+    MultiByteField {
+        first: 14,
+        count: 2,
+    },
+    MultiByteField {
+        first: 17,
+        count: 3,
+    },
+];
+
+/// An obsolete field, BUSY TIMEOUT PERIOD and EXTENDED SELF-TEST COMPLETION TIME (SPC-4, 7.5).
+static CONTROL_FIELDS: [MultiByteField; 3] = [
+    MultiByteField { first: 6, count: 2 },
+    MultiByteField { first: 8, count: 2 },
+    MultiByteField {
+        first: 10,
+        count: 2,
+    },
+];
+
+/// INTERVAL TIMER and REPORT COUNT (SPC-4, 7.5).
+static EXCEPTIONS_FIELDS: [MultiByteField; 2] = [
+    MultiByteField { first: 4, count: 4 },
+    MultiByteField { first: 8, count: 4 },
+];
 
 /// The bytes of each mode page from byte 2 on.
 #[derive(Clone, Copy, PartialEq, Eq)]

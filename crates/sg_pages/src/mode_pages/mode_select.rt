@@ -4,14 +4,17 @@ ghost use Rattle.std.specs.Prelude.{IsTrue, IfErr, IfOk, OnOk};
 ghost use Rattle.std.specs.List.{flat_map};
 ghost use Rattle.std.specs.Result.{result_map_both, result_unwrap_or};
 ghost use Rattle.sg_pages.specs.ModePage.{page_bytes, parameters_saveable};
-ghost use Rattle.sg_pages.specs.ModeSelect.{changed_by, first_fault, mode_select};
+ghost use Rattle.sg_pages.specs.ModeSelect.{changed_by, field_faults, first_fault, mode_select};
 ghost use Rattle.sg_pages.specs.ModeLaws.{IsInside};
 ghost use Rattle.sg_pages.specs.ModeSelect.{page_at, page_faults, pages_from, part_faults};
 ghost use Rattle.sg_pages.specs.ModeSelect.{selected_values, unless_fault, values_after};
 ghost use Rattle.sg_pages.specs.SentValues.{with_sent};
 
-use super::list_check::{check, check_descriptor, check_header, header_length};
+use super::list_check::{
+    check, check_descriptor, check_header, header_length, point_to_field, pointed_fields,
+};
 use super::mode_page::{CHANGEABLE, PS};
+use super::multi_byte_field::MultiByteField;
 use super::{ModePage, ModePages, PageValues};
 use sg_wire::CdbWidth;
 use thiserror::Error;
@@ -37,7 +40,8 @@ const PAGE_CODE: u8 = 0x3F;
 impl ModePages {
     /// Changes the current values to the values of a mode parameter list. The list is the data-out
     /// of a MODE SELECT whose CDB has the width. `blocks` is the number of logical blocks that a
-    /// block descriptor has to have, or zero in its place. With `None` the number is ignored. A page
+    /// block descriptor has to have, or zero in its place. With `None` the number is ignored. With
+    /// `points_at_fields`, a fault in a field of several bytes is at the first byte of the field. A page
     /// may differ from its current values only in the bits that can be changed. If a page is sent
     /// twice, the last one counts. With `save`, the SP bit, all pages are saved. On a fault nothing
     /// has changed.
@@ -50,15 +54,17 @@ impl ModePages {
         width: CdbWidth,
         save: bool,
         blocks: Option<u64>,
+        points_at_fields: bool,
     ) -> Result<Changed, ModeSelectFault>
         ensures state { self.new
-            ≡ result_unwrap_or (mode_select self.old list.now width save blocks) self.old }
+            ≡ result_unwrap_or
+            (mode_select self.old list.now width save blocks points_at_fields) self.old }
         ensures outcome { result ≡ result_map_both (changed_by self.old) (λ fault. fault)
-            (mode_select self.old list.now width save blocks) }
+            (mode_select self.old list.now width save blocks points_at_fields) }
         ensures inside { IfErr result (IsInside (length list.now)) }
         ensures saved { IsTrue (not save) → self.new.saved ≡ self.old.saved }
     {
-        let current = selected_values(&self.current, list, width, blocks)?;
+        let current = selected_values(&self.current, list, width, blocks, points_at_fields)?;
         let changed = current != self.current;
         self.current = current;
         if save {
@@ -74,17 +80,24 @@ fn selected_values(
     list: &[u8],
     width: CdbWidth,
     blocks: Option<u64>,
+    points_at_fields: bool,
 ) -> Result<PageValues, ModeSelectFault>
-    ensures values { result ≡ selected_values current.now width blocks list.now }
-    ensures inside { IfErr (selected_values current.now width blocks list.now)
+    ensures values { result
+        ≡ selected_values current.now width blocks points_at_fields list.now }
+    ensures inside { IfErr (selected_values current.now width blocks points_at_fields list.now)
         (IsInside (length list.now)) }
 {
     if list.is_empty() {
         return Ok(*current);
     }
     let descriptor = check_header(list, width)?;
-    check_descriptor(list, width, blocks, descriptor)?;
-    take_pages(current, list, header_length(width) + descriptor)
+    check_descriptor(list, width, blocks, points_at_fields, descriptor)?;
+    take_pages(
+        current,
+        list,
+        header_length(width) + descriptor,
+        points_at_fields,
+    )
 }
 
 /// The current values after the pages from an offset on.
@@ -92,17 +105,18 @@ fn take_pages(
     current: &PageValues,
     list: &[u8],
     first: usize,
+    points_at_fields: bool,
 ) -> Result<PageValues, ModeSelectFault>
     requires { first ≤ length list.now }
     ensures { let sent = pages_from first list.now in
-        let faults = flat_map (page_faults current.now) sent in
+        let faults = flat_map (page_faults points_at_fields current.now) sent in
         result ≡ unless_fault (first_fault (length list.now) faults)
         (values_after current.now sent) }
 {
     let mut values = *current;
     let mut offset = first;
     while offset < list.len() {
-        offset = take_page(current, list, offset, &mut values)?;
+        offset = take_page(current, list, offset, points_at_fields, &mut values)?;
     }
     Ok(values)
 }
@@ -112,11 +126,13 @@ fn take_page(
     current: &PageValues,
     list: &[u8],
     offset: usize,
+    points_at_fields: bool,
     values: &mut PageValues,
 ) -> Result<usize, ModeSelectFault>
     requires { offset < length list.now }
     ensures result { let sent = page_at offset list.now in
-        result ≡ unless_fault (first_fault (length list.now) (page_faults current.now sent))
+        result ≡ unless_fault
+        (first_fault (length list.now) (page_faults points_at_fields current.now sent))
         (offset + sent.size) }
     ensures values { OnOk result (values.new ≡ with_sent values.old (page_at offset list.now)) }
     ensures whole { OnOk result
@@ -125,7 +141,15 @@ fn take_page(
     match ModePage::with_code(list[offset] & PAGE_CODE) {
         Some(page) => {
             let expected = current.of(page);
-            let end = check_page(list, offset, page.code(), expected, CHANGEABLE.of(page))?;
+            let fields = pointed_fields(points_at_fields, page.multi_byte_fields());
+            let end = check_page(
+                list,
+                offset,
+                page.code(),
+                expected,
+                CHANGEABLE.of(page),
+                fields,
+            )?;
             values.set(page, &list[offset + 2..end]);
             Ok(end)
         }
@@ -134,8 +158,36 @@ fn take_page(
 }
 
 /// Checks the page at an offset, and returns the page's end. The page has to have this code and
-/// these values, except for the changeable bits.
+/// these values, except for the changeable bits. The fault is at the first byte of its field.
 fn check_page(
+    list: &[u8],
+    offset: usize,
+    code: u8,
+    expected: &[u8],
+    changeable: &[u8],
+    fields: &[MultiByteField],
+) -> Result<usize, ModeSelectFault>
+    requires offset { offset < length list.now }
+    requires code { code < 0x40 }
+    requires expected { length expected.now < 256 }
+    requires changeable { length changeable.now ≡ length expected.now }
+    ensures result { let sent = page_at offset list.now in
+        let faults = field_faults fields.now (page_bytes code expected.now)
+        (parameters_saveable ∷ 0x00 ∷ changeable.now) sent in
+        result ≡ unless_fault (first_fault (length list.now) faults) (offset + sent.size) }
+    ensures size { OnOk result ((page_at offset list.now).size ≡ 2 + length expected.now) }
+    ensures end { IfOk result (λ end. end ≡ offset + 2 + length expected.now) }
+    ensures whole { OnOk result (offset + 2 + length expected.now ≤ length list.now) }
+{
+    match check_bytes(list, offset, code, expected, changeable) {
+        Ok(end) => Ok(end),
+        Err(fault) => Err(point_to_field(fault, offset, fields)),
+    }
+}
+
+/// Checks the page at an offset, and returns the page's end. The page has to have this code and
+/// these values, except for the changeable bits. The fault is at the byte that differs.
+fn check_bytes(
     list: &[u8],
     offset: usize,
     code: u8,

@@ -1,6 +1,6 @@
 use Rattle.std.proofs.Common.{◌≡◌, ◌+◌, ◌-◌, ◌∙◌, List, ℕ, length, take, drop, ap, sym, arith}
 use Rattle.std.proofs.lemmas.Result.{err_from_is_err_and}
-use Rattle.sg_pages.specs.ModeSelect.{first_fault, page_at, unless_fault}
+use Rattle.sg_pages.specs.ModeSelect.{first_fault, page_at, pointed_fields, unless_fault}
 use Rattle.sg_pages.proofs.SentPageLemmas.{known-faults, known-values, unknown-page, sent_values}
 use Rattle.sg_pages.proofs.mode_pages.mode_select.take_page.Goals as goal
 
@@ -10,8 +10,10 @@ returns-in_err-end-in-Some-clause-result c =
     let list = a.list.now in
     let sent = page_at a.offset list in
     let p = err_from_is_err_and c.from_residual.result c.from_residual.ensures.1 in
-    let same = known-faults a.current.now c.in-Some.page a.offset _ _ _ list
-    (sym c.with_code.ensures ∙ c.in-Some.is) c.code.ensures.code c.of-expected.ensures.values
+    let same = known-faults a.points_at_fields a.current.now c.in-Some.page a.offset _ _ _ _ list
+    (sym c.with_code.ensures ∙ c.in-Some.is) c.code.ensures.code
+    (c.pointed_fields-fields.ensures
+    ∙ ap (pointed_fields a.points_at_fields) c.multi_byte_fields.ensures) c.of-expected.ensures.values
     c.of.ensures.values in
     rw (p.1, p.2) (c.in_err-end-in-Some.ensures.result
     ∙ ap (λ (f : List ℕ). unless_fault (first_fault (length list) f) (a.offset + sent.size)) same)
@@ -21,8 +23,10 @@ returns-in_ok-end-in-Some-clause-result c =
     let a = c.args in
     let list = a.list.now in
     let sent = page_at a.offset list in
-    let same = known-faults a.current.now c.in-Some.page a.offset _ _ _ list
-    (sym c.with_code.ensures ∙ c.in-Some.is) c.code.ensures.code c.of-expected.ensures.values
+    let same = known-faults a.points_at_fields a.current.now c.in-Some.page a.offset _ _ _ _ list
+    (sym c.with_code.ensures ∙ c.in-Some.is) c.code.ensures.code
+    (c.pointed_fields-fields.ensures
+    ∙ ap (pointed_fields a.points_at_fields) c.multi_byte_fields.ensures) c.of-expected.ensures.values
     c.of.ensures.values in
     c.in_ok-end-in-Some.ensures.result
     ∙ ap (λ (f : List ℕ). unless_fault (first_fault (length list) f) (a.offset + sent.size)) same
@@ -44,5 +48,5 @@ returns-in-None-clause-result c =
     let a = c.args in
     let sent = page_at a.offset a.list.now in
     sym (ap (λ o. unless_fault o (a.offset + sent.size))
-    (unknown-page a.current.now a.offset a.list.now c.requires
+    (unknown-page a.points_at_fields a.current.now a.offset a.list.now c.requires
     (sym c.with_code.ensures ∙ c.in-None.is)))
