@@ -18,6 +18,24 @@ PAGES = {
 }
 DEFAULT = {code: bytes.fromhex(default) for code, (default, _) in PAGES.items()}
 CHANGEABLE = {code: bytes.fromhex(bits) for code, (_, bits) in PAGES.items()}
+# The fields of several bytes: of each page, and of the short and the long block descriptor, the numbers
+# of the first and the last byte. What is reserved or obsolete counts as in the standards' figures: an
+# obsolete field of several bytes is a field, and a reserved byte is one by itself.
+PAGE_FIELDS = {
+    # RECOVERY TIME LIMIT (SBC-3, 6.4)
+    0x01: ((10, 11),),
+    # DISABLE PRE-FETCH TRANSFER LENGTH, MINIMUM PRE-FETCH, MAXIMUM PRE-FETCH, MAXIMUM PRE-FETCH CEILING,
+    # CACHE SEGMENT SIZE, and the obsolete NON CACHE SEGMENT SIZE (SBC-3, 6.4)
+    0x08: ((4, 5), (6, 7), (8, 9), (10, 11), (14, 15), (17, 19)),
+    # the obsolete READY AER HOLDOFF PERIOD, BUSY TIMEOUT PERIOD, EXTENDED SELF-TEST COMPLETION TIME
+    # (SPC-4, 7.5)
+    0x0A: ((6, 7), (8, 9), (10, 11)),
+    # INTERVAL TIMER, REPORT COUNT (SPC-4, 7.5)
+    0x1C: ((4, 7), (8, 11)),
+}
+# NUMBER OF LOGICAL BLOCKS, LOGICAL BLOCK LENGTH (SBC-3, 6.4.2)
+SHORT_DESCRIPTOR_FIELDS = ((0, 3), (5, 7))
+LONG_DESCRIPTOR_FIELDS = ((0, 7), (12, 15))
 ALL_PAGES = 0x3F
 ALL_SUBPAGES = 0xFF
 PS = 0x80  # all pages can be saved
@@ -100,7 +118,7 @@ def mode_select(device, initiator, command, data_out):
     selected = dict(modes.current)
     if parameters:
         place = check_descriptor(device, parameters, *header(command, parameters))
-        selected.update(pages_from(modes.current, parameters, place))
+        selected.update(pages_from(device, parameters, place))
     if selected != modes.current:
         others = [other for other in device.attentions if other != initiator]
         device.raise_attention(others, MODE_PARAMETERS_CHANGED)
@@ -116,12 +134,25 @@ def present(parameters, end):
         raise parameter_list_length_error()
 
 
-def need_equal(parameters, place, wanted):
+def need_equal(parameters, place, wanted, pointer=lambda byte: byte):
     """From front to back: a list that ends is too short, and a byte that differs is the fault."""
     for byte, value in enumerate(wanted, place):
         present(parameters, byte + 1)
         if parameters[byte] != value:
-            raise invalid_field_in_parameter_list(byte)
+            raise invalid_field_in_parameter_list(pointer(byte))
+
+
+def to_fields(device, start, fields):
+    """A pointer to the first byte of a field of several bytes (SPC-4, 4.5.2.4.2).
+
+    A base disk points to the byte that differs. `start` is where the page or the descriptor begins.
+    """
+    def pointer(byte):
+        for first, last in fields if device.profile == "extended" else ():
+            if first <= byte - start <= last:
+                return start + first
+        return byte
+    return pointer
 
 
 def header(command, parameters):
@@ -161,12 +192,14 @@ def check_descriptor(device, parameters, place, length):
             own = bytes(count_length) + own[count_length:]
         elif device.profile == "extended":
             own = sent + own[count_length:]
-        need_equal(parameters, place, own)
+        fields = LONG_DESCRIPTOR_FIELDS if length == 16 else SHORT_DESCRIPTOR_FIELDS
+        need_equal(parameters, place, own, to_fields(device, place, fields))
     return place + length
 
 
-def pages_from(current, parameters, place):
+def pages_from(device, parameters, place):
     """The pages of the list by their codes: of one that is sent twice the last one counts."""
+    current = device.modes.current
     selected = {}  # all are compared with what they were before the command
     while place < len(parameters):
         code = parameters[place] & ~PS
@@ -174,10 +207,12 @@ def pages_from(current, parameters, place):
             raise invalid_field_in_parameter_list(place)
         length = len(DEFAULT[code])
         need_equal(parameters, place + 1, bytes([length]))
+        pointer = to_fields(device, place, PAGE_FIELDS[code])
         place += 2
         sent = parameters[place:place + length]
         values = zip(sent, current[code], CHANGEABLE[code])
-        need_equal(parameters, place, bytes(old & ~bits | new & bits for new, old, bits in values))
+        wanted = bytes(old & ~bits | new & bits for new, old, bits in values)
+        need_equal(parameters, place, wanted, pointer)
         present(parameters, place + length)
         selected[code] = sent
         place += length
