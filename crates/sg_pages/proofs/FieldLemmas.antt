@@ -23,23 +23,23 @@ use Rattle.sg_pages.proofs.FaultLemmas.{truncation_of-below, part-different, par
 -- ---- The first byte of a field
 
 has-cases : (f : MultiByteField) (byte : ℕ)
-    → ((has_byte f byte ≡ true) × ((f.first ≤ byte) × (byte < f.first + f.count)))
-    ⊎ ((has_byte f byte ≡ false) × ((byte < f.first) ⊎ (f.first + f.count ≤ byte)))
+    → ((has_byte f byte ≡ true) × ((f.first ≤ byte) × (byte < f.first + f.size)))
+    ⊎ ((has_byte f byte ≡ false) × ((byte < f.first) ⊎ (f.first + f.size ≤ byte)))
 has-cases f byte =
     elim (cases_lt byte f.first) as
-    (λ _. ((has_byte f byte ≡ true) × ((f.first ≤ byte) × (byte < f.first + f.count)))
-    ⊎ ((has_byte f byte ≡ false) × ((byte < f.first) ⊎ (f.first + f.count ≤ byte)))) [
+    (λ _. ((has_byte f byte ≡ true) × ((f.first ≤ byte) × (byte < f.first + f.size)))
+    ⊎ ((has_byte f byte ≡ false) × ((byte < f.first) ⊎ (f.first + f.size ≤ byte)))) [
       | inl less ↦ inr (and_left _ _ (lt-leb f.first byte less), inl less)
       | inr from ↦
-          elim (cases_lt byte (f.first + f.count)) as
-          (λ _. ((has_byte f byte ≡ true) × ((f.first ≤ byte) × (byte < f.first + f.count)))
-          ⊎ ((has_byte f byte ≡ false) × ((byte < f.first) ⊎ (f.first + f.count ≤ byte)))) [
+          elim (cases_lt byte (f.first + f.size)) as
+          (λ _. ((has_byte f byte ≡ true) × ((f.first ≤ byte) × (byte < f.first + f.size)))
+          ⊎ ((has_byte f byte ≡ false) × ((byte < f.first) ⊎ (f.first + f.size ≤ byte)))) [
             | inl below ↦ inl (
               and_from _ _ (le-leb f.first byte from)
-                  (lt-ltb byte (f.first + f.count) below),
+                  (lt-ltb byte (f.first + f.size) below),
               (from, below),
             )
-            | inr behind ↦ inr (and_right _ _ (le-ltb byte (f.first + f.count) behind), inr behind)
+            | inr behind ↦ inr (and_right _ _ (le-ltb byte (f.first + f.size) behind), inr behind)
           ]
     ]
 
@@ -71,10 +71,10 @@ rises (f ∷ fields) m n h = by (has-cases f m) (has-cases f n) (rises fields m 
         → first_byte_of (f ∷ fields) m ≤ first_byte_of (f ∷ fields) n
     to c d e g k = rw (e, g) k
 
-    by : ((has_byte f m ≡ true) × ((f.first ≤ m) × (m < f.first + f.count)))
-        ⊎ ((has_byte f m ≡ false) × ((m < f.first) ⊎ (f.first + f.count ≤ m)))
-        → ((has_byte f n ≡ true) × ((f.first ≤ n) × (n < f.first + f.count)))
-        ⊎ ((has_byte f n ≡ false) × ((n < f.first) ⊎ (f.first + f.count ≤ n)))
+    by : ((has_byte f m ≡ true) × ((f.first ≤ m) × (m < f.first + f.size)))
+        ⊎ ((has_byte f m ≡ false) × ((m < f.first) ⊎ (f.first + f.size ≤ m)))
+        → ((has_byte f n ≡ true) × ((f.first ≤ n) × (n < f.first + f.size)))
+        ⊎ ((has_byte f n ≡ false) × ((n < f.first) ⊎ (f.first + f.size ≤ n)))
         → x ≤ y → first_byte_of (f ∷ fields) m ≤ first_byte_of (f ∷ fields) n
     by (inl (e, k)) (inl (g, l)) rest = to true true e g (omega (arith, rest))
     by (inl (e, k)) (inr (g, l)) rest = to true false e g (omega (arith, rest))

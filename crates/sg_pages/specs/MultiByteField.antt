@@ -5,11 +5,11 @@ use Rattle.sg_pages.specs.declared.mode_pages.multi_byte_field.MultiByteField.{M
 
 -- A field of more than one byte: the number of its first byte in the page or in the block
 -- descriptor, and the number of its bytes.
-abbrev pub field : (first count : ℕ) → MultiByteField
-field first count = record { first = first; count = count }
+abbrev pub field : (first size : ℕ) → MultiByteField
+field first size = record { first = first; size = size }
 
 abbrev pub has_byte : MultiByteField → (byte : ℕ) → Bool
-has_byte field byte = nat_le field.first byte && nat_lt byte (field.first + field.count)
+has_byte field byte = nat_le field.first byte && nat_lt byte (field.first + field.size)
 
 -- The first byte of the field that a byte belongs to. A byte of none of these fields is a field of
 -- its own.

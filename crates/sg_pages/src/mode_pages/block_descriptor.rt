@@ -19,16 +19,13 @@ pub(crate) const LOGICAL_BLOCK_LENGTH: u32 = 512;
 
 /// NUMBER OF LOGICAL BLOCKS and LOGICAL BLOCK LENGTH in the short and the long descriptor.
 pub(super) const SHORT_DESCRIPTOR_FIELDS: [MultiByteField; 2] = [
-    MultiByteField { first: 0, count: 4 },
-    MultiByteField { first: 5, count: 3 },
+    MultiByteField { first: 0, size: 4 },
+    MultiByteField { first: 5, size: 3 },
 ];
 
 pub(super) const LONG_DESCRIPTOR_FIELDS: [MultiByteField; 2] = [
-    MultiByteField { first: 0, count: 8 },
-    MultiByteField {
-        first: 12,
-        count: 4,
-    },
+    MultiByteField { first: 0, size: 8 },
+    MultiByteField { first: 12, size: 4 },
 ];
 
 /// A number of blocks that does not fit is FFFFFFFFh.

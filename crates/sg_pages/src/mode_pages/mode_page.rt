@@ -56,45 +56,30 @@ impl ModePage {
 }
 
 /// RECOVERY TIME LIMIT (SBC-3, 6.4).
-static ERROR_RECOVERY_FIELDS: [MultiByteField; 1] = [MultiByteField {
-    first: 10,
-    count: 2,
-}];
+static ERROR_RECOVERY_FIELDS: [MultiByteField; 1] = [MultiByteField { first: 10, size: 2 }];
 
 /// DISABLE PRE-FETCH TRANSFER LENGTH, MINIMUM PRE-FETCH, MAXIMUM PRE-FETCH, MAXIMUM PRE-FETCH
 /// CEILING, CACHE SEGMENT SIZE, and an obsolete field (SBC-3, 6.4).
 static CACHING_FIELDS: [MultiByteField; 6] = [
-    MultiByteField { first: 4, count: 2 },
-    MultiByteField { first: 6, count: 2 },
-    MultiByteField { first: 8, count: 2 },
-    MultiByteField {
-        first: 10,
-        count: 2,
-    },
-    MultiByteField {
-        first: 14,
-        count: 2,
-    },
-    MultiByteField {
-        first: 17,
-        count: 3,
-    },
+    MultiByteField { first: 4, size: 2 },
+    MultiByteField { first: 6, size: 2 },
+    MultiByteField { first: 8, size: 2 },
+    MultiByteField { first: 10, size: 2 },
+    MultiByteField { first: 14, size: 2 },
+    MultiByteField { first: 17, size: 3 },
 ];
 
 /// An obsolete field, BUSY TIMEOUT PERIOD and EXTENDED SELF-TEST COMPLETION TIME (SPC-4, 7.5).
 static CONTROL_FIELDS: [MultiByteField; 3] = [
-    MultiByteField { first: 6, count: 2 },
-    MultiByteField { first: 8, count: 2 },
-    MultiByteField {
-        first: 10,
-        count: 2,
-    },
+    MultiByteField { first: 6, size: 2 },
+    MultiByteField { first: 8, size: 2 },
+    MultiByteField { first: 10, size: 2 },
 ];
 
 /// INTERVAL TIMER and REPORT COUNT (SPC-4, 7.5).
 static EXCEPTIONS_FIELDS: [MultiByteField; 2] = [
-    MultiByteField { first: 4, count: 4 },
-    MultiByteField { first: 8, count: 4 },
+    MultiByteField { first: 4, size: 4 },
+    MultiByteField { first: 8, size: 4 },
 ];
 
 /// The bytes of each mode page from byte 2 on.

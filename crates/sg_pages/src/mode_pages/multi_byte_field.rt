@@ -8,7 +8,7 @@ pub struct MultiByteField {
     /// The number of its first byte in the page or in the descriptor.
     pub first: u8,
     /// The number of its bytes.
-    pub count: u8,
+    pub size: u8,
 }
 
 impl MultiByteField {
@@ -16,7 +16,7 @@ impl MultiByteField {
         ensures { result ≡ has_byte self.now byte }
     {
         let first = usize::from(self.first);
-        first <= byte && byte < first + usize::from(self.count)
+        first <= byte && byte < first + usize::from(self.size)
     }
 }
 
