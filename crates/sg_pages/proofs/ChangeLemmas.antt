@@ -149,7 +149,8 @@ no-fault n [] values after e = (refl, cc)
 no-fault n (offset ∷ offsets) values after e = absurd (cc)
 
 values-kept : (current after : PageValues) (width : CdbWidth) (blocks : Option ℕ)
-    (points : Bool) (list : List ℕ) (page : ModePage) → selected_values current width blocks points list ≡ Ok after
+    (points : Bool) (list : List ℕ) (page : ModePage)
+    → selected_values current width blocks points list ≡ Ok after
     → Kept current page (values_of after page)
 unfolding selected_values
 values-kept current after width blocks points list page e = by (length list == 0) e

@@ -132,7 +132,8 @@ other-length width list whole e =
 abbrev against : (offset : ℕ) (blocks : Option ℕ) (points : Bool) (list : List ℕ)
     → (long : Bool) (size : ℕ) (number : List ℕ) → List ℕ
 against offset blocks points list long size number =
-    field_faults (pointed_fields points (descriptor_fields long)) (block_descriptor long (accepted_blocks blocks number))
+    field_faults (pointed_fields points (descriptor_fields long))
+    (block_descriptor long (accepted_blocks blocks number))
     (ignored_descriptor_bits long blocks) (part_at offset size list)
 
 pub descriptor_faults-at : (width : CdbWidth) (long : Bool) (blocks : Option ℕ) (points : Bool)

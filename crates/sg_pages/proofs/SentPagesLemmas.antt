@@ -57,20 +57,22 @@ pages_from-next offset (x ∷ xs) h =
 
 -- ---- The places of their faults
 
-against-from : (points : Bool) (current : PageValues) (offset : ℕ) (list : List ℕ) → (o : Option ModePage) →
+against-from : (points : Bool) (current : PageValues) (offset : ℕ) (list : List ℕ)
+    → (o : Option ModePage) →
     From offset (option_map_or (faults_against points current (page_at offset list)) o (offset ∷ []))
 against-from points current offset list None = (omega arith, tt)
 against-from points current offset list (Some p) =
-    field_faults-from (pointed_fields points (row_of p).fields) (page_data current p) (0x80 ∷ 0x00 ∷ (row_of p).changeable) offset
-    (page_at offset list).size list
+    field_faults-from (pointed_fields points (row_of p).fields) (page_data current p)
+    (0x80 ∷ 0x00 ∷ (row_of p).changeable) offset (page_at offset list).size list
 
-against-below : (points : Bool) (current : PageValues) (offset : ℕ) (list : List ℕ) → (o : Option ModePage) →
+against-below : (points : Bool) (current : PageValues) (offset : ℕ) (list : List ℕ)
+    → (o : Option ModePage) →
     Below (offset + (page_at offset list).size)
     (option_map_or (faults_against points current (page_at offset list)) o (offset ∷ []))
 against-below points current offset list None = (omega arith, tt)
 against-below points current offset list (Some p) =
-    field_faults-below (pointed_fields points (row_of p).fields) (page_data current p) (0x80 ∷ 0x00 ∷ (row_of p).changeable) offset
-    (page_at offset list).size list
+    field_faults-below (pointed_fields points (row_of p).fields) (page_data current p)
+    (0x80 ∷ 0x00 ∷ (row_of p).changeable) offset (page_at offset list).size list
 
 pub page_faults-from : (points : Bool) (current : PageValues) (offset : ℕ) (list : List ℕ)
     → From offset (page_faults points current (page_at offset list))
@@ -110,7 +112,8 @@ pages_from-from points current offset list = up_to-from points current (length l
 -- ---- One page more
 
 -- its faults come first
-pub next-faults : (points : Bool) (current : PageValues) (offset : ℕ) (list : List ℕ) → offset < length list →
+pub next-faults : (points : Bool) (current : PageValues) (offset : ℕ) (list : List ℕ)
+    → offset < length list →
     first_fault (length list) (flat_map (page_faults points current) (pages_from offset list))
     ≡ option_or (first_fault (length list) (page_faults points current (page_at offset list)))
     (first_fault (length list) (flat_map (page_faults points current)
@@ -121,7 +124,8 @@ next-faults points current offset list h =
     ap (λ pages. first_fault (length list) (flat_map (page_faults points current) pages))
     (pages_from-next offset list h)
     ∙ first_fault-append (length list) next (page_faults points current sent)
-    (flat_map (page_faults points current) (pages_from next list)) (page_faults-below points current offset list)
+    (flat_map (page_faults points current) (pages_from next list))
+    (page_faults-below points current offset list)
     (pages_from-from points current next list)
 
 -- its values stay if no later page has its code

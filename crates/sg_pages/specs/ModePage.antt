@@ -51,8 +51,8 @@ error_recovery_row =
     (field 10 2 ∷ [])
 
 -- From byte 4 on: DISABLE PRE-FETCH TRANSFER LENGTH, MINIMUM PRE-FETCH, MAXIMUM PRE-FETCH and
--- MAXIMUM PRE-FETCH CEILING. Then CACHE SEGMENT SIZE, and an obsolete field, once NON CACHE SEGMENT
--- SIZE.
+-- MAXIMUM PRE-FETCH CEILING. From byte 14 on: CACHE SEGMENT SIZE. From byte 17 on: an obsolete field,
+-- once NON CACHE SEGMENT SIZE.
 abbrev caching_fields : List MultiByteField
 caching_fields = field 4 2 ∷ field 6 2 ∷ field 8 2 ∷ field 10 2 ∷ field 14 2 ∷ field 17 3 ∷ []
 

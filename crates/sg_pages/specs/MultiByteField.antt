@@ -12,7 +12,7 @@ abbrev pub has_byte : MultiByteField → (byte : ℕ) → Bool
 has_byte field byte = nat_le field.first byte && nat_lt byte (field.first + field.size)
 
 -- The first byte of the field that a byte belongs to. A byte of none of these fields is a field of
--- its own.
+-- its own. If fields overlap, the one that begins first counts.
 -- Choice (SPC-4, 4.5.2.4.2): several reserved bytes in a row may be one field.
 abbrev pub first_byte_of : (fields : List MultiByteField) → (byte : ℕ) → ℕ
 first_byte_of [] byte = byte

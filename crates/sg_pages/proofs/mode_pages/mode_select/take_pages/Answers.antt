@@ -12,7 +12,8 @@ pub returns-in_err-offset : goal.returns-in_err-offset
 returns-in_err-offset c =
     let p = err_from_is_err_and c.from_residual.result c.from_residual.ensures.1 in
     let next = sym c.loop-offset.invariant.faults
-    ∙ next-faults c.args.points_at_fields c.args.current.now c.loop-offset.offset c.args.list.now c.loop-offset-test.true in
+    ∙ next-faults c.args.points_at_fields c.args.current.now c.loop-offset.offset c.args.list.now
+    c.loop-offset-test.true in
     rw (p.1, p.2) (fails _ _ _ _ _ next (unless-err _ _ _ c.in_err-offset.ensures.result))
 
 pub loop-offset-preserved : goal.loop-offset-preserved
