@@ -11,7 +11,7 @@ use Rattle.sg_pages.specs.declared.mode_pages.mode_select.ModeSelectFault.{ModeS
 use Rattle.sg_pages.specs.declared.mode_pages.mode_select.ModeSelectFault.TheVariants.{Field}
 use Rattle.sg_pages.specs.declared.mode_pages.multi_byte_field.MultiByteField.{MultiByteField}
 use Rattle.sg_pages.specs.MultiByteField.{has_byte, first_byte_of}
-use Rattle.sg_pages.specs.ModeSelect.{part_at, differences, truncation_of, part_faults, field_faults}
+use Rattle.sg_pages.specs.ModeSelect.{Part, part_at, differences, truncation_of, part_faults, field_faults}
 use Rattle.sg_pages.specs.ModeSelect.{least, fault_at, first_fault, unless_fault}
 use Rattle.sg_pages.specs.SentValues.{pointed_fault}
 use Rattle.sg_pages.proofs.FaultLemmas.{From, Below, From-append, From-weaker, Below-append}
@@ -128,6 +128,19 @@ field_faults-below fields expected ignored offset size list =
     (omega (arith, length-take size (drop offset list)))
     (differences-below offset expected ignored p.bytes)))
     (truncation_of-below p)
+
+-- without fields each byte points to itself
+itself : (base : ℕ) (xs : List ℕ) → From base xs → map (first_in [] base) xs ≡ xs
+itself base [] h = refl
+itself base (x ∷ xs) (h, hs) =
+    let same : base + (x - base) ≡ x = omega arith in
+    ap (λ y. y ∷ map (first_in [] base) xs) same ∙ ap (λ ys. x ∷ ys) (itself base xs hs)
+
+pub without-fields : (expected ignored : List ℕ) (p : Part)
+    → field_faults [] expected ignored p ≡ part_faults expected ignored p
+without-fields expected ignored p =
+    ap (λ xs. xs ++ truncation_of p) (itself p.offset (differences p.offset expected ignored p.bytes)
+    (differences-from p.offset expected ignored p.bytes))
 
 -- ---- The least of them
 

@@ -1,9 +1,13 @@
 -- Laws of the mode pages, in the subject's words.
-use Rattle.std.specs.Prelude.{◌≡◌, ℕ, List, [], Bool, true, false, Ok, Option, ◌<◌, ⊤}
+use Rattle.std.specs.Prelude.{◌≡◌, ℕ, List, [], Bool, true, false, Ok, Option, ◌<◌, ◌==◌, ⊤}
+use Rattle.std.specs.List.{list_all, range_with_len}
 use Rattle.sg_wire.specs.declared.command.mode.CdbWidth.{CdbWidth}
 use Rattle.sg_pages.specs.declared.mode_pages.mode_page.ModePage.{ModePage}
 use Rattle.sg_pages.specs.ModePage.{ModeState, row_of, values_of}
-use Rattle.sg_pages.specs.ModeSelect.{differences, mode_select}
+use Rattle.sg_pages.specs.declared.mode_pages.multi_byte_field.MultiByteField.{MultiByteField}
+use Rattle.sg_pages.specs.BlockDescriptor.{descriptor_fields}
+use Rattle.sg_pages.specs.MultiByteField.{first_byte_of}
+use Rattle.sg_pages.specs.ModeSelect.{Part, differences, field_faults, mode_select, part_faults}
 use Rattle.sg_pages.specs.declared.mode_pages.mode_select.ModeSelectFault.{ModeSelectFault}
 use Rattle.sg_pages.specs.declared.mode_pages.mode_select.ModeSelectFault.TheVariants.{Length}
 use Rattle.sg_pages.specs.declared.mode_pages.mode_select.ModeSelectFault.TheVariants.{Field}
@@ -37,3 +41,22 @@ SpSavesAll =
     (before after : ModeState) (list : List ℕ) (width : CdbWidth) (blocks : Option ℕ)
     (points_at_fields : Bool) → mode_select before list width true blocks points_at_fields ≡ Ok after
     → after.saved ≡ after.current
+
+-- On a base disk each byte is a field of its own: a pointer goes to the byte that differs.
+abbrev pub BytesPointToThemselves : Type 0
+BytesPointToThemselves =
+    (expected ignored : List ℕ) (p : Part)
+    → field_faults [] expected ignored p ≡ part_faults expected ignored p
+
+-- On an extended disk each byte of a field of several bytes points to the field's first byte.
+abbrev pub points_to_first : (fields : List MultiByteField) → MultiByteField → Bool
+points_to_first fields field =
+    list_all (λ byte. first_byte_of fields byte == field.first)
+    (range_with_len field.first field.size)
+
+abbrev pub FieldsPointToTheirFirstByte : Type 0
+FieldsPointToTheirFirstByte =
+    ((page : ModePage)
+    → list_all (points_to_first (row_of page).fields) (row_of page).fields ≡ true)
+    × ((long : Bool)
+    → list_all (points_to_first (descriptor_fields long)) (descriptor_fields long) ≡ true)

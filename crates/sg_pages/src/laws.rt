@@ -1,4 +1,5 @@
 // Laws of the mode pages: each is the contract of a function that changes nothing.
+ghost use Rattle.sg_pages.specs.ModeLaws.{BytesPointToThemselves, FieldsPointToTheirFirstByte};
 ghost use Rattle.sg_pages.specs.ModeLaws.{OnlyChangeableBitsChange, OnlySpSaves, SpSavesAll};
 
 /// A MODE SELECT changes only bits that can be changed.
@@ -14,4 +15,14 @@ pub fn only_sp_saves()
 /// A MODE SELECT with SP saves the current values of all pages, as they are afterwards.
 pub fn sp_saves_all()
     ensures { SpSavesAll }
+{}
+
+/// On a base disk the field pointer of MODE SELECT goes to the byte that differs.
+pub fn bytes_point_to_themselves()
+    ensures { BytesPointToThemselves }
+{}
+
+/// On an extended disk each byte of a field of several bytes points to the field's first byte.
+pub fn fields_point_to_their_first_byte()
+    ensures { FieldsPointToTheirFirstByte }
 {}

@@ -155,7 +155,6 @@ pub(super) fn point_to_field(
     offset: usize,
     fields: &[MultiByteField],
 ) -> ModeSelectFault
-    requires { offset < 2 ^ 63 }
     ensures { result ≡ pointed_fault fields.now offset fault }
 {
     match fault {

@@ -30,7 +30,8 @@ pub enum ModeSelectFault {
     /// The list ends within its header, its block descriptor or a page.
     #[error("the list ends within its header, its block descriptor or a page")]
     Length,
-    /// The byte at this offset in the list has a value that is not supported.
+    /// The byte at this offset in the list, or the field that begins there, has a value that is not
+    /// supported.
     #[error("byte {0} of the list has a value that is not supported")]
     Field(usize),
 }
