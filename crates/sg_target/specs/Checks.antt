@@ -193,6 +193,7 @@ checked_cdb state initiator cdb data_out =
 
 -- Its effect. The requests of MODE SENSE, MODE SELECT and PERSISTENT RESERVE OUT are checked last,
 -- against the state. What an operation finds on its way comes after all checks.
+-- Choice (SAM-5, 5.3.3): a conflict of PERSISTENT RESERVE OUT may come before a unit attention.
 abbrev pub checked_effect : State → (initiator : ℕ) → (cdb data_out : List ℕ) → Result Effect Refusal
 checked_effect state initiator cdb data_out =
     checked_next (checked_cdb state initiator cdb data_out) (effect_of state initiator)
