@@ -220,8 +220,8 @@ impl<S: Store> Target<S> {
             [] self.old self.new result buf.now buf.now }
     {
         let blocks = self.required_blocks();
-        let points_at_fields = self.config.rules().points_at_fields;
-        let reason = match self.modes.select(list.bytes, width, sp, blocks, points_at_fields) {
+        let at_fields = self.config.rules().points_at_fields;
+        let reason = match self.modes.select(list.bytes, width, sp, blocks, at_fields) {
             Ok(Changed(changed)) => {
                 self.report_changed_modes(initiator, changed);
                 return Reply::without_blocks(0);

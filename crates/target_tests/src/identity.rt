@@ -108,6 +108,9 @@ fn requests_for_mode_pages_are_refused(rt: HostRuntime) {
     let mut cut = Cut::new(&mut bytes, 4);
     assert!(rt; pages.sense(&ask, &mut cut) == Err(AskFault::Page));
     assert!(rt;
-        pages.select(&[0x00], CdbWidth::Six, false, Some(1), false).err() == Some(SelectFault::Length)
+        pages
+            .select(&[0x00], CdbWidth::Six, false, Some(1), false)
+            .err()
+            == Some(SelectFault::Length)
     );
 }
