@@ -34,6 +34,15 @@ OFTEN = 6
 TOOL_LINES = ("sg_inq", "sg_inq -l 5", "sg_vpd -p di", "sg_vpd -p bl", "sg_modes", "sg_modes -c 3",
               "sg_modes -L -p 10", "sg_get_lba_status -m 100", "sg_persist -k", "sg_persist -r",
               "sg_persist -s", "sg_persist -c")
+# Tools of an extended disk. A, N and B are an address, a count and data-out of some blocks.
+EXTENDED_LINES = (
+    "sg_turs", "sg_requests", "sg_requests -d -m 5", "sg_luns", "sg_luns -s 1 -H", "sg_opcodes",
+    "sg_opcodes -o 28h", "sg_opcodes -o 9eh -s 16 -R", "sg_opcodes -t -q", "sg_logs",
+    "sg_logs -p 2f", "sg_readcap", "sg_readcap -l", "sg_sync", "sg_sync -l A -c N",
+    "sg_sync --16 -l A -c N", "sg_verify -l A -c N", "sg_verify --16 -l A -c N",
+    "sg_verify -l A -c N -i B", "sg_verify -l A -c N -E 3 -i B", "sg_compare_and_write -l A -i B",
+    "sg_compare_and_write -l A -i B", "sg_write_same -l A -n N -i B", "sg_write_same -S -l A -n N -U",
+    "sg_write_same --10 -l A -n N -i B")
 # Verbs of an extended disk
 HAPPENINGS = ("reset", "reset", "reset target", "nexus", "nexus", "grow", *4 * ("attention",),
               *7 * ("fault",), "faults", "faults", "heal", "heal")
@@ -65,15 +74,24 @@ class Script:
         if place < 0.005:
             return "power"
         if place < 0.10:
-            return f"{initiator} {self.random.choice(TOOL_LINES)}"
+            return f"{initiator} {self.usual_tool_line()}"
         if place < 0.13:
-            return tool_line(self.random, initiator)
+            return tool_line(self.random, initiator, self.profile)
         if place < 0.17:
             return show_line(self.random, self.profile)
         if place < 0.25:
             return f"fill {initiator} {self.address()} {self.small()} {self.small()}"
         cdb, data_out = self.command()
         return f"raw {initiator} {cdb.hex() or '-'} {data_out.hex() or '-'}"
+
+    def usual_tool_line(self):
+        """A tool whose words are valid, if its address and count are."""
+        if self.profile == "base" or self.is_rare(0.4):
+            return self.random.choice(TOOL_LINES)
+        blocks = "".join(f"{self.small():02x}" * 512 for _ in range(self.random.choice((1, 2))))
+        words = {"A": f"{self.address()}", "N": f"{self.small()}", "B": blocks}
+        line = self.random.choice(EXTENDED_LINES)
+        return " ".join(words.get(word, word) for word in line.split())
 
     def happening(self):
         """A verb of an extended disk, now and then with words that it does not take."""

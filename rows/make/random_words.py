@@ -4,7 +4,7 @@ valid ones."""
 from attentions import CONDITIONS, RESETS
 from sense import code_text
 from texts import OF_PROFILE
-from tools.commands import TOOLS
+from tools import TOOLS_OF
 
 # An answer of each kind, and of each page that has a text.
 ANSWERS = [
@@ -139,11 +139,11 @@ def in_any_form(random, value):
     return random.choice((f"{value}", f"{value}", f"{value:#x}", f"{value:X}h"))
 
 
-def tool_line(random, initiator):
+def tool_line(random, initiator, profile):
     """A tool with some of its options in a random form, now and then with a word of no option."""
-    name = random.choice(sorted(TOOLS))
-    options = TOOLS[name].options
-    words = [word for option in random.sample(options, random.randrange(min(len(options), 5)))
+    name = random.choice(sorted(TOOLS_OF[profile]))
+    options = TOOLS_OF[profile][name].options
+    words = [word for option in random.sample(options, random.randrange(max(1, min(len(options), 5))))
              for word in forms_of(random, option)]
     if random.random() < 0.1:
         words.insert(random.randrange(len(words) + 1),
