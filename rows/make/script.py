@@ -351,6 +351,7 @@ def status_of(found):
     }
     of_keys = {
         sense.RECOVERED_ERROR: 21,
+        sense.MISCOMPARE: 14,
         sense.NOT_READY: 2,
         sense.MEDIUM_ERROR: 3,
         sense.HARDWARE_ERROR: 3,

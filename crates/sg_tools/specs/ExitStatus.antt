@@ -3,6 +3,7 @@ use Rattle.std.specs.Prelude.{ℕ, List, [], ◌∷◌, Option, Some, None, Bool
 use Rattle.std.specs.Prelude.{if◌then◌else◌}
 use Rattle.sg_wire.specs.SenseData.{SenseFields}
 use Rattle.sg_wire.specs.SenseKey.{illegal_request, unit_attention, data_protect, aborted_command}
+use Rattle.sg_wire.specs.SenseKey.{miscompare}
 
 -- Sense keys that only an armed fault returns (SPC-4, sense key descriptions).
 abbrev recovered_error : ℕ
@@ -44,6 +45,7 @@ sense_statuses =
     ∷ with_key unit_attention 6
     ∷ with_key data_protect 7
     ∷ with_key aborted_command 11
+    ∷ with_key miscompare 14
     ∷ []
 
 -- Every other failure, also if the sense data can't be read.

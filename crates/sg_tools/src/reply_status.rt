@@ -38,6 +38,9 @@ const MEDIUM_ERROR: u8 = 3;
 
 const HARDWARE_ERROR: u8 = 4;
 
+/// The sense key of a difference, which only an extended disk finds.
+const MISCOMPARE: u8 = 0xE;
+
 fn sense_status(sense: Option<Sense>) -> u8
     ensures { result ≡ sense_status (option_map fields_of sense) }
 {
@@ -56,6 +59,7 @@ fn sense_status(sense: Option<Sense>) -> u8
         (Sense::UNIT_ATTENTION, _, _) => 6,
         (Sense::DATA_PROTECT, _, _) => 7,
         (Sense::ABORTED_COMMAND, _, _) => 11,
+        (MISCOMPARE, _, _) => 14,
         _ => 99,
     }
 }

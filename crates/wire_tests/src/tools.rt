@@ -295,7 +295,7 @@ fn tools_send_what_their_words_ask_for(rt: HostRuntime) -> Result<(), Fail> {
 }
 
 /// The status code of a reply, its sense data, and the exit status.
-const STATUSES: [(u8, &[u8], u8); 22] = [
+const STATUSES: [(u8, &[u8], u8); 23] = [
     (0x00, b"", 0),
     (0x18, b"", 24),
     (0x08, b"", 26),
@@ -326,6 +326,7 @@ const STATUSES: [(u8, &[u8], u8); 22] = [
     (0x02, b"\x72\x02\x04\x01\0\0\0\0", 2),
     (0x02, b"\x72\x03\x21\x00\0\0\0\0", 3),
     (0x02, b"\x72\x04\x44\x00\0\0\0\0", 3),
+    (0x02, b"\x72\x0E\x1D\x00\0\0\0\0", 14),
 ];
 
 #[test]
