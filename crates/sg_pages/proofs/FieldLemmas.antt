@@ -10,7 +10,7 @@ use Rattle.std.proofs.lemmas.Bool.{and_from, and_left, and_right}
 use Rattle.sg_pages.specs.declared.mode_pages.mode_select.ModeSelectFault.{ModeSelectFault}
 use Rattle.sg_pages.specs.declared.mode_pages.mode_select.ModeSelectFault.TheVariants.{Field}
 use Rattle.sg_pages.specs.declared.mode_pages.multi_byte_field.MultiByteField.{MultiByteField}
-use Rattle.sg_pages.specs.MultiByteField.{has_byte, first_byte_of}
+use Rattle.sg_pages.specs.MultiByteField.{has_byte, first_byte_of, first_byte_in}
 use Rattle.sg_pages.specs.ModeSelect.{Part, part_at, differences, truncation_of, part_faults, field_faults}
 use Rattle.sg_pages.specs.ModeSelect.{least, fault_at, first_fault, unless_fault}
 use Rattle.sg_pages.specs.SentValues.{pointed_fault}
@@ -86,21 +86,18 @@ rises (f ∷ fields) m n h = by (has-cases f m) (has-cases f n) (rises fields m 
 
 -- ---- In a part
 
-abbrev first_in : (fields : List MultiByteField) (base offset : ℕ) → ℕ
-first_in fields base offset = base + first_byte_of fields (offset - base)
-
-first_in-rises : (fields : List MultiByteField) (base m n : ℕ) → m ≤ n
-    → first_in fields base m ≤ first_in fields base n
-first_in-rises fields base m n h =
+rises-in : (fields : List MultiByteField) (base m n : ℕ) → m ≤ n
+    → first_byte_in fields base m ≤ first_byte_in fields base n
+rises-in fields base m n h =
     omega (arith, rises fields (m - base) (n - base) (omega arith))
 
 map-from : (fields : List MultiByteField) (base : ℕ) (xs : List ℕ)
-    → From base (map (first_in fields base) xs)
+    → From base (map (first_byte_in fields base) xs)
 map-from fields base [] = tt
 map-from fields base (x ∷ xs) = (omega arith, map-from fields base xs)
 
 map-below : (fields : List MultiByteField) (base n : ℕ) (xs : List ℕ) → From base xs → Below n xs
-    → Below n (map (first_in fields base) xs)
+    → Below n (map (first_byte_in fields base) xs)
 map-below fields base n [] h k = tt
 map-below fields base n (x ∷ xs) (h, hs) (k, ks) =
     (omega (arith, at-most fields (x - base)), map-below fields base n xs hs ks)
@@ -130,11 +127,11 @@ field_faults-below fields expected ignored offset size list =
     (truncation_of-below p)
 
 -- without fields each byte points to itself
-itself : (base : ℕ) (xs : List ℕ) → From base xs → map (first_in [] base) xs ≡ xs
+itself : (base : ℕ) (xs : List ℕ) → From base xs → map (first_byte_in [] base) xs ≡ xs
 itself base [] h = refl
 itself base (x ∷ xs) (h, hs) =
     let same : base + (x - base) ≡ x = omega arith in
-    ap (λ y. y ∷ map (first_in [] base) xs) same ∙ ap (λ ys. x ∷ ys) (itself base xs hs)
+    ap (λ y. y ∷ map (first_byte_in [] base) xs) same ∙ ap (λ ys. x ∷ ys) (itself base xs hs)
 
 pub without-fields : (expected ignored : List ℕ) (p : Part)
     → field_faults [] expected ignored p ≡ part_faults expected ignored p
@@ -145,30 +142,29 @@ without-fields expected ignored p =
 -- ---- The least of them
 
 min-rises : (fields : List MultiByteField) (base x : ℕ) (o : Option ℕ)
-    → option_map_or (min (first_in fields base x)) (option_map (first_in fields base) o)
-    (first_in fields base x)
-    ≡ first_in fields base (option_map_or (min x) o x)
+    → option_map_or (min (first_byte_in fields base x)) (option_map (first_byte_in fields base) o)
+    (first_byte_in fields base x)
+    ≡ first_byte_in fields base (option_map_or (min x) o x)
 min-rises fields base x None = refl
 min-rises fields base x (Some m) =
-    elim (cases_lt x m) as
-    (λ _. min (first_in fields base x) (first_in fields base m) ≡ first_in fields base (min x m)) [
+    let at = first_byte_in fields base in
+    elim (cases_lt x m) as (λ _. min (at x) (at m) ≡ at (min x m)) [
       | inl less ↦
           let least_is : x ≡ min x m = omega arith in
-          let low : min (first_in fields base x) (first_in fields base m) ≡ first_in fields base x =
-          omega (arith, first_in-rises fields base x m (omega arith)) in
-          low ∙ ap (first_in fields base) least_is
+          let low : min (at x) (at m) ≡ at x =
+          omega (arith, rises-in fields base x m (omega arith)) in
+          low ∙ ap at least_is
       | inr more ↦
           let least_is : m ≡ min x m = omega arith in
-          let low : min (first_in fields base x) (first_in fields base m) ≡ first_in fields base m =
-          omega (arith, first_in-rises fields base m x more) in
-          low ∙ ap (first_in fields base) least_is
+          let low : min (at x) (at m) ≡ at m = omega (arith, rises-in fields base m x more) in
+          low ∙ ap at least_is
     ]
 
 least-map : (fields : List MultiByteField) (base : ℕ) (xs : List ℕ)
-    → least (map (first_in fields base) xs) ≡ option_map (first_in fields base) (least xs)
+    → least (map (first_byte_in fields base) xs) ≡ option_map (first_byte_in fields base) (least xs)
 least-map fields base [] = refl
 least-map fields base (x ∷ xs) =
-    ap (λ o. Some (option_map_or (min (first_in fields base x)) o (first_in fields base x)))
+    ap (λ o. Some (option_map_or (min (first_byte_in fields base x)) o (first_byte_in fields base x)))
     (least-map fields base xs)
     ∙ ap Some (min-rises fields base x (least xs))
 
@@ -203,12 +199,12 @@ pointed fields expected ignored offset size list h =
     raw = first_fault n (part_faults expected ignored (part_at offset size list))
 
     mapped : Option ModeSelectFault
-    mapped = option_map (fault_at n) (least (map (first_in fields offset) different ++ end))
+    mapped = option_map (fault_at n) (least (map (first_byte_in fields offset) different ++ end))
 
     to-field : (d : ℕ) → d < far → offset ≤ d → Some d ≡ least different
-        → mapped ≡ Some (Field (first_in fields offset d))
+        → mapped ≡ Some (Field (first_byte_in fields offset d))
     to-field d below from e =
-        let inside : first_in fields offset d < n =
+        let inside : first_byte_in fields offset d < n =
         omega (
           arith,
           at-most fields (d - offset),
@@ -216,17 +212,17 @@ pointed fields expected ignored offset size list h =
           length-drop offset list,
         ) in
         ap (option_map (fault_at n))
-        (least-append far (map (first_in fields offset) different) end
+        (least-append far (map (first_byte_in fields offset) different) end
         (map-below fields offset far different (differences-from offset expected ignored bytes)
         (differences-below offset expected ignored bytes))
         (truncation_of-from (part_at offset size list))
         ∙ ap (λ o. option_or o (least end))
-        (least-map fields offset different ∙ ap (option_map (first_in fields offset)) (sym e)))
-        ∙ ap Some (field n (first_in fields offset d) inside)
+        (least-map fields offset different ∙ ap (option_map (first_byte_in fields offset)) (sym e)))
+        ∙ ap Some (field n (first_byte_in fields offset d) inside)
 
     same : different ≡ [] → mapped ≡ raw
     same e =
-        ap (λ xs. option_map (fault_at n) (least (map (first_in fields offset) xs ++ end))) e
+        ap (λ xs. option_map (fault_at n) (least (map (first_byte_in fields offset) xs ++ end))) e
         ∙ sym (ap (λ xs. option_map (fault_at n) (least (xs ++ end))) e)
 
     by : (o : Option ℕ) → o ≡ least different

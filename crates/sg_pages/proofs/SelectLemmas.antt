@@ -24,7 +24,7 @@ use Rattle.sg_pages.specs.ModeSelect.{zeros_for, is_descriptor_length, length_fa
 use Rattle.sg_pages.specs.ModeSelect.{accepted_blocks, descriptor_faults, page_faults, list_faults}
 use Rattle.sg_pages.specs.ModeSelect.{least, fault_at, first_fault, unless_fault, values_after}
 use Rattle.sg_pages.specs.ModeSelect.{field_faults, pointed_fields, selected_values}
-use Rattle.sg_pages.specs.MultiByteField.{first_byte_of}
+use Rattle.sg_pages.specs.MultiByteField.{first_byte_in}
 use Rattle.sg_pages.proofs.FaultLemmas.{From, Below, From-append, From-weaker, Below-append}
 use Rattle.sg_pages.proofs.FaultLemmas.{Below-weaker, part_faults-below}
 use Rattle.sg_pages.proofs.FieldLemmas.{field_faults-from, field_faults-below}
@@ -167,7 +167,7 @@ no-descriptor width blocks points list e =
     first_fault (length list) (field_faults fields (expected bytes) ignored
     (part_at (header_length width) n list))) e
     ∙ ap (λ xs. first_fault (length list)
-    (map (λ at. header_length width + first_byte_of fields (at - header_length width)) xs ++ []))
+    (map (first_byte_in fields (header_length width)) xs ++ []))
     (differences-nil (header_length width) (expected []) ignored)
 
 -- the descriptor that its length announces

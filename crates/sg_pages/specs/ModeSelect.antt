@@ -22,7 +22,7 @@ use Rattle.sg_pages.specs.ModePage.{values_of, by_page, page_data, parameters_sa
 use Rattle.sg_pages.specs.BlockDescriptor.{number_length, descriptor_length, block_descriptor}
 use Rattle.sg_pages.specs.BlockDescriptor.{descriptor_fields}
 use Rattle.sg_pages.specs.declared.mode_pages.multi_byte_field.MultiByteField.{MultiByteField}
-use Rattle.sg_pages.specs.MultiByteField.{first_byte_of}
+use Rattle.sg_pages.specs.MultiByteField.{first_byte_in}
 
 -- ---- The parts of the list
 
@@ -107,14 +107,10 @@ part_faults expected ignored p = differences p.offset expected ignored p.bytes +
 abbrev pub pointed_fields : (points_at_fields : Bool) → List MultiByteField → List MultiByteField
 pointed_fields points_at_fields fields = if points_at_fields then fields else []
 
--- The first byte of a field of a part, for each byte of the field.
-abbrev pub first_byte_in : (fields : List MultiByteField) → Part → (offset : ℕ) → ℕ
-first_byte_in fields p offset = p.offset + first_byte_of fields (offset - p.offset)
-
 -- The same faults as `part_faults`. A byte that differs points to the first byte of its field.
 abbrev pub field_faults : (fields : List MultiByteField) (expected ignored : List ℕ) → Part → List ℕ
 field_faults fields expected ignored p =
-    map (first_byte_in fields p) (differences p.offset expected ignored p.bytes) ++ truncation_of p
+    map (first_byte_in fields p.offset) (differences p.offset expected ignored p.bytes) ++ truncation_of p
 
 -- The ignored bits of the header before BLOCK DESCRIPTOR LENGTH: MODE DATA LENGTH, DEVICE-SPECIFIC
 -- PARAMETER and LONGLBA. MEDIUM TYPE and the reserved bits have to be zero.

@@ -1,6 +1,7 @@
 -- Where a field pointer points if a byte is at fault: to the first byte of its field (SPC-4,
 -- 4.5.2.4.2).
-use Rattle.std.specs.Prelude.{ℕ, ◌+◌, min, nat_le, nat_lt, Bool, ◌&&◌, if◌then◌else◌, List, [], ◌∷◌}
+use Rattle.std.specs.Prelude.{ℕ, ◌+◌, ◌-◌, min, nat_le, nat_lt, Bool, ◌&&◌, if◌then◌else◌}
+use Rattle.std.specs.Prelude.{List, [], ◌∷◌}
 use Rattle.sg_pages.specs.declared.mode_pages.multi_byte_field.MultiByteField.{MultiByteField}
 
 -- A field of more than one byte: the number of its first byte in the page or in the block
@@ -19,3 +20,7 @@ first_byte_of [] byte = byte
 first_byte_of (field ∷ fields) byte =
     let first = first_byte_of fields byte in
     if has_byte field byte then min field.first first else first
+
+-- The same in a part of the list that starts at an offset: the byte and its first byte are offsets.
+abbrev pub first_byte_in : (fields : List MultiByteField) (start byte : ℕ) → ℕ
+first_byte_in fields start byte = start + first_byte_of fields (byte - start)

@@ -1,11 +1,11 @@
--- The values of the mode pages after a page that MODE SELECT sent.
-use Rattle.std.specs.Prelude.{ℕ, ◌+◌, ◌-◌, ◌==◌, if◌then◌else◌, List, drop}
+-- A page that MODE SELECT sent: the values of the mode pages after it, and where its fault points.
+use Rattle.std.specs.Prelude.{ℕ, ◌==◌, if◌then◌else◌, List, drop}
 use Rattle.sg_pages.specs.declared.mode_pages.mode_page.ModePage.{ModePage}
 use Rattle.sg_pages.specs.declared.mode_pages.mode_page.PageValues.{PageValues}
 use Rattle.sg_pages.specs.declared.mode_pages.mode_select.ModeSelectFault.{ModeSelectFault}
 use Rattle.sg_pages.specs.declared.mode_pages.mode_select.ModeSelectFault.TheVariants.{Length, Field}
 use Rattle.sg_pages.specs.declared.mode_pages.multi_byte_field.MultiByteField.{MultiByteField}
-use Rattle.sg_pages.specs.MultiByteField.{first_byte_of}
+use Rattle.sg_pages.specs.MultiByteField.{first_byte_in}
 use Rattle.sg_pages.specs.ModePage.{by_page, code_of, values_of}
 use Rattle.sg_pages.specs.ModeSelect.{Part, sent_code}
 
@@ -21,8 +21,8 @@ abbrev pub with_values : PageValues → ModePage → List ℕ → PageValues
 with_values values changed bytes =
     by_page (λ page. if code_of changed == code_of page then bytes else values_of values page)
 
--- The fault of a part that begins at an offset, if a byte that differs points to the first byte of
+-- The fault of a part that starts at an offset, if a byte that differs points to the first byte of
 -- its field.
-abbrev pub pointed_fault : (fields : List MultiByteField) (offset : ℕ) → ModeSelectFault → ModeSelectFault
-pointed_fault fields offset Length = Length
-pointed_fault fields offset (Field byte) = Field (offset + first_byte_of fields (byte - offset))
+abbrev pub pointed_fault : (fields : List MultiByteField) (start : ℕ) → ModeSelectFault → ModeSelectFault
+pointed_fault fields start Length = Length
+pointed_fault fields start (Field byte) = Field (first_byte_in fields start byte)
