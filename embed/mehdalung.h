@@ -135,6 +135,8 @@ typedef struct mdl_reply {
     uint8_t sense_length;            /* 0, unless the status is MDL_CHECK_CONDITION */
     uint8_t sense[MDL_SENSE_LENGTH]; /* sense data, and zeros after it */
     size_t data_in_length;           /* data-in is at the start of the buffer */
+    uint64_t data_out_length;        /* how many bytes of data-out the CDB asks for, executed or
+                                        refused; 0 if it is no command of the disk */
     uint64_t visits;                 /* how many records of the map the disk read */
     uint64_t probes;                 /* how many first addresses it compared */
     uint64_t links;                  /* how many links it followed to reach a block */

@@ -129,10 +129,14 @@ static mdl_error execute_command(struct scsi_cmd *cmd, uint32_t initiator, mdl_r
     return MDL_OK;
 }
 
-/* Hands a reply over to tgtd: the status is returned. */
+/* Hands a reply over to tgtd: the status is returned. The residual counts compare the lengths of
+ * data-in and data-out with what the initiator expects. tgtd's counts have 32 bits with a sign. */
 static int deliver(struct scsi_cmd *cmd, const mdl_reply *reply)
 {
+    uint64_t asked = reply->data_out_length;
+
     scsi_set_in_resid_by_actual(cmd, (uint32_t)reply->data_in_length);
+    scsi_set_out_resid_by_actual(cmd, asked < INT32_MAX ? (uint32_t)asked : INT32_MAX);
     memcpy(cmd->sense_buffer, reply->sense, reply->sense_length);
     cmd->sense_len = reply->sense_length;
     return reply->status;

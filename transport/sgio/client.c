@@ -95,6 +95,8 @@ static void execute(struct client *client, mdl_disk *disk)
     header.sense_length = reply.sense_length;
     memcpy(header.sense, reply.sense, MDL_SENSE_LENGTH);
     header.data_in_length = (uint32_t)reply.data_in_length;
+    header.data_out_length =
+        reply.data_out_length < UINT32_MAX ? (uint32_t)reply.data_out_length : UINT32_MAX;
     put_reply_header(client->reply, &header);
     client->sent = 0;
     client->to_send = reply.status == MDL_NO_REPLY ? 0 : REPLY_HEADER_LENGTH + reply.data_in_length;

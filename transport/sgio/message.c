@@ -131,6 +131,7 @@ void put_reply_header(uint8_t *bytes, const struct reply_header *header)
     bytes[3] = header->sense_length;
     put_number(bytes + 4, header->data_in_length);
     memcpy(bytes + 8, header->sense, MDL_SENSE_LENGTH);
+    put_number(bytes + 28, header->data_out_length);
 }
 
 size_t get_reply_header(const uint8_t *bytes, struct reply_header *header)
@@ -141,6 +142,7 @@ size_t get_reply_header(const uint8_t *bytes, struct reply_header *header)
     header->sense_length = bytes[3];
     header->data_in_length = get_number(bytes + 4);
     memcpy(header->sense, bytes + 8, MDL_SENSE_LENGTH);
+    header->data_out_length = get_number(bytes + 28);
     if (header->sense_length > MDL_SENSE_LENGTH || header->data_in_length > MDL_BUFFER_LENGTH)
         return 0;
     return (size_t)REPLY_HEADER_LENGTH + header->data_in_length;

@@ -44,7 +44,9 @@
  *     - 3: SENSE LENGTH, 0 to 20.
  *     - 4 to 7: DATA-IN LENGTH, 0 to 1,048,576.
  *     - 8 to 27: sense data, SENSE LENGTH bytes, and zeros after them.
- *     - 28 on: data-in, DATA-IN LENGTH bytes.
+ *     - 28 to 31: DATA-OUT LENGTH, how many bytes of data-out the CDB asks for, or 4,294,967,295 if
+ *       there are more.
+ *     - 32 on: data-in, DATA-IN LENGTH bytes.
  *
  * If RESULT is not 0, nothing was executed, and all other bytes except TAG are 0. RESULT 255 says
  * that the request is none of these, and its TAG is 0. The server then closes the connection, because
@@ -65,7 +67,7 @@
 
 enum {
     REQUEST_HEADER_LENGTH = 8,
-    REPLY_HEADER_LENGTH = 28,
+    REPLY_HEADER_LENGTH = 32,
     HAPPENING_LENGTH = 65,
     MOST_CDB = 255,
     /* Twice what a WRITE may carry, so that the disk itself refuses one that is too long. */
@@ -88,7 +90,7 @@ struct request_header {
 
 struct reply_header {
     uint8_t result, status, tag, sense_length, sense[MDL_SENSE_LENGTH];
-    uint32_t data_in_length;
+    uint32_t data_in_length, data_out_length;
 };
 
 /* Writes REQUEST_HEADER_LENGTH bytes. */

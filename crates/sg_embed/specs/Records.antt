@@ -22,6 +22,7 @@ pub record Shows (shown : ReplyRecord) (reply : Reply) : Type 0 where
   pub sense_length : shown.sense_length ≡ length reply.sense
   pub sense : shown.sense ≡ overwritten reply.sense (replicate sense_room 0)
   pub data_in : shown.data_in_length ≡ reply.data_in
+  pub data_out : shown.data_out_length ≡ reply.data_out
   pub visits : shown.visits ≡ reply.counts.visits
   pub probes : shown.probes ≡ reply.counts.probes
   pub links : shown.links ≡ reply.counts.links

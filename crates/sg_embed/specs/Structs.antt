@@ -26,6 +26,7 @@ mdl_reply reply =
     ++ bytes 20 reply.sense
     ++ padding 2
     ++ number 8 reply.data_in_length
+    ++ number 8 reply.data_out_length
     ++ number 8 reply.visits
     ++ number 8 reply.probes
     ++ number 8 reply.links

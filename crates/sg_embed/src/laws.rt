@@ -11,7 +11,7 @@ ghost use Rattle.sg_embed.specs.contracts.record.SenseRecord.{the_row as sense_r
 
 /// A [`ReplyRecord`](crate::ReplyRecord) lies in memory as the header declares `mdl_reply`.
 pub fn a_reply_lies_as_in_the_header()
-    ensures bytes { LiesAs reply_record 56 mdl_reply }
+    ensures bytes { LiesAs reply_record 64 mdl_reply }
 {}
 
 /// An [`IdentityRecord`](crate::IdentityRecord) lies in memory as the header declares

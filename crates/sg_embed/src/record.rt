@@ -20,6 +20,8 @@ pub struct ReplyRecord {
     pub sense: [u8; SENSE_LENGTH],
     /// The length of data-in, in bytes from the beginning of the buffer.
     pub data_in_length: usize,
+    /// The number of bytes of data-out that the CDB asks for.
+    pub data_out_length: u64,
     /// Whole records of the map that were read.
     pub visits: u64,
     /// First addresses of records that were compared.
@@ -28,7 +30,7 @@ pub struct ReplyRecord {
     pub links: u64,
 }
 
-const _: () = prove!(size_of::<ReplyRecord>() == 56);
+const _: () = prove!(size_of::<ReplyRecord>() == 64);
 
 impl ReplyRecord {
     /// Becomes the record of a reply.
@@ -40,6 +42,7 @@ impl ReplyRecord {
         self.sense_length = 0;
         self.sense = [0; SENSE_LENGTH];
         self.data_in_length = reply.data_in;
+        self.data_out_length = reply.data_out;
         self.visits = reply.counts.visits;
         self.probes = reply.counts.probes;
         self.links = reply.counts.links;

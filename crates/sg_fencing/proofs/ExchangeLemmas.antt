@@ -21,9 +21,9 @@ use Rattle.sg_store.proofs.ComparisonLemmas.{none-same}
 use Rattle.sg_store.proofs.DiskLemmas.{blocks-more, blocks-none, inside}
 use Rattle.sg_target.specs.BlockCommands.{blocks_at, bytes_of, exchange_out, exchanging, miscompare}
 use Rattle.sg_target.specs.Charge.{step_by}
-use Rattle.sg_target.specs.Checks.{unsupported_value}
+use Rattle.sg_target.specs.Checks.{short_data_out, unsupported_value}
 use Rattle.sg_target.specs.Config.{ConfigFields}
-use Rattle.sg_target.specs.Demands.{demands, extent}
+use Rattle.sg_target.specs.Demands.{demands, exchange_need, extent}
 use Rattle.sg_target.specs.Refusal.{first_some}
 use Rattle.sg_target.specs.State.{IsWithinLimits, State, config_of}
 use Rattle.sg_target.specs.Step.{Step, refused}
@@ -160,7 +160,8 @@ is-asked config (command.CompareAndWrite c) named data_out operation accepted as
     subst (λ (e : Extent). IsAsked e data_out operation) same
     (record {
       is = cc;
-      whole = right-length its data_out (length data_out == 2 * bytes_of its) None refl accepted;
+      whole = right-length its data_out (length data_out == 2 * bytes_of its)
+          (short_data_out (Some (exchange_need its)) data_out) refl accepted;
     })
 is-asked config _ named data_out operation accepted asks h = cc
 

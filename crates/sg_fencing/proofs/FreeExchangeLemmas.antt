@@ -2,6 +2,7 @@
 use Rattle.std.proofs.Common.{◌≡◌, ℕ, ◌+◌, ◌*◌, List, [], ◌∷◌, length, take, drop}
 use Rattle.std.proofs.Common.{cond, Option, Some, None, Result, Ok}
 use Rattle.std.proofs.Common.{refl, sym, ap, ap₂, ◌∙◌, subst, arith}
+use Rattle.std.proofs.lemmas.Bool.{le-ltb}
 use Rattle.std.proofs.lemmas.Bool.Decides.{Decides-eqb}
 use Rattle.std.specs.FinMap.{get, len}
 use Rattle.std.specs.Option.{option_map_or}
@@ -25,7 +26,7 @@ use Rattle.sg_target.specs.BlockCommands.{blocks_at, bytes_of, exchange_out, exc
 use Rattle.sg_target.specs.Checks.{cdb_checks, checked_cdb, checked_effect, checked_operation}
 use Rattle.sg_target.specs.Checks.{checked_parse, medium_checks, not_ready, out_of_range, requested}
 use Rattle.sg_target.specs.Checks.{short_data_out, unsupported_value, write_protection}
-use Rattle.sg_target.specs.Demands.{extent, takes_no_data, wrong_length}
+use Rattle.sg_target.specs.Demands.{Demands, exchange_need, extent, wrong_length}
 use Rattle.sg_target.specs.Effect.{Effect, no_space}
 use Rattle.sg_target.specs.Refusal.{checked_next, first_some, unless_refused}
 use Rattle.sg_target.specs.Semantics.{effect_of, medium_use}
@@ -34,6 +35,7 @@ use Rattle.sg_target.specs.Step.{executed, outcome, refused}
 use Rattle.sg_target.specs.declared.operation.Operation.{Operation}
 use Rattle.sg_target.specs.declared.operation.Operation.TheVariants as operation
 use Rattle.sg_target.specs.declared.refusal.Refusal.{Refusal}
+use Rattle.sg_target.specs.declared.refusal.Refusal.TheVariants.{CheckCondition}
 use Rattle.sg_target.proofs.CommandLemmas.{has-slot, none-needed}
 use Rattle.sg_target.proofs.NeedLemmas.{inside}
 use Rattle.sg_target.proofs.Space.{space-left}
@@ -73,13 +75,19 @@ module _ (state : State) (i : ℕ) (data_out : List ℕ) (named : Extent)
       (protection-none _ state.modes (medium_use asked) free.write.unprotected) refl)))
   by-request (Some refusal) h = cc
 
+  -- what COMPARE AND WRITE of an extent demands
+  abbrev exchange_demands : Extent → Demands
+  exchange_demands e = record {
+    unsupported = wrong_length e data_out;
+    data_out = Some (exchange_need e);
+    operation = Ok (operation.CompareAndWrite (exchange_out e data_out));
+  }
+
   abbrev OfExtent : Extent → Type 0
   OfExtent e = IsItsEffect
       (checked_next
       (checked_next
-      (requested
-      (takes_no_data (wrong_length e data_out) (Ok (operation.CompareAndWrite (exchange_out e data_out))))
-      data_out)
+      (requested (exchange_demands e) data_out)
       (checked_operation state))
       (effect_of state i))
 
@@ -87,12 +95,18 @@ module _ (state : State) (i : ℕ) (data_out : List ℕ) (named : Extent)
   right-length =
       ap (λ b. cond b None (Some 13)) ((Decides-eqb (length data_out) (2 * bytes_of named)).1 free.two_halves)
 
+  none-short : short_data_out (Some (exchange_need named)) data_out ≡ None
+  none-short =
+      ap (λ b. cond b (Some (CheckCondition (exchange_need named).if_short)) None)
+      (le-ltb (length data_out) (2 * bytes_of named) (omega (arith, free.two_halves)))
+
   of-named : OfExtent named
   of-named =
       by-request
-      (first_some (unsupported_value (wrong_length named data_out) ∷ short_data_out None data_out ∷ []))
+      (first_some (unsupported_value (wrong_length named data_out)
+      ∷ short_data_out (Some (exchange_need named)) data_out ∷ []))
       (first-none (unsupported_value (wrong_length named data_out)) _ (ap unsupported_value right-length)
-      refl)
+      (first-none (short_data_out (Some (exchange_need named)) data_out) [] none-short refl))
 
   by-command : (parse : Result Command CdbFault) → blocks_to_exchange parse ≡ Some named
       → IsItsEffect (checked_next (checked_parse state parse data_out) (effect_of state i))

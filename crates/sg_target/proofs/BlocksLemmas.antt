@@ -32,7 +32,7 @@ use Rattle.sg_target.specs.Checks.{requested, short_data_out, unsupported_value,
 use Rattle.sg_target.specs.Config.{ConfigFields}
 use Rattle.sg_target.specs.Demands.{DataOutNeed, Demands, bad_atomic, bad_comparison, bad_count}
 use Rattle.sg_target.specs.Demands.{demands, extent, list_refusal}
-use Rattle.sg_target.specs.Demands.{need, takes, takes_no_data, verify, verify_only}
+use Rattle.sg_target.specs.Demands.{exchange_need, need, takes, verify, verify_only}
 use Rattle.sg_target.specs.Demands.{too_long, bad_anchor, unmap_extent, unmap_extents}
 use Rattle.sg_target.specs.Demands.{unmap_or_fill}
 use Rattle.sg_target.specs.Effect.{Effect}
@@ -157,12 +157,17 @@ verify-sound config check.OneBlock extent byte data_out =
 -- COMPARE AND WRITE has as many bytes to write as to compare
 exchange-sound : (extent : Extent) (data_out : List ℕ) (is_whole : Bool)
     → (length data_out == 2 * bytes_of extent) ≡ is_whole
-    → Sound (requested (takes_no_data (cond is_whole None (Some 13))
-    (Ok (operation.CompareAndWrite (exchange_out extent data_out)))) data_out)
+    → Sound (requested (record {
+      unsupported = cond is_whole None (Some 13);
+      data_out = Some (exchange_need extent);
+      operation = Ok (operation.CompareAndWrite (exchange_out extent data_out));
+    }) data_out)
 exchange-sound extent data_out false e = tt
 exchange-sound extent data_out true e =
     let whole = eqb-true (length data_out) (2 * bytes_of extent) e in
-    omega (arith, whole, length-drop (bytes_of extent) data_out)
+    unless (first_some (short_data_out (Some (exchange_need extent)) data_out ∷ []))
+    (Ok (operation.CompareAndWrite (exchange_out extent data_out)))
+    (λ _. omega (arith, whole, length-drop (bytes_of extent) data_out))
 
 -- FORMAT UNIT brings nothing that has to be sound
 format-sound : (refused : Option Refusal) (blocks : ℕ)

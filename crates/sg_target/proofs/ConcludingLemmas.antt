@@ -20,12 +20,13 @@ use Rattle.sg_target.specs.Armed.{unsent_afterwards}
 use Rattle.sg_target.specs.Charge.{ChargesCommand, CostBounds, IsCharged, TakesArmedStep, TakesStep}
 use Rattle.sg_target.specs.Charge.{armed_ranges, visit_bound}
 use Rattle.sg_target.specs.Checks.{checked_cdb}
+use Rattle.sg_target.specs.Demands.{data_out_length}
 use Rattle.sg_target.specs.Execution.{IsExecuted}
 use Rattle.sg_target.specs.MadeReplies.{finished_reply, reply_afterwards}
 use Rattle.sg_target.specs.Laws.{LimitsAreKept}
 use Rattle.sg_target.specs.Ranges.{Range, ranges_if_passed}
 use Rattle.sg_target.specs.Reply.{Carries, CarriesOf, CarriesStep}
-use Rattle.sg_target.specs.State.{IsWithinLimits, State}
+use Rattle.sg_target.specs.State.{IsWithinLimits, State, config_of}
 use Rattle.sg_target.specs.Step.{Answer, Step, sense_format}
 use Rattle.sg_target.specs.Target.{TargetFields, disk_of}
 use Rattle.sg_target.specs.declared.operation.Operation.{Operation}
@@ -37,7 +38,31 @@ use Rattle.sg_target.proofs.ArmedLemmas.{attempt-unarmed, finished-bad, step-by-
 
 -- ---- What the checks have passed or refused
 
-module _ (limits : LimitsAreKept) (bounds : CostBounds) (i : ℕ) (cdb data_out : List ℕ)
+-- How much data-out the CDB asks for is put into a reply, which carries the same answer.
+abbrev with-asked : (asked : ℕ) → Reply → Reply
+with-asked asked reply = record reply { data_out = asked }
+
+carries-asked : (written : List ℕ) (answer : Answer) (reply : Reply) (asked : ℕ)
+    (buffer buffer' : List ℕ) → CarriesOf written answer reply buffer buffer'
+    → CarriesOf written answer (with-asked asked reply) buffer buffer'
+carries-asked written answer reply asked buffer buffer' h =
+    record { status = h.status; sense = h.sense; size = h.size; data_in = h.data_in }
+
+charged-asked : (bounds : CostBounds) (pool : ℕ) (over : List Range) (from to : Meter) (reply : Reply)
+    (asked : ℕ) → IsCharged bounds pool over from to reply
+    → IsCharged bounds pool over from to (with-asked asked reply)
+charged-asked bounds pool over from to reply asked h = record {
+  visits = h.visits;
+  probes = h.probes;
+  links = h.links;
+  least = h.least;
+  visited = h.visited;
+  counted = h.counted;
+  restarts = h.restarts;
+  idle = h.idle;
+}
+
+module _ (limits : LimitsAreKept) (bounds : CostBounds) (i : ℕ) (cdb data_out : List ℕ) (asked : ℕ)
     (checked : Result Operation Refusal) (old new : TargetFields) (reply : Reply)
     (buffer buffer' : List ℕ) (is : checked ≡ checked_cdb old.state i cdb data_out) where
   abbrev before : Armed
@@ -47,13 +72,17 @@ module _ (limits : LimitsAreKept) (bounds : CostBounds) (i : ℕ) (cdb data_out 
   step-is = ap (armed_step_by before i cdb) is
 
   -- the step is the definition's
-  pub executed : (over : List Range) → IsWithinLimits old.state
+  pub executed : (over : List Range) → asked ≡ data_out_length (config_of old.state) cdb
+      → IsWithinLimits old.state
       → TakesArmedStep bounds (armed_step_by before i cdb checked) over old new reply buffer buffer'
-      → IsExecuted i cdb data_out before (disk_of new) reply buffer buffer'
-  executed over within h =
+      → IsExecuted i cdb data_out before (disk_of new) (with-asked asked reply) buffer buffer'
+  executed over asked_is within h =
       let after = h.after ∙ ap (λ (s : ArmedStep). s.after) step-is in
       record {
-        answer = subst (λ (s : ArmedStep). CarriesStep s reply buffer buffer') step-is h.answer;
+        answer =
+            subst (λ (s : ArmedStep). CarriesStep s (with-asked asked reply) buffer buffer') step-is
+            (carries-asked _ _ reply asked buffer buffer' h.answer);
+        asked = asked_is;
         after = after;
         limits =
             subst (λ (disk : Armed). IsWithinLimits disk.state) (sym after)
@@ -64,14 +93,15 @@ module _ (limits : LimitsAreKept) (bounds : CostBounds) (i : ℕ) (cdb data_out 
   pub charged : IsCharged bounds old.state.disk.pool (armed_ranges before i cdb checked) old.meter
       new.meter reply
       → reply.counts.visits ≤ visit_bound (armed_ranges before i cdb checked)
-      → ChargesCommand bounds i cdb data_out old new reply
+      → ChargesCommand bounds i cdb data_out old new (with-asked asked reply)
   charged charge visits =
       let over = ap (armed_ranges before i cdb) is in
       record {
         charge =
             subst
-            (λ (xs : List Range). IsCharged bounds old.state.disk.pool xs old.meter new.meter reply)
-            over charge;
+            (λ (xs : List Range). IsCharged bounds old.state.disk.pool xs old.meter new.meter
+            (with-asked asked reply)) over
+            (charged-asked bounds old.state.disk.pool _ old.meter new.meter reply asked charge);
         visits = subst (λ (xs : List Range). reply.counts.visits ≤ visit_bound xs) over visits;
       }
 

@@ -1,7 +1,10 @@
 -- Each command's demands on its fields and its data-out, and the operation that it asks for. The
 -- demands depend on the disk only by its configuration, which never changes.
 use Rattle.std.specs.Prelude.{ℕ, ◌+◌, ◌*◌, ◌==◌, length, List, Bool, true, false, ◌&&◌, not}
-use Rattle.std.specs.Prelude.{Option, Some, None, Result, Ok, nat_le, nat_lt, if◌then◌else◌, ok_or}
+use Rattle.std.specs.Prelude.{Option, Some, None, Result, Ok, Err, nat_le, nat_lt, if◌then◌else◌, ok_or, []}
+use Rattle.std.specs.Option.{option_map_or}
+use Rattle.sg_wire.specs.CdbDecoding.{command_in}
+use Rattle.sg_wire.specs.declared.command.CdbFault.{CdbFault}
 use Rattle.sg_wire.specs.declared.command.Command.{Command}
 use Rattle.sg_wire.specs.declared.command.Command.TheVariants as command
 use Rattle.sg_wire.specs.Profile.{rules_of}
@@ -227,15 +230,19 @@ verify config OneBlock extent byte data_out = verify_each config extent byte dat
 -- COMPARE AND WRITE takes the blocks to compare, then as many to write, and no other number of bytes.
 -- The byte is where NUMBER OF LOGICAL BLOCKS is.
 -- Choice (SBC-3, 5.2): data-out of another length may be answered otherwise.
+abbrev pub exchange_need : Extent → DataOutNeed
+exchange_need extent = record { bytes = 2 * bytes_of extent; if_short = InvalidFieldInCdb 13 }
+
 abbrev pub wrong_length : Extent → (data_out : List ℕ) → Option ℕ
 wrong_length extent data_out =
-    if length data_out == 2 * bytes_of extent then None else Some 13
+    if length data_out == (exchange_need extent).bytes then None else Some 13
 
 abbrev pub compare_and_write : CompareAndWrite → (data_out : List ℕ) → Demands
-compare_and_write c data_out =
-    let extent = extent c.lba c.count in
-    takes_no_data (wrong_length extent data_out)
-    (Ok (operation.CompareAndWrite (exchange_out extent data_out)))
+compare_and_write c data_out = let extent = extent c.lba c.count in record {
+  unsupported = wrong_length extent data_out;
+  data_out = Some (exchange_need extent);
+  operation = Ok (operation.CompareAndWrite (exchange_out extent data_out));
+}
 
 -- FORMAT UNIT takes the header of a parameter list with FMTDATA, and no data-out without it.
 abbrev pub format_need : ConfigFields → FormatUnit → Option DataOutNeed
@@ -433,3 +440,21 @@ demands config (command.GetLbaStatus c) data_out =
 demands config (command.PersistentReserveIn c) data_out =
     asks (operation.ReturnReservations c.action c.allocation_length)
 demands config (command.PersistentReserveOut c) data_out = reserve_out config c data_out
+
+-- ---- How much data-out a command takes
+
+abbrev pub needed_by : Demands → ℕ
+needed_by d = option_map_or (λ (need : DataOutNeed). need.bytes) d.data_out 0
+
+-- The bytes of data-out that a command needs do not depend on data-out, which is empty here.
+abbrev pub needed_bytes : ConfigFields → Command → ℕ
+needed_bytes config command = needed_by (demands config command [])
+
+-- The bytes of data-out that a CDB asks for, executed or refused. A CDB that is no command of the disk
+-- asks for none.
+abbrev pub asked_bytes : ConfigFields → Result Command CdbFault → ℕ
+asked_bytes config (Ok command) = needed_bytes config command
+asked_bytes config (Err fault) = 0
+
+abbrev pub data_out_length : ConfigFields → (cdb : List ℕ) → ℕ
+data_out_length config cdb = asked_bytes config (command_in config.identity.profile cdb)

@@ -1,4 +1,5 @@
--- The replies that a target makes.
+-- The replies that a target makes. How much data-out the CDB asks for is put into a reply as its
+-- command ends.
 use Rattle.std.specs.Prelude.{◌≡◌, ℕ, min, List, [], length, Option, Some, None}
 use Rattle.sg_wire.specs.FirstBytes.{overwritten}
 use Rattle.sg_wire.specs.SenseData.{sense_data}
@@ -17,16 +18,19 @@ use Rattle.sg_target.specs.declared.reply.Status.TheVariants.{Good, CheckConditi
 
 -- The reply to a command that was executed.
 abbrev pub executed_reply : (data_in : ℕ) → Counts → Reply
-executed_reply data_in counts = record { status = Good; sense = []; data_in = data_in; counts = counts }
+executed_reply data_in counts =
+    record { status = Good; sense = []; data_in = data_in; data_out = 0; counts = counts }
 
 -- A reply with only a status.
 abbrev pub status_reply : Status → Counts → Reply
-status_reply status counts = record { status = status; sense = []; data_in = 0; counts = counts }
+status_reply status counts =
+    record { status = status; sense = []; data_in = 0; data_out = 0; counts = counts }
 
 -- The reply to a command that was refused.
 abbrev pub refused_reply : Format → Refusal → Counts → Reply
-refused_reply format refusal counts = let answer = refusal_answer format refusal in
-    record { status = answer.status; sense = answer.sense; data_in = 0; counts = counts }
+refused_reply format refusal counts =
+    let answer = refusal_answer format refusal in
+    record (status_reply answer.status counts) { sense = answer.sense }
 
 -- The reply to a command that has ended with GOOD, after a fault afterwards.
 abbrev pub reply_afterwards : Format → Reply → Afterwards → Reply

@@ -20,6 +20,7 @@ ghost use Rattle.sg_target.specs.State.{IsWithinLimits};
 ghost use Rattle.sg_target.specs.Step.{sense_format};
 ghost use Rattle.sg_target.specs.Target.{disk_of};
 
+use crate::data_out::asked_bytes;
 use crate::extent::one_block;
 use crate::laws::limits_are_kept;
 use crate::operation::Operation;
@@ -31,7 +32,7 @@ use sg_faults::{
     Accessed, Afterwards, ArmedFault, AtMedium, Fault, OnArrival, SeenCommand, SenseCode, SenseKey,
 };
 use sg_store::{Counts, MAX_CAPACITY, Store};
-use sg_wire::{Extent, Initiator, UnmapList};
+use sg_wire::{Command, Extent, Initiator, UnmapList};
 
 /// The first blocks of an extent, at most this many.
 pub(crate) fn first_of(blocks: u32, extent: Extent) -> Extent
@@ -259,10 +260,14 @@ impl<S: Store> Target<S> {
             self.old self.new result }
     {
         limits_are_kept();
-        let checked = self.check_command(initiator, cdb, data_out);
+        let command = Command::read_in(self.profile(), cdb);
+        let asked = asked_bytes(&command);
+        let checked = self.check_command(initiator, cdb, command, data_out);
         // Its contract says that no data-in is longer than the longest.
         let _ = data_in_bound(&checked);
-        self.conclude_armed(initiator, cdb, checked, buf)
+        let mut reply = self.conclude_armed(initiator, cdb, checked, buf);
+        reply.data_out = asked;
+        reply
     }
 
     /// Executes a command that the checks have passed, or refuses it, while faults are armed or if it arms

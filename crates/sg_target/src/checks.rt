@@ -21,8 +21,9 @@ use sg_units::UnitAttention;
 use sg_wire::{CdbFault, Command, Initiator, Profile};
 
 impl<S: Store> Target<S> {
-    /// Makes the checks of a CDB, its command and its operation. Returns the operation. Its
-    /// execution checks what it asks of the disk's pages and reservations, and of its space.
+    /// Makes the checks of a CDB, its command and its operation. `command` is what the disk reads in
+    /// the CDB. Returns the operation. Its execution checks what it asks of the disk's pages and
+    /// reservations, and of its space.
     // Inlined, with what it calls: a command would pay for each call. The compiler does so by itself
     // only where one function calls them, and a command on a disk with armed faults calls them too.
     #[inline(always)]
@@ -31,8 +32,10 @@ impl<S: Store> Target<S> {
         &self,
         initiator: Initiator,
         cdb: &[u8],
+        command: Result<Command, CdbFault>,
         data_out: &'a [u8],
     ) -> Result<Operation<'a>, Refusal>
+        requires { command ≡ command_in (profile_of self.now.state) cdb.now }
         ensures checked { result ≡ checked_cdb self.now.state initiator cdb.now data_out.now }
         ensures on_disk { IfOk result (λ operation.
             AreOnDisk self.now.state.disk.capacity (medium_use operation).extents) }
@@ -40,14 +43,20 @@ impl<S: Store> Target<S> {
     {
         // Its contract says that the blocks are well formed.
         let _ = self.store.used();
-        let command = self.check_cdb(initiator, cdb)?;
+        let command = self.check_cdb(initiator, cdb, command)?;
         let operation = operation_of(self.config(), &command, data_out)?;
         self.check_operation(operation)
     }
 
-    /// Makes the checks of a CDB. Returns its command.
+    /// Makes the checks of a CDB, in which the disk reads `command`. Returns the command.
     #[inline(always)]
-    fn check_cdb(&self, initiator: Initiator, cdb: &[u8]) -> Result<Command, Refusal>
+    fn check_cdb(
+        &self,
+        initiator: Initiator,
+        cdb: &[u8],
+        command: Result<Command, CdbFault>,
+    ) -> Result<Command, Refusal>
+        requires { command ≡ command_in (profile_of self.now.state) cdb.now }
         ensures refused { IfErr result (λ refusal.
             first_some (cdb_checks self.now.state initiator cdb.now) ≡ Some refusal) }
         ensures passed { IfOk result (λ _.
@@ -55,7 +64,6 @@ impl<S: Store> Target<S> {
         ensures command { IfOk result (λ command.
             command_in (profile_of self.now.state) cdb.now ≡ Ok command) }
     {
-        let command = Command::read_in(self.profile(), cdb);
         if let Err(CdbFault::Empty) = command {
             return Err(Refusal::from(CdbFault::Empty));
         }

@@ -37,7 +37,7 @@ pub(crate) fn check_format_unit<'a>(
 }
 
 /// The length of the header of the parameter list, in bytes.
-fn header_length(long_list: bool) -> usize
+pub(crate) fn header_length(long_list: bool) -> usize
     ensures { result ≡ header_length long_list }
 {
     if long_list { 8 } else { 4 }

@@ -8,11 +8,13 @@ ghost use Rattle.sg_target.specs.DataInBound.{checked_bound, data_in_bound, need
 ghost use Rattle.sg_target.specs.Execution.{IsExecuted};
 ghost use Rattle.sg_target.specs.Extents.{AreOnDisk};
 ghost use Rattle.sg_target.specs.Semantics.{medium_use};
-ghost use Rattle.sg_target.specs.State.{IsWithinLimits};
+ghost use Rattle.sg_target.specs.Demands.{data_out_length};
+ghost use Rattle.sg_target.specs.State.{IsWithinLimits, config_of};
 ghost use Rattle.sg_target.specs.Target.{disk_of};
 
 use crate::armed::arms_fault;
 use crate::call::Call;
+use crate::data_out::asked_bytes;
 use crate::extent::byte_length;
 use crate::laws::limits_are_kept;
 use crate::operation::Operation;
@@ -24,7 +26,7 @@ use crate::target::Target;
 use sg_pages::{CAPACITY_10_LENGTH, CAPACITY_16_LENGTH, LONGEST_MODE_LIST, LONGEST_REPORT};
 use sg_store::{Counts, Store};
 use sg_units::LONGEST_RESERVE_IN_DATA;
-use sg_wire::Initiator;
+use sg_wire::{Command, Initiator};
 
 impl<'a> Operation<'a> {
     /// The most bytes of data-in that it returns.
@@ -111,7 +113,9 @@ impl<S: Store> Target<S> {
         ensures kept { IfNone result (self.new ≡ self.old) }
         ensures untouched { IfNone result (buf.new ≡ buf.old) }
     {
-        let checked = self.check_command(initiator, cdb, data_out);
+        let command = Command::read_in(self.profile(), cdb);
+        let asked = asked_bytes(&command);
+        let checked = self.check_command(initiator, cdb, command, data_out);
         if buf.len() < data_in_bound(&checked) {
             return None;
         }
@@ -123,18 +127,21 @@ impl<S: Store> Target<S> {
             cdb,
             data_out,
         };
-        Some(self.conclude(call, checked, buf))
+        Some(self.conclude(call, asked, checked, buf))
     }
 
-    /// Executes a command that the checks have passed, or refuses it, while no fault is armed.
+    /// Executes a command that the checks have passed, or refuses it, while no fault is armed. Its CDB
+    /// asks for `asked` bytes of data-out.
     #[inline(always)]
     pub(crate) fn conclude(
         &mut self,
         call: Call<'_>,
+        asked: u64,
         checked: Result<Operation<'_>, Refusal>,
         buf: &mut [u8],
     ) -> Reply
         requires unarmed { is_armed self.old.faults ≡ false }
+        requires asked { asked ≡ data_out_length (config_of self.old.state) call.cdb.now }
         requires checked { checked
             ≡ checked_cdb self.old.state call.initiator call.cdb.now call.data_out.now }
         requires on_disk { IfOk checked (λ operation.
@@ -153,9 +160,11 @@ impl<S: Store> Target<S> {
         if arms_fault(&checked) {
             return self.execute_armed(call.initiator, call.cdb, call.data_out, buf);
         }
-        match checked {
+        let mut reply = match checked {
             Ok(operation) => self.execute_checked(call.initiator, operation, buf),
             Err(refusal) => self.refuse(call.initiator, refusal, Counts::default()),
-        }
+        };
+        reply.data_out = asked;
+        reply
     }
 }

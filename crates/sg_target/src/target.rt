@@ -1,6 +1,7 @@
 // The parts of a target, and its calls: a new one, a command, a happening.
 use crate::call::Call;
 use crate::config::Config;
+use crate::data_out::asked_bytes;
 use crate::happening::Happening;
 use crate::refusal::{Reason, Refusal};
 use crate::reply::{Reply, format_of};
@@ -9,7 +10,7 @@ use sg_faults::{Fault, Faults};
 use sg_pages::ModePages;
 use sg_store::{BLOCK_LENGTH, Counts, MAX_CAPACITY, Store};
 use sg_units::{Attentions, Raised, Reservations, UnitAttention};
-use sg_wire::{Format, Initiator, MAXIMUM_TRANSFER_LENGTH};
+use sg_wire::{Command, Format, Initiator, MAXIMUM_TRANSFER_LENGTH};
 use std::alloc::{AllocError, Global};
 use std::marker::Model;
 
@@ -127,7 +128,9 @@ impl<S: Store> Target<S> {
         if self.faults.is_armed() {
             return self.execute_armed(initiator, cdb, data_out, buf);
         }
-        let checked = self.check_command(initiator, cdb, data_out);
+        let command = Command::read_in(self.profile(), cdb);
+        let asked = asked_bytes(&command);
+        let checked = self.check_command(initiator, cdb, command, data_out);
         // Its contract says that the buffer is long enough.
         let _ = data_in_bound(&checked);
         let call = Call {
@@ -135,7 +138,7 @@ impl<S: Store> Target<S> {
             cdb,
             data_out,
         };
-        self.conclude(call, checked, buf)
+        self.conclude(call, asked, checked, buf)
     }
 
     /// Lets something happen to the disk, between two commands.

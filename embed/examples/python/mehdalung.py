@@ -134,8 +134,8 @@ class IdentityRecord(ctypes.Structure):
 class ReplyRecord(ctypes.Structure):
     """mdl_reply."""
     _fields_ = [("status", c_uint8), ("sense_length", c_uint8), ("sense", c_uint8 * 20),
-                ("data_in_length", c_size_t), ("visits", c_uint64), ("probes", c_uint64),
-                ("links", c_uint64)]
+                ("data_in_length", c_size_t), ("data_out_length", c_uint64), ("visits", c_uint64),
+                ("probes", c_uint64), ("links", c_uint64)]
 
 
 class Fault(ctypes.Structure):
@@ -265,12 +265,13 @@ def identity(vendor="SGMODEL", product="THIN DISK", revision="0100", serial="000
 
 class Reply(NamedTuple):
     """The reply to a command. Its kind says how data-in is printed: Kind.HEX, unless a tool sent
-    the command."""
+    the command. data_out_length is how many bytes of data-out the CDB asks for."""
     status: int
     sense: bytes
     data_in: bytes
     kind: Kind
     exit_status: int
+    data_out_length: int
 
     def text(self):
         """Returns what sgrun prints of it after its status: sense data, or data-in if there is
@@ -306,7 +307,7 @@ class Disk:
             self.data_in, BUFFER_LENGTH, record))
         return Reply(record.status, bytes(record.sense[:record.sense_length]),
                      bytes(self.data_in[:record.data_in_length]), Kind(kind),
-                     LIBRARY.mdl_exit_status(record))
+                     LIBRARY.mdl_exit_status(record), record.data_out_length)
 
     def tool(self, initiator, words):
         """Executes what the words of a tool ask for, such as "sg_vpd -p lbpv"."""

@@ -159,18 +159,30 @@ static int next_request(struct request *request)
     return faults > 0;
 }
 
+/* The residual count of a request that the library has replied to. tgtd's counts have 32 bits with a
+ * sign. */
+static long residual_of(const struct request *request, const mdl_reply *reply)
+{
+    uint64_t asked = reply->data_out_length < INT32_MAX ? reply->data_out_length : INT32_MAX;
+
+    switch (request->direction) {
+    case DATA_IN: return (long)request->length - (long)reply->data_in_length;
+    case DATA_OUT: return (long)request->length - (long)asked;
+    default: return 0;
+    }
+}
+
 /* The reply that an initiator should get to a request which the library has replied to. */
 static int agrees(const struct request *request, const mdl_reply *reply, const uint8_t *data_in,
                   const struct answer *answer)
 {
     size_t room = request->direction == DATA_IN ? request->length : 0;
     size_t length = reply->data_in_length < room ? reply->data_in_length : room;
-    long residual = request->direction == DATA_IN ? (long)room - (long)reply->data_in_length : 0;
 
     return answer->status == reply->status && answer->sense_length == reply->sense_length
            && memcmp(answer->sense, reply->sense, reply->sense_length) == 0
            && answer->data_in_length == length && memcmp(answer->data_in, data_in, length) == 0
-           && answer->residual == residual;
+           && answer->residual == residual_of(request, reply);
 }
 
 static void print_difference(unsigned long number, const struct request *request,

@@ -86,13 +86,17 @@ static int is_dropped(const struct answer *answer)
            && sense.key == RECOVERED_ERROR;
 }
 
-/* Data-in and its residual make up the expected length; all data-out is transferred. */
+/* Data-in and its residual make up the expected length. A CDB may ask for more data-out than there is,
+ * but what it leaves is no more than there was. */
 static int has_wrong_residual(const struct answer *answer, const struct request *request)
 {
-    size_t transferred = request->direction == DATA_IN ? answer->data_in_length : request->length;
+    long expected = (long)request->length;
 
-    return answer->status != NO_REPLY && !is_dropped(answer)
-           && (answer->residual < 0 || transferred + (size_t)answer->residual != request->length);
+    if (answer->status == NO_REPLY || is_dropped(answer))
+        return 0;
+    if (request->direction != DATA_IN)
+        return answer->residual > expected;
+    return answer->residual < 0 || (long)answer->data_in_length + answer->residual != expected;
 }
 
 /* Prints an answer. The first status that is not 0 decides the exit status. */

@@ -101,21 +101,20 @@ static void put_sense(sg_io_hdr_t *header, const struct reply_header *reply)
     header->driver_status = DRIVER_HAS_SENSE;
 }
 
-/* Writes a reply into the header. Data-in that has no room is dropped. The disk does not report how
- * much of data-out it took, so the residual count of data-out is 0. */
+/* Writes a reply into the header. Data-in that has no room is dropped. The residual count is what is
+ * left of the buffer: what data-in does not fill, or the data-out for which the CDB does not ask. */
 static void put_reply(sg_io_hdr_t *header, const struct reply_header *reply)
 {
-    uint32_t length = reply->data_in_length;
     int is_out = header->dxfer_direction == SG_DXFER_TO_DEV;
+    uint32_t length = is_out ? reply->data_out_length : reply->data_in_length;
 
     header->status = reply->status;
     header->masked_status = reply->status >> 1 & 0x1F;
     put_sense(header, reply);
-    if (!is_out) {
-        length = length < header->dxfer_len ? length : header->dxfer_len;
+    length = length < header->dxfer_len ? length : header->dxfer_len;
+    if (!is_out)
         move_data(header, data_in, length, 0);
-        header->resid = (int)(header->dxfer_len - length);
-    }
+    header->resid = (int)(header->dxfer_len - length);
     if (header->masked_status || header->driver_status)
         header->info |= SG_INFO_CHECK;
 }

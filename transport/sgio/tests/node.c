@@ -229,6 +229,25 @@ static void moves_parts(void)
     WANT(buffer[1000] == 2 && buffer[1400] == GUARD && buffer[2011] == 3 && buffer[2012] == GUARD);
 }
 
+/* The residual count of data-out is what the CDB does not ask for, executed or refused. */
+static void leaves_data_out(void)
+{
+    static uint8_t write_3[10] = { 0x2A, 0, 0, 0, 0, 3, 0, 0, 1 };
+    static uint8_t write_nowhere[10] = { 0x2A, 0xFF, 0, 0, 0, 0, 0, 0, 1 };
+    static uint8_t reserved_bit[10] = { 0x2A, 0x01, 0, 0, 0, 0, 0, 0, 1 };
+    sg_io_hdr_t header = header_of(write_3, 10, SG_DXFER_TO_DEV, 3 * BLOCK);
+
+    WANT(ioctl(node, SG_IO, &header) == 0 && header.status == 0 && header.resid == 2 * BLOCK);
+    header = header_of(write_3, 10, SG_DXFER_TO_DEV, BLOCK - 1);
+    WANT(ioctl(node, SG_IO, &header) == 0 && header.status == 2 && header.resid == 0);
+    header = header_of(write_nowhere, 10, SG_DXFER_TO_DEV, BLOCK + 1);
+    WANT(ioctl(node, SG_IO, &header) == 0 && header.status == 2 && header.resid == 1);
+    header = header_of(reserved_bit, 10, SG_DXFER_TO_DEV, BLOCK);
+    WANT(ioctl(node, SG_IO, &header) == 0 && header.status == 2 && header.resid == BLOCK);
+    header = header_of(test_unit_ready, 6, SG_DXFER_TO_DEV, 5);
+    WANT(ioctl(node, SG_IO, &header) == 0 && header.status == 0 && header.resid == 5);
+}
+
 /* Sense data of 18 bytes goes as far as the buffer has room. */
 static void cuts_sense(void)
 {
@@ -375,6 +394,7 @@ int main(void)
     answers_ioctls();
     counts_what_is_left();
     moves_parts();
+    leaves_data_out();
     cuts_sense();
     resets();
     serves_threads();

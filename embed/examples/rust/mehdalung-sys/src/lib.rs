@@ -129,6 +129,7 @@ pub struct mdl_reply {
     pub sense_length: u8,
     pub sense: [u8; 20],
     pub data_in_length: usize,
+    pub data_out_length: u64,
     pub visits: u64,
     pub probes: u64,
     pub links: u64,

@@ -56,6 +56,11 @@ impl Reply<'_> {
         self.record.status
     }
 
+    /// How many bytes of data-out the CDB asks for, executed or refused.
+    pub fn data_out_length(&self) -> u64 {
+        self.record.data_out_length
+    }
+
     pub fn sense(&self) -> &[u8] {
         &self.record.sense[..usize::from(self.record.sense_length)]
     }

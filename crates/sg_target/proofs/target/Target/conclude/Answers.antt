@@ -38,11 +38,11 @@ none-by (Some fault) e = cc
 
 pub returns-in-Ok-clause-executed : goal.returns-in-Ok-clause-executed
 returns-in-Ok-clause-executed g c =
-    executed c.limits_are_kept.ensures (cost_bounds g.S.Store.price g.S.Store.least) _ _ _
-    c.args.checked c.args.self.now _ _ _ _ c.requires.checked _ c.requires.limits
+    executed c.limits_are_kept.ensures (cost_bounds g.S.Store.price g.S.Store.least) _ _ _ c.args.asked
+    c.args.checked c.args.self.now _ _ _ _ c.requires.checked _ c.requires.asked c.requires.limits
     (taken c.unarmed_faults_do_nothing.ensures _ _ _ _ _ _ _ _ _ _ c.requires.unarmed
     (none-by _ (sym c.if-arms_fault.false ∙ c.arms_fault.ensures)) c.in-Ok.is
-    c.execute_checked.ensures)
+    c.execute_checked-reply.ensures)
 
 pub returns-in-Ok-clause-charged : goal.returns-in-Ok-clause-charged
 returns-in-Ok-clause-charged g c =
@@ -53,9 +53,9 @@ returns-in-Ok-clause-charged g c =
     let step =
     taken c.unarmed_faults_do_nothing.ensures bounds i cdb c.in-Ok.operation c.args.checked
     c.args.self.now _ _ c.args.buf.now _ c.requires.unarmed
-    (none-by _ (sym c.if-arms_fault.false ∙ c.arms_fault.ensures)) c.in-Ok.is c.execute_checked.ensures in
+    (none-by _ (sym c.if-arms_fault.false ∙ c.arms_fault.ensures)) c.in-Ok.is c.execute_checked-reply.ensures in
     let within = price-within g.S.Store.price g.met.S.Store.price_within over in
-    let few : c.execute_checked.result.counts.visits ≤ visit_bound over =
+    let few : c.execute_checked-reply.result.counts.visits ≤ visit_bound over =
     omega (arith, within, step.charge.visits) in
-    charged c.limits_are_kept.ensures bounds i cdb _ c.args.checked c.args.self.now _ _ c.args.buf.now
-    c.execute_checked.new.buf c.requires.checked step.charge few
+    charged c.limits_are_kept.ensures bounds i cdb _ c.args.asked c.args.checked c.args.self.now _ _
+    c.args.buf.now c.execute_checked-reply.new.buf c.requires.checked step.charge few
