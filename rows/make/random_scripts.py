@@ -38,11 +38,11 @@ TOOL_LINES = ("sg_inq", "sg_inq -l 5", "sg_vpd -p di", "sg_vpd -p bl", "sg_modes
 EXTENDED_LINES = (
     "sg_turs", "sg_requests", "sg_requests -d -m 5", "sg_luns", "sg_luns -s 1 -H", "sg_opcodes",
     "sg_opcodes -o 28h", "sg_opcodes -o 9eh -s 16 -R", "sg_opcodes -t -q", "sg_logs",
-    "sg_logs -p 2f", "sg_readcap", "sg_readcap -l", "sg_sync", "sg_sync -l A -c N",
+    "sg_logs -p 2fh", "sg_readcap", "sg_readcap -l", "sg_sync", "sg_sync -l A -c N",
     "sg_sync --16 -l A -c N", "sg_verify -l A -c N", "sg_verify --16 -l A -c N",
     "sg_verify -l A -c N -i B", "sg_verify -l A -c N -E 3 -i B", "sg_compare_and_write -l A -i B",
     "sg_compare_and_write -l A -i B", "sg_write_same -l A -n N -i B", "sg_write_same -S -l A -n N -U",
-    "sg_write_same --10 -l A -n N -i B")
+    "sg_write_same --10 -l A -n N -i B", "sg_start", "sg_start -s", "sg_start -S", "sg_start -p 3 -m 1")
 # Verbs of an extended disk
 HAPPENINGS = ("reset", "reset", "reset target", "nexus", "nexus", "grow", *4 * ("attention",),
               *7 * ("fault",), "faults", "faults", "heal", "heal")

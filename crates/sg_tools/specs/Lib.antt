@@ -7,6 +7,7 @@ pub mod Number
 pub mod OptionTexts
 pub mod DataOut
 pub mod DataOutOptions
+pub mod StartOptions
 pub mod Requests
 pub mod ParameterLists
 pub mod ExitStatus

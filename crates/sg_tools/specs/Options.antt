@@ -12,6 +12,7 @@ use Rattle.sg_tools.specs.declared.tool_name.ToolName.TheVariants.{SgTurs, SgReq
 use Rattle.sg_tools.specs.declared.tool_name.ToolName.TheVariants.{SgOpcodes, SgLogs, SgReadcap}
 use Rattle.sg_tools.specs.declared.tool_name.ToolName.TheVariants.{SgSync, SgVerify}
 use Rattle.sg_tools.specs.declared.tool_name.ToolName.TheVariants.{SgCompareAndWrite, SgWriteSame}
+use Rattle.sg_tools.specs.declared.tool_name.ToolName.TheVariants.{SgStart}
 
 -- ---- The tables
 
@@ -146,6 +147,15 @@ options_of SgWriteSame =
     ∷ flag "U" "unmap"  -- UNMAP
     ∷ text "i" "in"  -- data-out
     ∷ flag "f" "ff"  -- data-out: a block of FFh in place of zeros
+    ∷ []
+options_of SgStart =
+    flag "e" "eject"  -- LOEJ, and no START
+    ∷ flag "l" "load"  -- LOEJ, and START
+    ∷ flag "L" "loej"  -- LOEJ
+    ∷ text "m" "mod"  -- POWER CONDITION MODIFIER
+    ∷ text "p" "pc"  -- POWER CONDITION
+    ∷ flag "s" "start"  -- START, as without it
+    ∷ flag "S" "stop"  -- no START
     ∷ []
 
 -- ---- The command line

@@ -13,6 +13,7 @@ use Rattle.sg_tools.specs.DataOutOptions.{block_or_nothing, byte_check_or, data_
 use Rattle.sg_tools.specs.DataOutOptions.{filled_block, given_bytes, has_data, has_two_sources}
 use Rattle.sg_tools.specs.DataOutOptions.{is_none_given, short_extent, write_same}
 use Rattle.sg_tools.specs.Number.{number_up_to}
+use Rattle.sg_tools.specs.StartOptions.{has_two_actions, start_or_stop}
 use Rattle.sg_wire.specs.OutList.{list_length}
 use Rattle.sg_wire.specs.PageControl.{page_control_with}
 use Rattle.sg_wire.specs.UnmapList.{maximum_unmap_descriptors, unmap_list_length}
@@ -34,6 +35,7 @@ use Rattle.sg_tools.specs.declared.tool_name.ToolName.TheVariants.{SgTurs, SgReq
 use Rattle.sg_tools.specs.declared.tool_name.ToolName.TheVariants.{SgOpcodes, SgLogs, SgReadcap}
 use Rattle.sg_tools.specs.declared.tool_name.ToolName.TheVariants.{SgSync, SgVerify}
 use Rattle.sg_tools.specs.declared.tool_name.ToolName.TheVariants.{SgCompareAndWrite, SgWriteSame}
+use Rattle.sg_tools.specs.declared.tool_name.ToolName.TheVariants.{SgStart}
 use Rattle.sg_wire.specs.declared.command.Command.{Command}
 use Rattle.sg_wire.specs.declared.command.Command.TheVariants.{ModeSense6, ModeSense10}
 use Rattle.sg_wire.specs.declared.command.Command.TheVariants.{ReadCapacity10, SynchronizeCache10}
@@ -451,6 +453,20 @@ sg_write_same rows =
     (number_or 0 (2 ^ 64 - 1) lba) (number_or 1 (2 ^ 32 - 1) count)
     (data_or (filled_block ones) word))
 
+-- ---- sg_start: START STOP UNIT
+
+-- --load and --eject set LOEJ, as --loej does. The unit is started, unless it is to be stopped or ejected.
+abbrev pub sg_start : List Row → Request
+sg_start rows =
+    let load = is_set (codes "load") rows in
+    let stop = is_set (codes "stop") rows in
+    let eject = is_set (codes "eject") rows in
+    let loej = load || (eject || is_set (codes "loej") rows) in
+    unless_exclusive (has_two_actions (is_set (codes "start") rows) load stop eject)
+    (with_value (number_or 0 15 (text_of (codes "mod") rows)) (λ modifier.
+    with_value (number_or 0 15 (text_of (codes "pc") rows)) (λ condition.
+    asks (start_or_stop modifier condition loej (not (stop || eject))) show.Nothing)))
+
 -- ---- Every tool
 
 abbrev pub request_of : ToolName → List Row → Request
@@ -470,6 +486,7 @@ request_of SgSync rows = sg_sync rows
 request_of SgVerify rows = sg_verify rows
 request_of SgCompareAndWrite rows = sg_compare_and_write rows
 request_of SgWriteSame rows = sg_write_same rows
+request_of SgStart rows = sg_start rows
 
 abbrev pub request_by : ToolName → Result (List Row) ToolFault → Request
 request_by tool (Err fault) = Err fault

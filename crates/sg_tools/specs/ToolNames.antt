@@ -9,6 +9,7 @@ use Rattle.sg_tools.specs.declared.tool_name.ToolName.TheVariants.{SgTurs, SgReq
 use Rattle.sg_tools.specs.declared.tool_name.ToolName.TheVariants.{SgOpcodes, SgLogs, SgReadcap}
 use Rattle.sg_tools.specs.declared.tool_name.ToolName.TheVariants.{SgSync, SgVerify}
 use Rattle.sg_tools.specs.declared.tool_name.ToolName.TheVariants.{SgCompareAndWrite, SgWriteSame}
+use Rattle.sg_tools.specs.declared.tool_name.ToolName.TheVariants.{SgStart}
 use Rattle.sg_wire.specs.Profile.{is_in}
 use Rattle.sg_wire.specs.declared.profile.Profile.{Profile}
 use Rattle.sg_wire.specs.declared.profile.Profile.TheVariants.{Base, Extended}
@@ -42,6 +43,7 @@ row_of SgSync = extended SgSync (codes "sg_sync")
 row_of SgVerify = extended SgVerify (codes "sg_verify")
 row_of SgCompareAndWrite = extended SgCompareAndWrite (codes "sg_compare_and_write")
 row_of SgWriteSame = extended SgWriteSame (codes "sg_write_same")
+row_of SgStart = extended SgStart (codes "sg_start")
 
 abbrev pub name_of : ToolName → Text
 name_of tool = (row_of tool).name
@@ -49,7 +51,8 @@ name_of tool = (row_of tool).name
 abbrev pub each_tool : List ToolName
 each_tool =
     SgInq ∷ SgVpd ∷ SgModes ∷ SgUnmap ∷ SgGetLbaStatus ∷ SgPersist ∷ SgTurs ∷ SgRequests ∷ SgLuns
-    ∷ SgOpcodes ∷ SgLogs ∷ SgReadcap ∷ SgSync ∷ SgVerify ∷ SgCompareAndWrite ∷ SgWriteSame ∷ []
+    ∷ SgOpcodes ∷ SgLogs ∷ SgReadcap ∷ SgSync ∷ SgVerify ∷ SgCompareAndWrite ∷ SgWriteSame
+    ∷ SgStart ∷ []
 
 -- The tools that a script for a disk of a profile has.
 abbrev pub tools_of : Profile → List ToolName

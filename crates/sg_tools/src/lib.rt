@@ -22,6 +22,7 @@ mod report;
 mod reserve;
 mod service_action;
 mod show;
+mod start_stop;
 mod synchronize_cache;
 mod tool;
 mod tool_fault;

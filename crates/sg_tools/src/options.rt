@@ -118,6 +118,16 @@ const SG_WRITE_SAME: &[ToolOption] = &[
     Flag('f', "ff"),
 ];
 
+const SG_START: &[ToolOption] = &[
+    Flag('e', "eject"),
+    Flag('l', "load"),
+    Flag('L', "loej"),
+    Text('m', "mod"),
+    Text('p', "pc"),
+    Flag('s', "start"),
+    Flag('S', "stop"),
+];
+
 /// The options of a tool.
 fn options_of(tool: ToolName) -> &'static [ToolOption]
     ensures { option_rows result.now ≡ options_of tool }
@@ -139,6 +149,7 @@ fn options_of(tool: ToolName) -> &'static [ToolOption]
         ToolName::SgVerify => SG_VERIFY,
         ToolName::SgCompareAndWrite => SG_COMPARE_AND_WRITE,
         ToolName::SgWriteSame => SG_WRITE_SAME,
+        ToolName::SgStart => SG_START,
     }
 }
 

@@ -17,6 +17,7 @@ use crate::parameters::Parameters;
 use crate::report::{sg_luns, sg_opcodes};
 use crate::reserve::sg_persist;
 use crate::show::Show;
+use crate::start_stop::sg_start;
 use crate::synchronize_cache::sg_sync;
 use crate::tool_fault::ToolFault;
 use crate::tool_name::ToolName;
@@ -139,5 +140,6 @@ fn request_of(tool: ToolName, options: &GivenOptions) -> Result<Tool, ToolFault>
         ToolName::SgVerify => sg_verify(options),
         ToolName::SgCompareAndWrite => sg_compare_and_write(options),
         ToolName::SgWriteSame => sg_write_same(options),
+        ToolName::SgStart => sg_start(options),
     }
 }

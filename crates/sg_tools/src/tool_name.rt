@@ -41,6 +41,8 @@ pub enum ToolName {
     SgCompareAndWrite,
     /// sg_write_same sends WRITE SAME.
     SgWriteSame,
+    /// sg_start sends START STOP UNIT.
+    SgStart,
 }
 
 impl ToolName {
@@ -78,6 +80,7 @@ impl ToolName {
             "sg_verify" => ToolName::SgVerify,
             "sg_compare_and_write" => ToolName::SgCompareAndWrite,
             "sg_write_same" => ToolName::SgWriteSame,
+            "sg_start" => ToolName::SgStart,
             _ => return None,
         })
     }
@@ -102,7 +105,8 @@ impl ToolName {
             | ToolName::SgSync
             | ToolName::SgVerify
             | ToolName::SgCompareAndWrite
-            | ToolName::SgWriteSame => Profile::Extended,
+            | ToolName::SgWriteSame
+            | ToolName::SgStart => Profile::Extended,
         }
     }
 
@@ -127,6 +131,7 @@ impl ToolName {
             ToolName::SgVerify => "sg_verify",
             ToolName::SgCompareAndWrite => "sg_compare_and_write",
             ToolName::SgWriteSame => "sg_write_same",
+            ToolName::SgStart => "sg_start",
         }
     }
 }

@@ -6,7 +6,7 @@ use std::alloc::Global;
 use std::test::Fail;
 
 /// The words of a tool, the CDB and the data-out that it sends, and how the answer is shown.
-const SENT: [(&str, &[u8], &[u8], Show); 49] = [
+const SENT: [(&str, &[u8], &[u8], Show); 55] = [
     ("sg_inq", b"\x12\x00\x00\x00\x24\x00", b"", Show::Inquiry),
     ("sg_inq --", b"\x12\x00\x00\x00\x24\x00", b"", Show::Inquiry),
     (
@@ -259,6 +259,37 @@ const SENT: [(&str, &[u8], &[u8], Show); 49] = [
     (
         "sg_write_same -U -l 1 -n 2 -i -",
         b"\x93\x08\x00\x00\x00\x00\x00\x00\x00\x01\x00\x00\x00\x02\x00\x00",
+        b"",
+        Show::Nothing,
+    ),
+    ("sg_start", b"\x1B\x00\x00\x00\x01\x00", b"", Show::Nothing),
+    (
+        "sg_start -S -m 5",
+        b"\x1B\x00\x00\x00\x00\x00",
+        b"",
+        Show::Nothing,
+    ),
+    (
+        "sg_start --load",
+        b"\x1B\x00\x00\x00\x03\x00",
+        b"",
+        Show::Nothing,
+    ),
+    (
+        "sg_start -Le",
+        b"\x1B\x00\x00\x00\x02\x00",
+        b"",
+        Show::Nothing,
+    ),
+    (
+        "sg_start -SL",
+        b"\x1B\x00\x00\x00\x02\x00",
+        b"",
+        Show::Nothing,
+    ),
+    (
+        "sg_start -p 0xa -m 1 -sL",
+        b"\x1B\x00\x00\x01\xA0\x00",
         b"",
         Show::Nothing,
     ),

@@ -3,6 +3,8 @@
 Each answer is shown as its text, or in hex lines with --hex.
 """
 
+from itertools import combinations
+
 from words import hex_bytes, hex_lines
 
 from .commands import HEX, Request, Tool, Usage, below, mode_page, shown
@@ -124,6 +126,16 @@ def has_room(values):
     return values.get("lba", 0) < 2**32 and values.get("num", 1) < 2**16
 
 
+def sg_start(values):
+    """START STOP UNIT (SBC-3, 5.25): LOEJ is bit 1 of byte 4, and START bit 0. A POWER CONDITION, bits 7
+    to 4, is sent with its modifier and with neither of these bits."""
+    if values.get("pc"):
+        return Request(bytes([0x1B, 0, 0, values.get("mod", 0), values["pc"] << 4, 0]))
+    loej = bool({"loej", "load", "eject"} & values.keys())
+    start = not {"stop", "eject"} & values.keys()
+    return Request(bytes([0x1B, 0, 0, 0, loej << 1 | start, 0]))
+
+
 EXTENDED_TOOLS = {
     "sg_turs": Tool([], sg_turs),
     "sg_requests": Tool([Option("d", "desc"), Option("m", "maxlen", BYTE), HEX], sg_requests),
@@ -151,4 +163,9 @@ EXTENDED_TOOLS = {
          Option("f", "ff")],
         sg_write_same, exclusive=[("in", "ff"), ("10", "16")], one_of=["in", "lba", "num"],
         in_range=lambda values: "10" not in values or has_room(values)),
+    "sg_start": Tool(
+        [Option("e", "eject"), Option("l", "load"), Option("L", "loej"),
+         Option("m", "mod", below(16)), Option("p", "pc", below(16)), Option("s", "start"),
+         Option("S", "stop")],
+        sg_start, exclusive=[*combinations(["start", "load", "stop", "eject"], 2)]),
 }

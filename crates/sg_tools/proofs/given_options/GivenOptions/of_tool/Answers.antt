@@ -9,6 +9,7 @@ use Rattle.sg_tools.specs.declared.tool_name.ToolName.TheVariants.{SgTurs, SgReq
 use Rattle.sg_tools.specs.declared.tool_name.ToolName.TheVariants.{SgOpcodes, SgLogs, SgReadcap}
 use Rattle.sg_tools.specs.declared.tool_name.ToolName.TheVariants.{SgSync, SgVerify}
 use Rattle.sg_tools.specs.declared.tool_name.ToolName.TheVariants.{SgCompareAndWrite, SgWriteSame}
+use Rattle.sg_tools.specs.declared.tool_name.ToolName.TheVariants.{SgStart}
 use Rattle.sg_tools.proofs.given_options.GivenOptions.of_tool.Goals as goal
 
 is_free : (tool : ToolName) → is_simple_and_free (command_line tool) ≡ true
@@ -29,6 +30,7 @@ is_free SgSync = refl
 is_free SgVerify = refl
 is_free SgCompareAndWrite = refl
 is_free SgWriteSame = refl
+is_free SgStart = refl
 
 pub of_words-requires : goal.of_words-requires
 of_words-requires c = ap is_simple_and_free c.in-Ok.ensures ∙ is_free c.args.tool
