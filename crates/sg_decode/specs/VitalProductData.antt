@@ -24,16 +24,21 @@ abbrev pub serial_line : List ℕ → List ℕ
 serial_line serial = codes "  serial: " ++ (bracketed serial ++ codes "\n")
 
 -- Block Limits (SBC-3, vital product data parameters).
-abbrev pub block_limits : List Line
-block_limits =
-    (part (codes "  WSNZ: ") (Bits 4 0 0) ∷ [])
-    ∷ (part (codes "  transfer granularity: ") (Number 6 2) ∷ [])
+abbrev wsnz : Line
+wsnz = part (codes "  WSNZ: ") (Bits 4 0 0) ∷ []
+
+abbrev block_numbers : List Line
+block_numbers =
+    (part (codes "  transfer granularity: ") (Number 6 2) ∷ [])
     ∷ (part (codes "  maximum transfer: ") (Number 8 4) ∷ [])
     ∷ (part (codes "  maximum unmap count: ") (Number 20 4) ∷ [])
     ∷ (part (codes "  maximum unmap descriptors: ") (Number 24 4) ∷ [])
     ∷ (part (codes "  unmap granularity: ") (Number 28 4) ∷ [])
     ∷ (part (codes "  maximum write same: ") (Number 36 8) ∷ [])
     ∷ []
+
+abbrev pub block_limits : List Line
+block_limits = wsnz ∷ block_numbers
 
 -- Logical Block Provisioning (SBC-3, vital product data parameters).
 abbrev provisioning_flags : Line
@@ -71,7 +76,7 @@ vital_product_data = record {
   body = λ bytes end. page_body (slice_index bytes 1) bytes end;
 }
 
--- ---- Pages that only the extended profile knows
+-- ---- Pages that only the extended profile knows, and the page that has more there
 
 -- Extended INQUIRY Data (SPC-4, 7.8.7).
 abbrev protection_flags : Line
@@ -121,6 +126,18 @@ extended_inquiry_data =
     ∷ (part (codes "  maximum supported sense data length: ") (Number 13 1) ∷ [])
     ∷ []
 
+-- Block Limits, with the limits of commands that a base disk does not have. MAXIMUM ATOMIC TRANSFER LENGTH
+-- is a field of SBC-4.
+abbrev compare_and_write_length : Line
+compare_and_write_length = part (codes "  maximum compare and write: ") (Number 5 1) ∷ []
+
+abbrev atomic_transfer_length : Line
+atomic_transfer_length = part (codes "  maximum atomic transfer: ") (Number 44 4) ∷ []
+
+abbrev pub extended_block_limits : List Line
+extended_block_limits =
+    wsnz ∷ compare_and_write_length ∷ (block_numbers ++ (atomic_transfer_length ∷ []))
+
 -- Block Device Characteristics (SBC-3, vital product data parameters).
 abbrev form_factor : Line
 form_factor =
@@ -142,8 +159,9 @@ extended_page_body code bytes end =
     if code == 0x86 then line_items extended_inquiry_data
     else (if code == 0x87 then entries_from (entry_of ModePagePolicies) 4 bytes
     else (if code == 0x88 then entries_from (entry_of ScsiPorts) 4 bytes
+    else (if code == 0xB0 then line_items extended_block_limits
     else (if code == 0xB1 then line_items block_device_characteristics
-    else page_body code bytes end)))
+    else page_body code bytes end))))
 
 -- A page, as an extended disk's script shows it.
 abbrev pub extended_vital_product_data : Decoder

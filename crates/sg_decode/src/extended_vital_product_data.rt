@@ -1,4 +1,4 @@
-// The texts of the pages of vital product data that only the extended profile knows.
+// The texts of the pages of vital product data that only the extended profile knows, and of page B0h there.
 ghost use Rattle.std.specs.Prelude.{◌≤◌, ◌^◌, Some, length};
 ghost use Rattle.sg_wire.specs.Printer.{PrintsText};
 ghost use Rattle.sg_decode.specs.Items.{decoded, shown};
@@ -7,7 +7,10 @@ ghost use Rattle.sg_decode.specs.VitalProductData.{extended_page_body, extended_
 use crate::entry::EntryKind;
 use crate::items::{show_entries, show_lines};
 use crate::value::{Field, Value, number_of_two};
-use crate::vital_product_data::{HEADER, show_page};
+use crate::vital_product_data::{
+    GRANULARITY, HEADER, TRANSFER, UNMAP_COUNT, UNMAP_DESCRIPTORS, UNMAP_GRANULARITY, WRITE_SAME,
+    WSNZ, show_page,
+};
 use sg_wire::Printer;
 use std::io::Write;
 
@@ -60,6 +63,18 @@ const EXTENDED_INQUIRY_DATA: [&[Field]; 9] = [
     )],
 ];
 
+const EXTENDED_BLOCK_LIMITS: [&[Field]; 9] = [
+    WSNZ,
+    &[Field(b"  maximum compare and write: ", Value::Number(5, 1))],
+    GRANULARITY,
+    TRANSFER,
+    UNMAP_COUNT,
+    UNMAP_DESCRIPTORS,
+    UNMAP_GRANULARITY,
+    WRITE_SAME,
+    &[Field(b"  maximum atomic transfer: ", Value::Number(44, 4))],
+];
+
 const BLOCK_DEVICE_CHARACTERISTICS: [&[Field]; 4] = [
     &[Field(b"  medium rotation rate: ", Value::Number(4, 2))],
     &[Field(b"  product type: ", Value::Code(6, 7, 0))],
@@ -75,7 +90,7 @@ const BLOCK_DEVICE_CHARACTERISTICS: [&[Field]; 4] = [
 ];
 
 /// Prints a page of vital product data (SPC-4, 7.8). Pages 86h, 87h, 88h and B1h have lines of fields,
-/// which [`put_vpd`](crate::put_vpd) shows in hex lines.
+/// which [`put_vpd`](crate::put_vpd) shows in hex lines. Page B0h has two more lines than there.
 #[tactic(auto, unfolding(crate::specs::Items::decoded))]
 pub fn put_extended_vpd<W: Write>(bytes: &[u8], out: &mut Printer<'_, W>)
     ensures { PrintsText W.contents out.old out.new (decoded extended_vital_product_data bytes.now) }
@@ -98,6 +113,9 @@ fn show_extended_page<W: Write>(code: u8, end: usize, bytes: &[u8], out: &mut Pr
         }
         0x87 => show_entries(EntryKind::ModePagePolicies, 4, end, bytes, out),
         0x88 => show_entries(EntryKind::ScsiPorts, 4, end, bytes, out),
+        0xb0 => {
+            show_lines(&EXTENDED_BLOCK_LIMITS, Some(end), bytes, out);
+        }
         0xb1 => {
             show_lines(&BLOCK_DEVICE_CHARACTERISTICS, Some(end), bytes, out);
         }

@@ -18,14 +18,35 @@ pub(crate) const HEADER: [&[Field]; 3] = [
     &[Field(b"  page length: ", Value::Number(2, 2))],
 ];
 
+// The lines of Block Limits (SBC-3, vital product data parameters).
+pub(crate) const WSNZ: &[Field] = &[Field(b"  WSNZ: ", Value::Bits(4, 0, 0))];
+
+pub(crate) const GRANULARITY: &[Field] = &[Field(b"  transfer granularity: ", Value::Number(6, 2))];
+
+pub(crate) const TRANSFER: &[Field] = &[Field(b"  maximum transfer: ", Value::Number(8, 4))];
+
+pub(crate) const UNMAP_COUNT: &[Field] = &[Field(b"  maximum unmap count: ", Value::Number(20, 4))];
+
+pub(crate) const UNMAP_DESCRIPTORS: &[Field] = &[Field(
+    b"  maximum unmap descriptors: ",
+    Value::Number(24, 4),
+)];
+
+pub(crate) const UNMAP_GRANULARITY: &[Field] = &[Field(
+    b"  unmap granularity: ",
+    Value::Number(28, 4),
+)];
+
+pub(crate) const WRITE_SAME: &[Field] = &[Field(b"  maximum write same: ", Value::Number(36, 8))];
+
 const BLOCK_LIMITS: [&[Field]; 7] = [
-    &[Field(b"  WSNZ: ", Value::Bits(4, 0, 0))],
-    &[Field(b"  transfer granularity: ", Value::Number(6, 2))],
-    &[Field(b"  maximum transfer: ", Value::Number(8, 4))],
-    &[Field(b"  maximum unmap count: ", Value::Number(20, 4))],
-    &[Field(b"  maximum unmap descriptors: ", Value::Number(24, 4))],
-    &[Field(b"  unmap granularity: ", Value::Number(28, 4))],
-    &[Field(b"  maximum write same: ", Value::Number(36, 8))],
+    WSNZ,
+    GRANULARITY,
+    TRANSFER,
+    UNMAP_COUNT,
+    UNMAP_DESCRIPTORS,
+    UNMAP_GRANULARITY,
+    WRITE_SAME,
 ];
 
 const LOGICAL_BLOCK_PROVISIONING: [&[Field]; 3] = [

@@ -92,6 +92,14 @@ EXTENDED_INQUIRY = [
     [("maximum supported sense data length", "13")],
 ]
 
+# Block Limits (SBC-3, vital product data parameters; SBC-4 for the last line).
+EXTENDED_LIMITS = [
+    BLOCK_LIMITS[0],
+    [("maximum compare and write", "5")],
+    *BLOCK_LIMITS[1:],
+    [("maximum atomic transfer", "44-47")],
+]
+
 # Block Device Characteristics (SBC-3, vital product data parameters).
 CHARACTERISTICS = [
     [("medium rotation rate", "4-5")],
@@ -133,5 +141,6 @@ EXTENDED_PAGES = {
     0x86: lambda answer: answer.lines(EXTENDED_INQUIRY),
     0x87: policies,
     0x88: ports,
+    0xB0: lambda answer: answer.lines(EXTENDED_LIMITS),
     0xB1: lambda answer: answer.lines(CHARACTERISTICS),
 }
