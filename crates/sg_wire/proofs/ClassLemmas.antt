@@ -1,12 +1,12 @@
 -- The command of a CDB has the operation code and the profile of the row that made it, and the class of the
 -- CDB.
 use Rattle.std.proofs.Common.{◌≡◌, ℕ, List, [], ◌∷◌, length, map, filter, Option, Some, None}
-use Rattle.std.proofs.Common.{Result, Ok, Err, Bool, true, false, cond, refl, ap, subst, ◌∙◌}
+use Rattle.std.proofs.Common.{Result, Ok, Err, Bool, true, false, cond, refl, sym, ap, subst, ◌∙◌}
 use Rattle.std.specs.Prelude.{◌==◌, ◌&&◌, find, nat_lt, if◌then◌else◌}
 use Rattle.std.specs.Option.{option_map_or}
 use Rattle.sg_wire.specs.CdbDecoding.{class_by_row, class_by_rows, class_in, command_by_row}
 use Rattle.sg_wire.specs.CdbDecoding.{command_by_rows}
-use Rattle.sg_wire.specs.CdbDecoding.{command_in, first_bad, has_action_of, make_from, masks, rows_in}
+use Rattle.sg_wire.specs.CdbDecoding.{command_in, first_bad, has_action_of, make_from, masks_in, rows_in}
 use Rattle.sg_wire.specs.CdbDecoding.{unless_bad}
 use Rattle.sg_wire.specs.Layout.{Layout, each_command, layout, length_of}
 use Rattle.sg_wire.specs.Profile.{is_in}
@@ -14,28 +14,18 @@ use Rattle.sg_wire.specs.declared.command.CdbFault.{CdbFault}
 use Rattle.sg_wire.specs.declared.command.CdbFault.TheVariants.{Short}
 use Rattle.sg_wire.specs.declared.command.Class.TheVariants.{Always}
 use Rattle.sg_wire.specs.declared.command.Command.{Command}
-use Rattle.sg_wire.specs.declared.command.Command.TheVariants as command
 use Rattle.sg_wire.specs.declared.profile.Profile.{Profile}
+use Rattle.sg_wire.proofs.FieldLemmas.{AllowsBits, AreOfOneRow, Makes, have_fields, makes}
 
--- two layouts of one row, that may differ in the values of its fields
-abbrev AreOfOneRow : Layout → Layout → Type 0
-AreOfOneRow l m = (l.opcode ≡ m.opcode) × (l.profile ≡ m.profile)
-
--- a row makes commands of its own
-abbrev Makes : Layout → Type 0
-Makes l = (cdb : List ℕ) → AreOfOneRow (layout (make_from cdb l.fields l.make)) l
-
-makes : (command : Command) → Makes (layout command)
-makes command.TestUnitReady cdb = (refl, refl)
-makes other cdb = (refl, refl)
-
--- the row that made a command of a CDB, among the rows with a property
-pub record MadeByRow (property : Layout → Bool) (cdb : List ℕ) (rows : List Layout)
+-- the row that made a command of a CDB on a disk of a profile, among the rows with a property
+pub record MadeByRow (property : Layout → Bool) (profile : Profile) (cdb : List ℕ) (rows : List Layout)
     (command : Command) : Type 0 where
   pub row : Layout
   pub found : find (has_action_of cdb) rows ≡ Some row
   pub made : make_from cdb row.fields row.make ≡ command
   pub is_its : AreOfOneRow (layout command) row
+  pub fields : have_fields profile command ≡ true
+  pub fits : (other : Profile) → have_fields other command ≡ true → AllowsBits row cdb other
   pub holds : property row ≡ true
 
 module _ (property : Layout → Bool) where
@@ -71,22 +61,28 @@ module _ (property : Layout → Bool) where
   find-of p (l ∷ ls) h = found-first (p l) l (find p ls) h.0 (find-of p ls h.1)
 
   made-is : (bad : Option ℕ) (command other : Command) → unless_bad bad other ≡ Ok command
-      → other ≡ command
-  made-is None command other e = cc
+      → (other ≡ command) × (bad ≡ None)
+  made-is None command other e = (cc, refl)
   made-is (Some byte) command other e = cc
 
-  module _ (cdb : List ℕ) (command : Command) where
+  module _ (profile : Profile) (cdb : List ℕ) (command : Command) where
     by_row : (rows : List Layout) (found : Option Layout) → find (has_action_of cdb) rows ≡ found
-        → IsOfIfFound found → command_by_row cdb found ≡ Ok command
-        → MadeByRow property cdb rows command
+        → IsOfIfFound found → command_by_row profile cdb found ≡ Ok command
+        → MadeByRow property profile cdb rows command
     by_row rows None is h e = cc
     by_row rows (Some l) is h e =
-        let made = made-is (first_bad 0 (masks l) cdb) command (make_from cdb l.fields l.make) e in
+        let made =
+        made-is (first_bad 0 (masks_in profile l) cdb) command (make_from cdb l.fields l.make) e in
         record {
           row = l;
           found = is;
-          made = made;
-          is_its = subst (λ (c : Command). AreOfOneRow (layout c) l) made (h.0 cdb);
+          made = made.0;
+          is_its = subst (λ (c : Command). AreOfOneRow (layout c) l) made.0 (h.0.its cdb);
+          fields =
+              subst (λ (c : Command). have_fields profile c ≡ true) made.0 (h.0.fields profile cdb made.1);
+          fits = λ other has.
+              h.0.bits profile other cdb made.1
+              (subst (λ (c : Command). have_fields other c ≡ true) (sym made.0) has);
           holds = h.1;
         }
 
@@ -95,8 +91,8 @@ module _ (property : Layout → Bool) where
     unless_short true count parse e = cc
     unless_short false count parse e = e
 
-    by_rows : (rows : List Layout) → AreOf rows → command_by_rows cdb rows ≡ Ok command
-        → MadeByRow property cdb rows command
+    by_rows : (rows : List Layout) → AreOf rows → command_by_rows profile cdb rows ≡ Ok command
+        → MadeByRow property profile cdb rows command
     by_rows [] h e = cc
     by_rows (l ∷ ls) h e =
         by_row (l ∷ ls) (find (has_action_of cdb) (l ∷ ls)) refl
@@ -109,10 +105,10 @@ is_row_in profile opcode l = l.opcode == opcode && is_in l.profile profile
 
 pub made-by_row : (profile : Profile) (opcode : ℕ) (rest : List ℕ) (command : Command)
     → command_in profile (opcode ∷ rest) ≡ Ok command
-    → MadeByRow (is_row_in profile opcode) (opcode ∷ rest) (rows_in profile opcode) command
+    → MadeByRow (is_row_in profile opcode) profile (opcode ∷ rest) (rows_in profile opcode) command
 unfolding command_in
 made-by_row profile opcode rest command e =
-    by_rows (is_row_in profile opcode) (opcode ∷ rest) command (rows_in profile opcode)
+    by_rows (is_row_in profile opcode) profile (opcode ∷ rest) command (rows_in profile opcode)
     (are-of (is_row_in profile opcode) each_command) e
 
 class-by_rows : (cdb : List ℕ) (rows : List Layout) (l : Layout)

@@ -1,19 +1,23 @@
 -- What a profile has of the table: all rows of an operation code, or none.
-use Rattle.std.proofs.Common.{◌≡◌, ℕ, ◌==◌, List, [], ◌∷◌, get_or, filter, Bool, true, false, cond}
-use Rattle.std.proofs.Common.{Option, Some, None, Ok, refl, sym, ap, ◌∙◌}
+use Rattle.std.proofs.Common.{◌≡◌, ℕ, ◌==◌, List, [], ◌∷◌, length, filter, Bool, true, false, cond}
+use Rattle.std.proofs.Common.{Option, Some, None, Result, Ok, Err, refl, sym, ap, ◌∙◌}
 use Rattle.std.proofs.lemmas.Bool.{and_parts, eqb-true}
 use Rattle.std.specs.List.{list_all}
-use Rattle.std.specs.Prelude.{◌&&◌, if◌then◌else◌}
-use Rattle.sg_wire.specs.CdbDecoding.{command_by_rows, command_in, command_of, is_blocked_in, rows_in}
-use Rattle.sg_wire.specs.CdbEncoding.{cdb_of}
+use Rattle.std.specs.Prelude.{◌&&◌, ◌||◌, find, nat_lt, if◌then◌else◌}
+use Rattle.sg_wire.specs.CdbDecoding.{command_by_row, command_by_rows, command_in, command_of}
+use Rattle.sg_wire.specs.CdbDecoding.{has_action_of, is_blocked_in, make_from, rows_in, unless_bad}
+use Rattle.sg_wire.specs.CdbFields.{Field, allows_field, is_zero}
 use Rattle.sg_wire.specs.Laws.{IsReadAs, has_command}
-use Rattle.sg_wire.specs.Layout.{Layout, layout, table}
+use Rattle.sg_wire.specs.Layout.{Layout, layout, length_of, table}
 use Rattle.sg_wire.specs.Profile.{is_in}
+use Rattle.sg_wire.specs.declared.command.CdbFault.{CdbFault}
+use Rattle.sg_wire.specs.declared.command.CdbFault.TheVariants.{Short}
 use Rattle.sg_wire.specs.declared.command.Command.{Command}
 use Rattle.sg_wire.specs.declared.command.Command.TheVariants as command
 use Rattle.sg_wire.specs.declared.profile.Profile.{Profile}
 use Rattle.sg_wire.specs.declared.profile.Profile.TheVariants.{Base, Extended}
 use Rattle.sg_wire.proofs.ClassLemmas.{made-by_row}
+use Rattle.sg_wire.proofs.FieldLemmas.{AllowsBits, have_fields}
 
 -- the rows of a command's operation code, in each profile: it computes
 rows-by : (profile : Profile) (command : Command) → rows_in profile (layout command).opcode
@@ -36,16 +40,6 @@ module _ (profile : Profile) (command : Command) where
   rows-none lacks = rows-by profile command
       ∙ ap (λ (b : Bool). if b then rows_in Extended (layout command).opcode else []) lacks
 
-  -- a CDB with its operation code is the same in each profile that has it
-  pub read-same : (cdb : List ℕ) → is_in (layout command).profile profile ≡ true
-      → get_or cdb 0 0 ≡ (layout command).opcode → command_in profile cdb ≡ command_in Extended cdb
-  unfolding command_in
-  read-same [] has h = refl
-  read-same (opcode ∷ rest) has h =
-      ap (λ code. command_by_rows (opcode ∷ rest) (rows_in profile code)) h
-      ∙ ap (command_by_rows (opcode ∷ rest)) (rows-same has)
-      ∙ ap (λ code. command_by_rows (opcode ∷ rest) (rows_in Extended code)) (sym h)
-
 -- the operation code of the first row
 abbrev pub first_opcode : List Layout → Option ℕ
 first_opcode [] = None
@@ -57,19 +51,29 @@ pub has_row : (command : Command)
 has_row command.TestUnitReady = refl
 has_row other = refl
 
--- a CDB begins with the operation code
-pub first-byte : (command : Command) → get_or (cdb_of command) 0 0 ≡ (layout command).opcode
-unfolding cdb_of
-first-byte command.TestUnitReady = refl
-first-byte other = refl
-
 -- no profile has an operation code that the extended one lacks
 more : (profile : Profile) → is_in profile Extended ≡ true
 more Base = refl
 more Extended = refl
 
+-- or a field
+has-fields : (fields : List Field) → list_all (allows_field Extended) fields ≡ true
+has-fields [] = refl
+has-fields (f ∷ fields) =
+    ap (λ (b : Bool). (b || is_zero f.place f.value) && list_all (allows_field Extended) fields)
+    (more f.profile)
+    ∙ has-fields fields
+
 pub is-in_any : (command : Command) → has_command Extended command ≡ true
-is-in_any command = more (layout command).profile
+is-in_any command =
+    ap (λ (b : Bool). b && is_in (layout command).profile Extended) (has-fields (layout command).fields)
+    ∙ more (layout command).profile
+
+-- a profile that has a command has its row and its fields
+pub has-parts : (profile : Profile) (command : Command) → has_command profile command ≡ true
+    → (have_fields profile command ≡ true) × (is_in (layout command).profile profile ≡ true)
+has-parts profile command has =
+    and_parts (have_fields profile command) (is_in (layout command).profile profile) has
 
 module _ (profile : Profile) (opcode : ℕ) where
   abbrev rows_among : Profile → List Layout → List Layout
@@ -102,7 +106,8 @@ module _ (profile : Profile) where
       let m = made-by_row profile opcode rest command e in
       let both = and_parts (m.row.opcode == opcode) (is_in m.row.profile profile) m.holds in (
         sym (m.is_its.0 ∙ eqb-true m.row.opcode opcode both.0),
-        ap (λ p. is_in p profile) m.is_its.1 ∙ both.1,
+        ap (λ b. b && is_in (layout command).profile profile) m.fields
+            ∙ ap (λ p. is_in p profile) m.is_its.1 ∙ both.1,
       )
 
   pub is-in : (cdb : List ℕ) (command : Command) → command_in profile cdb ≡ Ok command
@@ -111,22 +116,47 @@ module _ (profile : Profile) where
   is-in [] command e = cc
   is-in (opcode ∷ rest) command e = (row-of opcode rest command e).1
 
-  -- each profile that has the command reads the CDB alike
+  -- each profile that has the command has the same rows of its operation code
+  pub rows-alike : (cdb : List ℕ) (command : Command) → command_in profile cdb ≡ Ok command
+      → (other : Profile) → has_command other command ≡ true
+      → rows_in other (layout command).opcode ≡ rows_in profile (layout command).opcode
+  rows-alike cdb command e other has =
+      rows-same other command (has-parts other command has).1
+      ∙ sym (rows-same profile command (has-parts profile command (is-in cdb command e)).1)
+
+  -- so it finds the same row, and reads the CDB alike if its masks allow the bits
+  module _ (other : Profile) (cdb : List ℕ) (command : Command) (row : Layout)
+      (made : make_from cdb row.fields row.make ≡ command) (fits : AllowsBits row cdb other) where
+    by_found : (found : Option Layout) → found ≡ Some row → command_by_row other cdb found ≡ Ok command
+    by_found found is =
+        ap (command_by_row other cdb) is
+        ∙ ap (λ bad. unless_bad bad (make_from cdb row.fields row.make)) fits ∙ ap Ok made
+
+    whole-alike : (is_short : Bool) (count : ℕ) (one another : Result Command CdbFault)
+        → another ≡ Ok command → (if is_short then Err (Short count) else one) ≡ Ok command
+        → (if is_short then Err (Short count) else another) ≡ Ok command
+    whole-alike true count one another read e = cc
+    whole-alike false count one another read e = read
+
+    by_rows-alike : (rows : List Layout) → find (has_action_of cdb) rows ≡ Some row
+        → command_by_rows profile cdb rows ≡ Ok command → command_by_rows other cdb rows ≡ Ok command
+    by_rows-alike [] found e = cc
+    by_rows-alike (l ∷ ls) found e =
+        whole-alike (nat_lt (length cdb) (length_of l.opcode)) (length cdb) _ _ (by_found _ found) e
+
   pub read-alike : (cdb : List ℕ) (command : Command) → command_in profile cdb ≡ Ok command
       → IsReadAs cdb command
   unfolding command_in
   read-alike [] command e other has = cc
   read-alike (opcode ∷ rest) command e other has =
-      let row = row-of opcode rest command e in
-      read-same other command (opcode ∷ rest) has row.0
-      ∙ sym (read-same profile command (opcode ∷ rest) row.1 row.0) ∙ e
-
-  -- each of them has the same rows of its operation code
-  pub rows-alike : (cdb : List ℕ) (command : Command) → command_in profile cdb ≡ Ok command
-      → (other : Profile) → has_command other command ≡ true
-      → rows_in other (layout command).opcode ≡ rows_in profile (layout command).opcode
-  rows-alike cdb command e other has =
-      rows-same other command has ∙ sym (rows-same profile command (is-in cdb command e))
+      let cdb = opcode ∷ rest in
+      let m = made-by_row profile opcode rest command e in
+      let code = (row-of opcode rest command e).0 in
+      let same : rows_in other opcode ≡ rows_in profile opcode =
+      ap (rows_in other) code ∙ rows-alike cdb command e other has ∙ ap (rows_in profile) (sym code) in
+      ap (command_by_rows other cdb) same
+      ∙ by_rows-alike other cdb command m.row m.made (m.fits other (has-parts other command has).0)
+      (rows_in profile opcode) m.found e
 
   -- so a unit attention blocks it in each of them or in none
   pub blocked-alike : (cdb : List ℕ) (command : Command) → command_in profile cdb ≡ Ok command

@@ -31,7 +31,7 @@ use Rattle.sg_wire.specs.Commands.{reserve_in, reserve_out}
 use Rattle.sg_wire.specs.CdbDecoding.{command_in, first_bad, mask_of, masks, unless_bad}
 use Rattle.sg_wire.specs.CdbEncoding.{cdb_of, joined, part_in}
 use Rattle.sg_wire.specs.Bits.{bits_of, has_bit}
-use Rattle.sg_wire.specs.CdbFields.{Field, Place, Value, blocks_of, mask_in}
+use Rattle.sg_wire.specs.CdbFields.{Field, Place, Value, blocks_of, field, mask_in}
 use Rattle.sg_wire.specs.Bits.{shifted_right}
 use Rattle.sg_wire.specs.Layout.{Layout, Maker, action_place, layout, length_of}
 use Rattle.sg_wire.specs.CdbFields.Place.{bit, bits, bytes, short_extent}
@@ -40,7 +40,8 @@ use Rattle.sg_wire.specs.FieldRoom.{fits_cdb, has_room, have_room}
 use Rattle.sg_wire.specs.Laws.{IsReadAs}
 use Rattle.sg_wire.specs.declared.profile.Profile.TheVariants.{Extended}
 use Rattle.sg_wire.proofs.LayoutLemmas.{number_again}
-use Rattle.sg_wire.proofs.ProfileLemmas.{first-byte, read-same}
+use Rattle.sg_wire.proofs.FieldLemmas.{bit_of}
+use Rattle.sg_wire.proofs.ProfileLemmas.{read-alike}
 
 -- ---- numbers and masks
 
@@ -51,9 +52,6 @@ IsWithin x mask = bit_and x mask ≡ x
 -- a number of w bits
 small : (x w : ℕ) → x < 2 ^ w → IsWithin x (2 ^ w - 1)
 small x w h = and_mask x w ∙ mod-eq_of_lt h
-
-bit_of : (x y z i : ℕ) → bit_and x y ≡ z → min (bit_at x i) (bit_at y i) ≡ bit_at z i
-bit_of x y z i h = sym (bit_at_and x y i) ∙ ap (λ n. bit_at n i) h
 
 -- two numbers within masks that have no bit in common
 module _ (a b m n : ℕ) (am : IsWithin a m) (bn : IsWithin b n) (apart : bit_and m n ≡ 0) where
@@ -279,9 +277,9 @@ module _ (all : List Field) where
 module _ (l : Layout) where
   -- the operation code and the service action are fields too
   abbrev others : List Field
-  others = record { place = bytes 0 0; value = l.opcode } ∷ (elim l.action as (λ a. List Field) [
+  others = field (bytes 0 0) l.opcode ∷ (elim l.action as (λ a. List Field) [
     | none ↦ []
-    | named action ↦ record { place = action_place; value = action } ∷ []
+    | named action ↦ field action_place action ∷ []
   ])
 
   abbrev all : List Field
@@ -292,7 +290,7 @@ module _ (l : Layout) where
 
   -- in each byte the places do not overlap, and lie in the mask
   abbrev is_laid_out : ℕ → Bool
-  is_laid_out k = are_apart k all && (bit_and (covered k all) (mask_of l k) == covered k all)
+  is_laid_out k = are_apart k all && (bit_and (covered k all) (mask_of Extended l k) == covered k all)
 
   abbrev are_laid_out : Bool
   are_laid_out =
@@ -301,15 +299,15 @@ module _ (l : Layout) where
 
   module _ (room : have_room all ≡ true) where
     no_bad_byte : (k n : ℕ) → list_all is_laid_out (range_with_len k n) ≡ true
-        → first_bad k (map (mask_of l) (range_with_len k n)) (bytes_from k n) ≡ None
+        → first_bad k (map (mask_of Extended l) (range_with_len k n)) (bytes_from k n) ≡ None
     no_bad_byte k zero h = refl
     no_bad_byte k (suc n) h =
         let both = and_parts _ _ h in
         let tests = and_parts _ _ both.0 in
         let within = (byte_is k all room tests.0).0 in
-        let fits : IsWithin (byte k all) (mask_of l k) =
-        ap (λ x. bit_and x (mask_of l k)) (sym within)
-        ∙ and_assoc (mask_of l k) (byte k all) (covered k all)
+        let fits : IsWithin (byte k all) (mask_of Extended l k) =
+        ap (λ x. bit_and x (mask_of Extended l k)) (sym within)
+        ∙ and_assoc (mask_of Extended l k) (byte k all) (covered k all)
         ∙ ap (bit_and (byte k all)) (eqb-true _ _ tests.1) ∙ within in
         rw (eq-eqb _ _ fits) (no_bad_byte (k + 1) n both.1)
 
@@ -375,5 +373,4 @@ reads_back command h = decoded (layout command) h command refl refl
 
 -- on each disk that has the command
 pub is_read-back : (command : Command) → fits_cdb command ≡ true → IsReadAs (cdb_of command) command
-is_read-back command h profile has =
-    read-same profile command (cdb_of command) has (first-byte command) ∙ reads_back command h
+is_read-back command h = read-alike Extended (cdb_of command) command (reads_back command h)

@@ -13,6 +13,7 @@ use Rattle.sg_wire.specs.CdbDecoding.{command_by_row, first_bad, has_action_of, 
 use Rattle.sg_wire.specs.CdbDecoding.{service_action, unless_bad}
 use Rattle.sg_wire.specs.Layout.{Layout, layout}
 use Rattle.sg_wire.specs.Table.{command_with, fits_masks}
+use Rattle.sg_wire.specs.declared.profile.Profile.TheVariants.{Extended}
 use Rattle.sg_wire.specs.ReservationAction.{out_code, each_out_action, out_action_with}
 
 abbrev out_row : OutAction → Layout
@@ -36,7 +37,7 @@ long_enough count h = grind (arith, nat_tests)
 
 pub reserve_out-known : (cdb : List ℕ) (action : OutAction) → 10 ≤ length cdb
     → out_action_with (service_action cdb) ≡ Some action
-    → command_with 0x5F cdb ≡ command_by_row cdb (Some (out_row action))
+    → command_with 0x5F cdb ≡ command_by_row Extended cdb (Some (out_row action))
 unfolding command_with
 reserve_out-known cdb action whole known =
     rw (long_enough (length cdb) whole, find-row cdb each_out_action, known) refl

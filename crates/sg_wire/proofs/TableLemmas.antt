@@ -10,12 +10,12 @@ use Rattle.std.specs.Prelude.{find, nat_lt, if◌then◌else◌, IfErr, OnOk}
 use Rattle.sg_wire.specs.CdbDecoding.{class_by_row, class_by_rows, class_in, command_by_row}
 use Rattle.sg_wire.specs.CdbDecoding.{command_by_rows}
 use Rattle.sg_wire.specs.CdbDecoding.{command_in, first_bad, has_action_of, is_blocked_in, make_from}
-use Rattle.sg_wire.specs.CdbDecoding.{masks, rows_in, service_action, unless_bad}
+use Rattle.sg_wire.specs.CdbDecoding.{masks, masks_in, rows_in, service_action, unless_bad}
 use Rattle.sg_wire.specs.Commands.{reserve_in, reserve_out}
 use Rattle.sg_wire.specs.Layout.{Layout, layout, length_of}
 use Rattle.sg_wire.specs.Profile.{is_in}
 use Rattle.sg_wire.specs.ReservationAction.{each_in_action, each_out_action}
-use Rattle.sg_wire.specs.Table.{HasAction, IsDecoded, IsFound, IsNamed, IsNamedByNone, IsRefused}
+use Rattle.sg_wire.specs.Table.{HasAction, IsDecodedIn, IsFound, IsNamed, IsNamedByNone, IsRefusedIn}
 use Rattle.sg_wire.specs.Table.{IsRow, blocked_found, class_found, class_of_name, command_named}
 use Rattle.sg_wire.specs.Table.{command_of_name}
 use Rattle.sg_wire.specs.Table.{command_with, fits_masks, is_start_stop, layout_of}
@@ -32,6 +32,7 @@ use Rattle.sg_wire.specs.declared.command.table.Name.TheVariants as name
 use Rattle.sg_wire.specs.declared.command.table.Row.{Row}
 use Rattle.sg_wire.specs.declared.profile.Profile.{Profile}
 use Rattle.sg_wire.specs.declared.profile.Profile.TheVariants.{Extended}
+use Rattle.sg_wire.proofs.FieldLemmas.{same-found}
 use Rattle.sg_wire.proofs.ProfileLemmas.{first_opcode, has_row, none-in, rows-none, rows-same}
 
 abbrev unless_short : {A : Type 0} → (is_short : Bool) → List ℕ → Result A CdbFault → Result A CdbFault
@@ -60,23 +61,26 @@ by_result made cdb is_short bad (Ok tt) e = (fits made cdb is_short bad (sym e),
 by_result made cdb is_short bad (Err fault) e = (tt, refused made cdb is_short bad fault (sym e))
 
 -- a row is as long as the CDBs of its operation code
-whole-row : (named : Name) → length (masks (layout_of named)) ≡ length_of (layout_of named).opcode
-whole-row name.TestUnitReady = refl
-whole-row named = refl
+whole-row : (profile : Profile) (named : Name)
+    → length (masks_in profile (layout_of named)) ≡ length_of (layout_of named).opcode
+whole-row profile name.TestUnitReady = refl
+whole-row profile named = refl
 
 -- the masks of a row decide whether its command is decoded
-pub row-decides : (cdb : List ℕ) (named : Name) (bits : List ℕ) (checked : Result Unit CdbFault)
-    → bits ≡ masks (layout_of named) → checked ≡ fits_masks bits cdb
-    → OnOk checked (IsDecoded cdb named) × IfErr checked (IsRefused cdb named)
+pub row-decides : (profile : Profile) (cdb : List ℕ) (named : Name) (bits : List ℕ)
+    (checked : Result Unit CdbFault) → bits ≡ masks_in profile (layout_of named)
+    → checked ≡ fits_masks bits cdb
+    → OnOk checked (IsDecodedIn profile cdb named) × IfErr checked (IsRefusedIn profile cdb named)
 unfolding fits_masks
-row-decides cdb named bits checked m e =
+row-decides profile cdb named bits checked m e =
     let l = layout_of named in
     let made = make_from cdb l.fields l.make in
     let is_short = nat_lt (length cdb) (length_of l.opcode) in
-    let bad = first_bad 0 (masks l) cdb in
+    let bad = first_bad 0 (masks_in profile l) cdb in
     let same : checked ≡ unless_short is_short cdb (unless_bad bad (tt {0})) =
     e ∙ ap (λ (bits : List ℕ). fits_masks bits cdb) m
-    ∙ ap (λ n. unless_short (nat_lt (length cdb) n) cdb (unless_bad bad (tt {0}))) (whole-row named) in
+    ∙ ap (λ n. unless_short (nat_lt (length cdb) n) cdb (unless_bad bad (tt {0})))
+    (whole-row profile named) in
     by_result made cdb is_short bad checked same
 
 -- no command has more than 16 bytes
@@ -180,28 +184,37 @@ exit_failure_mode-found cdb h =
     (is_its _ 0x1F h)
 
 -- the command by the row that is found
-abbrev unless_short_by : (opcode : ℕ) → List ℕ → Option Layout → Result Command CdbFault
-unless_short_by opcode cdb found =
-    if nat_lt (length cdb) (length_of opcode) then Err (Short (length cdb))
-    else command_by_row cdb found
+module _ (profile : Profile) (cdb : List ℕ) where
+  abbrev unless_short_by : (opcode : ℕ) → Option Layout → Result Command CdbFault
+  unless_short_by opcode found =
+      if nat_lt (length cdb) (length_of opcode) then Err (Short (length cdb))
+      else command_by_row profile cdb found
 
--- the name of a CDB's row decides its command
-decodes : (cdb : List ℕ) (named : Name) → HasAction cdb named
-    → command_with (layout_of named).opcode cdb ≡ command_of_name named cdb
-unfolding command_with
-decodes cdb name.PersistentReserveIn h = refl
-decodes cdb name.PersistentReserveOut h = refl
-decodes cdb name.ReadCapacity16 h = ap (unless_short_by 0x9E cdb) (capacity-found cdb h)
-decodes cdb name.GetLbaStatus h = ap (unless_short_by 0x9E cdb) (status-found cdb h)
-decodes cdb name.ReportSupportedOperationCodes h = ap (unless_short_by 0xA3 cdb) (codes-found cdb h)
-decodes cdb name.ReportSupportedTaskManagementFunctions h =
-    ap (unless_short_by 0xA3 cdb) (functions-found cdb h)
-decodes cdb name.SanitizeBlockErase h = ap (unless_short_by 0x48 cdb) (block_erase-found cdb h)
-decodes cdb name.SanitizeCryptographicErase h =
-    ap (unless_short_by 0x48 cdb) (cryptographic_erase-found cdb h)
-decodes cdb name.SanitizeExitFailureMode h =
-    ap (unless_short_by 0x48 cdb) (exit_failure_mode-found cdb h)
-decodes cdb named h = refl
+  abbrev unless_short_10 : Result Command CdbFault → Result Command CdbFault
+  unless_short_10 read = if nat_lt (length cdb) 10 then Err (Short (length cdb)) else read
+
+  -- the name of a CDB's row decides its command
+  decodes : (named : Name) → HasAction cdb named
+      → command_by_rows profile cdb (rows_in Extended (layout_of named).opcode)
+      ≡ command_of_name profile named cdb
+  unfolding command_with
+  decodes name.PersistentReserveIn h =
+      ap unless_short_10
+      (same-found profile cdb (λ action. layout (reserve_in action 0)) (λ action. refl) each_in_action)
+  decodes name.PersistentReserveOut h =
+      ap unless_short_10
+      (same-found profile cdb (λ action. layout (reserve_out action 0 0)) (λ action. refl) each_out_action)
+  decodes name.ReadCapacity16 h = ap (unless_short_by 0x9E) (capacity-found cdb h)
+  decodes name.GetLbaStatus h = ap (unless_short_by 0x9E) (status-found cdb h)
+  decodes name.ReportSupportedOperationCodes h = ap (unless_short_by 0xA3) (codes-found cdb h)
+  decodes name.ReportSupportedTaskManagementFunctions h =
+      ap (unless_short_by 0xA3) (functions-found cdb h)
+  decodes name.SanitizeBlockErase h = ap (unless_short_by 0x48) (block_erase-found cdb h)
+  decodes name.SanitizeCryptographicErase h =
+      ap (unless_short_by 0x48) (cryptographic_erase-found cdb h)
+  decodes name.SanitizeExitFailureMode h =
+      ap (unless_short_by 0x48) (exit_failure_mode-found cdb h)
+  decodes named h = refl
 
 -- ---- what the table has for a CDB
 
@@ -315,14 +328,14 @@ module _ (cdb : List ℕ) (opcode : ℕ) where
   none-class (l ∷ ls) none first =
       ap (λ found. Some (class_or_always cdb found)) none
 
-  none-command : (rows : List Layout) → find (has_action_of cdb) rows ≡ None
-      → first_opcode rows ≡ Some opcode → command_by_rows cdb rows
+  none-command : (profile : Profile) (rows : List Layout) → find (has_action_of cdb) rows ≡ None
+      → first_opcode rows ≡ Some opcode → command_by_rows profile cdb rows
       ≡ (if nat_lt (length cdb) (length_of opcode) then Err (Short (length cdb)) else Err (BadField 1))
-  none-command [] none first = cc
-  none-command (l ∷ ls) none first =
+  none-command profile [] none first = cc
+  none-command profile (l ∷ ls) none first =
       let same : l.opcode ≡ opcode = cc in
       ap (λ found. if nat_lt (length cdb) (length_of l.opcode) then Err (Short (length cdb))
-      else command_by_row cdb found) none
+      else command_by_row profile cdb found) none
       ∙ ap (λ code. if nat_lt (length cdb) (length_of code) then Err (Short (length cdb))
       else Err (BadField 1)) same
 
@@ -399,9 +412,9 @@ module _ (profile : Profile) where
       let cdb = opcode ∷ rest in
       let code = (layout_of row.now.name).opcode in
       let wanted : length_of code ≡ length row.now.masks.now =
-      sym (ap length h.2.4 ∙ whole-row row.now.name) in
-      ap (command_by_rows cdb) (rows-without cdb row h)
-      ∙ none-command cdb code (rows_in Extended code) h.4 (has_row (command_named row.now.name))
+      sym (ap length h.2.4 ∙ whole-row Extended row.now.name) in
+      ap (command_by_rows profile cdb) (rows-without cdb row h)
+      ∙ none-command cdb code profile (rows_in Extended code) h.4 (has_row (command_named row.now.name))
       ∙ ap (λ n. if nat_lt (length cdb) n then Err (Short (length cdb)) else Err (BadField 1)) wanted
 
   pub row-fits : (cdb : List ℕ) (row : Bor Row) → IsFound profile cdb (NoServiceAction row)
@@ -424,21 +437,22 @@ module _ (profile : Profile) where
       → command_in profile cdb ≡ Err Opcode
   unfolding command_in
   refused-opcode [] some h = absurd (omega arith)
-  refused-opcode (opcode ∷ rest) some h = ap (command_by_rows (opcode ∷ rest)) (h some)
+  refused-opcode (opcode ∷ rest) some h = ap (command_by_rows profile (opcode ∷ rest)) (h some)
 
   -- and a CDB with a row is decoded by it
   by_rows : (cdb : List ℕ) (row : Bor Row) → IsFound profile cdb (FoundRow row)
-      → command_in profile cdb ≡ command_with (layout_of row.now.name).opcode cdb
-  unfolding command_in command_with
+      → command_in profile cdb
+      ≡ command_by_rows profile cdb (rows_in Extended (layout_of row.now.name).opcode)
+  unfolding command_in
   by_rows [] row h = absurd (omega (arith, h.0.0))
   by_rows (opcode ∷ rest) row h =
-      ap (λ code. command_by_rows (opcode ∷ rest) (rows_in profile code)) h.0.1
-      ∙ ap (command_by_rows (opcode ∷ rest))
+      ap (λ code. command_by_rows profile (opcode ∷ rest) (rows_in profile code)) h.0.1
+      ∙ ap (command_by_rows profile (opcode ∷ rest))
       (rows-same profile (command_named row.now.name) (ap (λ p. is_in p profile) (sym h.1.0) ∙ h.2))
 
   pub read-row : (cdb : List ℕ) (row : Bor Row) → IsFound profile cdb (FoundRow row)
-      → command_in profile cdb ≡ command_of_name row.now.name cdb
-  read-row cdb row h = by_rows cdb row h ∙ decodes cdb row.now.name h.0.2
+      → command_in profile cdb ≡ command_of_name profile row.now.name cdb
+  read-row cdb row h = by_rows cdb row h ∙ decodes profile cdb row.now.name h.0.2
 
   -- a profile that has the row of a CDB finds it, and a profile that lacks it finds none
   pub row-has : (cdb : List ℕ) (row : Bor Row) → IsFound Extended cdb (FoundRow row)

@@ -5,7 +5,6 @@ use Rattle.std.proofs.lemmas.Bool.{and_parts, eqb-true, eqb-false}
 use Rattle.std.proofs.lemmas.List.Folds.{list_all_at}
 use Rattle.std.proofs.lemmas.List.FromFn.{get_or-range_with_len, length-map-range_with_len}
 use Rattle.std.proofs.lemmas.List.FromFn.{length-range_with_len}
-use Rattle.std.proofs.lemmas.Nat.{and_assoc}
 use Rattle.std.specs.List.{Contains, list_all, range_with_len}
 use Rattle.std.specs.Prelude.{bit_and, slice_index, ◌==◌, ◌&&◌, ◌||◌, if◌then◌else◌}
 use Rattle.sg_wire.specs.Bits.{has_bit}
@@ -15,6 +14,8 @@ use Rattle.sg_wire.specs.Layout.{Layout, length_of, table}
 use Rattle.sg_wire.specs.Profile.{is_in}
 use Rattle.sg_wire.specs.SupportedOperations.{rows_of, usage_data}
 use Rattle.sg_wire.specs.declared.profile.Profile.{Profile}
+use Rattle.sg_wire.specs.declared.profile.Profile.TheVariants.{Base, Extended}
+use Rattle.sg_wire.proofs.FieldLemmas.{within-mask}
 
 -- ---- tests of all elements
 
@@ -108,6 +109,22 @@ row_within l = list_all (byte_within l) (range_with_len 0 (length_of l.opcode))
 rows-within : list_all row_within table ≡ true
 rows-within = refl
 
+-- a mask is within the extended disk's
+abbrev mask_within : Layout → ℕ → Bool
+mask_within l k = bit_and (mask_of Base l k) (mask_of Extended l k) == mask_of Base l k
+
+abbrev masks_within : Layout → Bool
+masks_within l = list_all (mask_within l) (range_with_len 0 (length_of l.opcode))
+
+masks-within : list_all masks_within table ≡ true
+masks-within = refl
+
+pub bits-added : (l : Layout) (k : ℕ) → Contains (rows_of Base) l → k < length_of l.opcode
+    → bit_and (mask_of Base l k) (mask_of Extended l k) ≡ mask_of Base l k
+bits-added l k there h =
+    eqb-true _ _ (in-range (mask_within l) 0 (length_of l.opcode) k
+    (of-row masks_within masks-within Base l there) (omega arith) (omega (arith, h)))
+
 -- the first bad byte is bad
 record IsBad (masks cdb : List ℕ) (i : ℕ) : Type 0 where
   within : i < length masks
@@ -145,12 +162,6 @@ bad-from n k (mask ∷ masks) [] e = cc
 bad-from n k (mask ∷ masks) (byte ∷ cdb) e =
     bad-by n k mask byte masks cdb (bit_and byte mask == byte) refl (bad-from (n + 1) k masks cdb) e
 
--- a byte within the usage data is within the mask
-within-mask : (byte shown mask : ℕ) → bit_and byte shown ≡ byte → bit_and shown mask ≡ shown
-    → bit_and byte mask ≡ byte
-within-mask byte shown mask e f =
-    ap (λ b. bit_and b mask) (sym e) ∙ and_assoc mask byte shown ∙ ap (bit_and byte) f ∙ e
-
 pub byte-allowed : (profile : Profile) (l : Layout) (k : ℕ) (cdb : List ℕ)
     → Contains (rows_of profile) l
     → bit_and (slice_index cdb k) (slice_index (usage_data l) k) ≡ slice_index cdb k
@@ -159,7 +170,7 @@ byte-allowed profile l k cdb there only e =
     let m = bad-from 0 k (masks l) cdb e in
     let place : m.index ≡ k = omega (arith, m.place) in
     let size : length (masks l) ≡ length_of l.opcode =
-    length-map-range_with_len (mask_of l) 0 (length_of l.opcode) in
+    length-map-range_with_len (mask_of Extended l) 0 (length_of l.opcode) in
     let row = of-row row_within rows-within profile l there in
     let byte = in-range (byte_within l) 0 (length_of l.opcode) k row (omega arith)
     (omega (arith, m.is_bad.within, place, size)) in

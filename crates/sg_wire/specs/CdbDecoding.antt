@@ -43,21 +43,28 @@ action_places (named action) = action_place ∷ []
 abbrev pub bits_in : ℕ → List Place → ℕ
 bits_in k places = fold bit_or 0 (map (mask_in k) places)
 
+-- The places of the fields that a disk of a profile has.
+abbrev pub places_in : Profile → List Field → List Place
+places_in profile fields = map (λ (f : Field). f.place) (filter (λ f. is_in f.profile profile) fields)
+
 -- The bits of byte k that are fields of the row. Byte 0, the operation code, is one.
-abbrev pub field_bits : Layout → ℕ → ℕ
-field_bits l k =
-    if k == 0 then 0xFF
-    else bits_in k (action_places l.action ++ map (λ (f : Field). f.place) l.fields)
+abbrev pub field_bits : Profile → Layout → ℕ → ℕ
+field_bits profile l k =
+    if k == 0 then 0xFF else bits_in k (action_places l.action ++ places_in profile l.fields)
 
 -- The bits of byte k that may be set.
 -- Choice (SPC-4, 3.3, reserved): a reserved or obsolete bit may be ignored.
 -- Choice (SAM-5, 5.2): bits 7 and 6 of CONTROL may have a meaning.
-abbrev pub mask_of : Layout → ℕ → ℕ
-mask_of l k = bit_or (field_bits l k) (bits_in k (l.free.used ++ l.free.ignored))
+abbrev pub mask_of : Profile → Layout → ℕ → ℕ
+mask_of profile l k = bit_or (field_bits profile l k) (bits_in k (l.free.used ++ l.free.ignored))
 
 -- The bits that may be set, byte by byte.
+abbrev pub masks_in : Profile → Layout → List ℕ
+masks_in profile l = map (mask_of profile l) (range_with_len 0 (length_of l.opcode))
+
+-- Those of an extended disk, which has every field.
 abbrev pub masks : Layout → List ℕ
-masks l = map (mask_of l) (range_with_len 0 (length_of l.opcode))
+masks l = masks_in Extended l
 
 -- The first byte, counted from k, that has a bit outside its mask.
 -- Departure (SPC-4, 4.5.2.4.2): the pointer is to the first byte of an obsolete field there.
@@ -80,23 +87,25 @@ make_from cdb [] command = command
 make_from cdb (field ∷ fields) make = make_from cdb fields (make (value_at cdb field.place))
 
 -- The command by its row. A service action that no row has is a fault of byte 1.
-abbrev pub command_by_row : List ℕ → Option Layout → Result Command CdbFault
-command_by_row cdb None = Err (BadField 1)
-command_by_row cdb (Some l) = unless_bad (first_bad 0 (masks l) cdb) (make_from cdb l.fields l.make)
+abbrev pub command_by_row : Profile → List ℕ → Option Layout → Result Command CdbFault
+command_by_row profile cdb None = Err (BadField 1)
+command_by_row profile cdb (Some l) =
+    unless_bad (first_bad 0 (masks_in profile l) cdb) (make_from cdb l.fields l.make)
 
 -- The command by the rows of its operation code.
-abbrev pub command_by_rows : List ℕ → List Layout → Result Command CdbFault
-command_by_rows cdb [] = Err Opcode
-command_by_rows cdb (l ∷ ls) =
+abbrev pub command_by_rows : Profile → List ℕ → List Layout → Result Command CdbFault
+command_by_rows profile cdb [] = Err Opcode
+command_by_rows profile cdb (l ∷ ls) =
     if nat_lt (length cdb) (length_of l.opcode) then Err (Short (length cdb))
-    else command_by_row cdb (find (has_action_of cdb) (l ∷ ls))
+    else command_by_row profile cdb (find (has_action_of cdb) (l ∷ ls))
 
 -- The command of a CDB, or its first fault. Bytes past the command's length do not matter.
 unfoldable pub command_in : Profile → List ℕ → Result Command CdbFault
 command_in profile [] = Err Empty
-command_in profile (opcode ∷ rest) = command_by_rows (opcode ∷ rest) (rows_in profile opcode)
+command_in profile (opcode ∷ rest) =
+    command_by_rows profile (opcode ∷ rest) (rows_in profile opcode)
 
--- The command of a CDB, whichever profiles have it: the extended profile has every row.
+-- The command of a CDB, whichever profiles have it: the extended profile has every row and field.
 abbrev pub command_of : List ℕ → Result Command CdbFault
 command_of cdb = command_in Extended cdb
 

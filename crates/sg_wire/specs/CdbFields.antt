@@ -1,9 +1,12 @@
 -- The fields of a command descriptor block, CDB (SPC-4, 4.2): their places, and their values.
 use Rattle.std.specs.Prelude.{ℕ, ◌+◌, ◌-◌, ◌*◌, ◌^◌, List, [], ◌∷◌, drop, slice_index}
-use Rattle.std.specs.Prelude.{Option, Some, None, Bool, ◌&&◌, nat_lt, nat_le, ◌==◌}
+use Rattle.std.specs.Prelude.{Option, Some, None, Bool, not, ◌&&◌, ◌||◌, nat_lt, nat_le, ◌==◌}
 use Rattle.std.specs.Prelude.{if◌then◌else◌}
 use Rattle.byteorder.specs.Endian.{big_number}
 use Rattle.sg_wire.specs.Bits.{bits_of, has_bit}
+use Rattle.sg_wire.specs.Profile.{is_in}
+use Rattle.sg_wire.specs.declared.profile.Profile.{Profile}
+use Rattle.sg_wire.specs.declared.profile.Profile.TheVariants.{Base, Extended}
 
 -- The place of a field: a bit of a byte, some bits of a byte, or whole bytes. Some bits go from a
 -- high one to a low one. Whole bytes have the most significant one first. The last place has the
@@ -21,13 +24,19 @@ Value (bits byte high low) = ℕ
 Value (bytes first last) = ℕ
 Value short_extent = ℕ × ℕ
 
--- A place with its value.
+-- A place with its value, on disks of a profile. To a base disk the bits of an extended disk's field
+-- are reserved.
 pub record Field : Type 0 where
+  pub profile : Profile
   pub place : Place
   pub value : Value place
 
+-- A field of each disk, and a field that only an extended disk has.
 abbrev pub field : (place : Place) → Value place → Field
-field place value = record { place = place; value = value }
+field place value = record { profile = Base; place = place; value = value }
+
+abbrev pub extended_field : (place : Place) → Value place → Field
+extended_field place value = record (field place value) { profile = Extended }
 
 -- In six bytes a TRANSFER LENGTH of 0 means 256 blocks (SBC-2, READ(6)).
 abbrev pub blocks_of : ℕ → ℕ
@@ -54,6 +63,17 @@ value_at cdb (bits byte high low) = bits_of (slice_index cdb byte) high low
 value_at cdb (bytes first last) = number_at cdb first last
 value_at cdb short_extent =
     (bits_of (slice_index cdb 1) 4 0 * 65536 + number_at cdb 2 3, blocks_of (slice_index cdb 4))
+
+-- No bit of the place is set.
+abbrev pub is_zero : (place : Place) → Value place → Bool
+is_zero (bit byte index) value = not value
+is_zero (bits byte high low) value = value == 0
+is_zero (bytes first last) value = value == 0
+is_zero short_extent value = value.0 == 0 && value.1 == 256
+
+-- A disk of a profile has the field, or has no use for it, because its bits are zero.
+abbrev pub allows_field : Profile → Field → Bool
+allows_field profile f = is_in f.profile profile || is_zero f.place f.value
 
 -- ---- The bits of a place
 

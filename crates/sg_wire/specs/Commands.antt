@@ -199,9 +199,14 @@ abbrev pub write_same_10 : (anchor unmap : Bool) (lba count : ℕ) → Command
 write_same_10 anchor unmap lba n =
     command.WriteSame10 (record { lba = lba; count = n; anchor = anchor; unmap = unmap })
 
-abbrev pub write_same_16 : (anchor unmap : Bool) (lba count : ℕ) → Command
-write_same_16 anchor unmap lba n =
-    command.WriteSame16 (record { lba = lba; count = n; anchor = anchor; unmap = unmap })
+abbrev pub write_same_16 : (anchor unmap ndob : Bool) (lba count : ℕ) → Command
+write_same_16 anchor unmap ndob lba n = command.WriteSame16 (record {
+  lba = lba;
+  count = n;
+  anchor = anchor;
+  unmap = unmap;
+  ndob = ndob;
+})
 
 abbrev pub unmap : (anchor : Bool) (group list_length : ℕ) → Command
 unmap anchor group n =

@@ -2,15 +2,15 @@
 use Rattle.std.specs.Prelude.{◌≡◌, ◌≢◌, ◌<◌, ◌≤◌, ℕ, ◌^◌, ◌==◌, List, [], ◌++◌, length, map, take}
 use Rattle.std.specs.Prelude.{Some, Ok, Err, Bool, true, false, not, ◌&&◌, ◌||◌, if◌then◌else◌}
 use Rattle.std.specs.Prelude.{bit_and, slice_index}
-use Rattle.std.specs.List.{Contains, list_any}
+use Rattle.std.specs.List.{Contains, list_all, list_any}
 use Rattle.std.specs.Borrow.{GName}
 use Rattle.sg_wire.specs.Bits.{has_bit}
-use Rattle.sg_wire.specs.CdbFields.{Field, Place, mask_in}
+use Rattle.sg_wire.specs.CdbFields.{Field, Place, allows_field, mask_in}
 use Rattle.sg_wire.specs.Cut.{IsLeftIn, Puts, answer_of}
 use Rattle.sg_wire.specs.CutAnswer.{CutAnswer, empty_answer, put, replace}
 use Rattle.sg_wire.specs.FirstBytes.{first_bytes, overwritten}
 use Rattle.sg_wire.specs.CdbDecoding.{action_places, class_in, command_in, first_bad, is_blocked_in}
-use Rattle.sg_wire.specs.CdbDecoding.{masks, rows_in}
+use Rattle.sg_wire.specs.CdbDecoding.{mask_of, masks, rows_in}
 use Rattle.sg_wire.specs.CdbEncoding.{cdb_of}
 use Rattle.sg_wire.specs.Layout.{Layout, layout, length_of}
 use Rattle.sg_wire.specs.Profile.{is_in}
@@ -20,12 +20,15 @@ use Rattle.sg_wire.specs.declared.command.CdbFault.TheVariants.{Empty, Short}
 use Rattle.sg_wire.specs.declared.command.Command.{Command}
 use Rattle.sg_wire.specs.declared.cut.Cut.{Cut}
 use Rattle.sg_wire.specs.declared.profile.Profile.{Profile}
+use Rattle.sg_wire.specs.declared.profile.Profile.TheVariants.{Base, Extended}
 
 -- ---- Profiles
 
--- A disk of a profile has a command.
+-- A disk of a profile has a command: the command's row, and each of its fields that is not zero.
 abbrev pub has_command : Profile → Command → Bool
-has_command profile command = is_in (layout command).profile profile
+has_command profile command =
+    let l = layout command in
+    list_all (allows_field profile) l.fields && is_in l.profile profile
 
 -- A CDB is read as a command on each disk that has the command.
 abbrev pub IsReadAs : List ℕ → Command → Type 0
@@ -39,8 +42,8 @@ ProfilesAreClosed =
     → command_in profile cdb ≡ Ok command → has_command profile command ≡ true
 
 -- A profile only adds: a CDB that is a command in one profile is the same command in each profile
--- that has it, and of the same class. Its operation code has the same rows, and so the same masks.
--- A unit attention blocks it in both profiles or in neither.
+-- that has it, and of the same class. Its operation code has the same rows. A unit attention blocks it
+-- in both profiles or in neither. An extended disk allows each bit of a CDB that a base disk allows.
 pub record ProfilesOnlyAdd : Type 0 where
   pub command : (profile : Profile) (cdb : List ℕ) (command : Command)
       → command_in profile cdb ≡ Ok command → IsReadAs cdb command
@@ -53,6 +56,8 @@ pub record ProfilesOnlyAdd : Type 0 where
   pub attention : (one other : Profile) (cdb : List ℕ) (command : Command)
       → command_in one cdb ≡ Ok command → has_command other command ≡ true
       → is_blocked_in other cdb ≡ is_blocked_in one cdb
+  pub bits : (l : Layout) (k : ℕ) → Contains (rows_of Base) l → k < length_of l.opcode
+      → bit_and (mask_of Base l k) (mask_of Extended l k) ≡ mask_of Base l k
 
 -- ---- CDBs
 
@@ -120,7 +125,7 @@ IsBitOf l k i =
     (1 ≤ k) × (k < length_of l.opcode) × (i < 8) × (is_within (action_places l.action) k i ≡ false)
 
 -- A bit of CDB USAGE DATA is set exactly if the disk evaluates it. If CDB USAGE DATA has each bit of
--- a CDB's byte, the disk does not refuse the CDB for this byte.
+-- a CDB's byte, an extended disk does not refuse the CDB for this byte.
 pub record UsageDataIsEvaluated : Type 0 where
   pub bits : (profile : Profile) (l : Layout) (k i : ℕ) → Contains (rows_of profile) l
       → IsBitOf l k i → has_bit (slice_index (usage_data l) k) (2 ^ i) ≡ is_evaluated l k i

@@ -1,7 +1,7 @@
 -- The layout of command descriptor blocks, CDBs (SPC-4, 4.2; docs/PROFILE.md, "Commands").
 use Rattle.std.specs.Prelude.{ℕ, ◌/◌, List, [], ◌∷◌, ◌++◌, map, Bool, true, false, ◌==◌}
 use Rattle.std.specs.Prelude.{◌&&◌, if◌then◌else◌}
-use Rattle.sg_wire.specs.CdbFields.{Field, Place, Value, field}
+use Rattle.sg_wire.specs.CdbFields.{Field, Place, Value, extended_field, field}
 use Rattle.sg_wire.specs.CdbFields.Place.{bit, bits, bytes, short_extent}
 use Rattle.sg_wire.specs.declared.command.Class.{Class}
 use Rattle.sg_wire.specs.declared.command.Class.TheVariants.{Always, Reads, Writes}
@@ -168,11 +168,12 @@ write_same_10 c =
     write_same_bits c.anchor c.unmap
     ++ field (bytes 2 5) c.lba ∷ field (bytes 7 8) c.count ∷ []
 
--- Departure (SBC-3, 5.44): with NDOB 1 zeros are written without data-out there.
+-- WRITE SAME(16) has NDOB, too.
+-- Departure (SBC-3, 5.44): a base disk lacks NDOB.
 abbrev write_same_16 : WriteSame16 → List Field
 write_same_16 c =
     write_same_bits c.anchor c.unmap
-    ++ field (bytes 2 9) c.lba ∷ field (bytes 10 13) c.count ∷ []
+    ++ extended_field (bit 1 0) c.ndob ∷ field (bytes 2 9) c.lba ∷ field (bytes 10 13) c.count ∷ []
 
 -- ANCHOR, GROUP NUMBER and PARAMETER LIST LENGTH.
 abbrev unmap : Unmap → List Field
@@ -435,7 +436,7 @@ each_command =
     ∷ make.write_atomic_16 0 0 0
     ∷ make.write_long_10 false false 0 0
     ∷ make.write_same_10 false false 0 0
-    ∷ make.write_same_16 false false 0 0
+    ∷ make.write_same_16 false false false 0 0
     ∷ make.unmap false 0 0
     ∷ make.get_lba_status 0 0
     ∷ map (λ action. make.reserve_in action 0) each_in_action

@@ -13,6 +13,7 @@ use Rattle.sg_wire.specs.declared.command.report.ReportSupportedOperationCodes.{
 use Rattle.sg_wire.specs.declared.command.supported.SupportReport.{SupportReport}
 use Rattle.sg_wire.specs.declared.command.supported.SupportReport.TheVariants.{AllCommands, OneCommand}
 use Rattle.sg_wire.specs.declared.profile.Profile.{Profile}
+use Rattle.sg_wire.specs.declared.profile.Profile.TheVariants.{Extended}
 
 abbrev pub has_action : ServiceAction → Bool
 has_action none = false
@@ -59,10 +60,11 @@ all_commands profile timeouts =
 
 -- ---- One command (SPC-4, 6.35.3)
 
--- The bits that mean something, byte by byte. The disk ignores the others that may be set.
+-- The bits that mean something, byte by byte. The disk ignores the others that may be set. Only an
+-- extended disk reports them, so each field counts.
 abbrev pub usage_in : Layout → ℕ → ℕ
 usage_in l k =
-    let fields = field_bits l k in
+    let fields = field_bits Extended l k in
     bit_or (fields - bit_and fields (bits_in k l.free.ignored)) (bits_in k l.free.used)
 
 abbrev pub usage : Layout → List ℕ

@@ -79,7 +79,7 @@ command_named name.WriteAndVerify16 = make.write_and_verify_16 0 0 0
 command_named name.WriteAtomic16 = make.write_atomic_16 0 0 0
 command_named name.WriteLong10 = make.write_long_10 false false 0 0
 command_named name.WriteSame10 = make.write_same_10 false false 0 0
-command_named name.WriteSame16 = make.write_same_16 false false 0 0
+command_named name.WriteSame16 = make.write_same_16 false false false 0 0
 command_named name.Unmap = make.unmap false 0 0
 command_named name.GetLbaStatus = make.get_lba_status 0 0
 
@@ -205,26 +205,39 @@ fits_masks masks cdb =
     then Err (Short (length cdb))
     else unless_bad (first_bad 0 masks cdb) tt
 
--- The command of a CDB by one layout.
-abbrev pub command_by : Layout → List ℕ → Result Command CdbFault
-command_by l cdb =
+-- The command of a CDB by one layout, on a disk of a profile.
+abbrev pub command_by_in : Profile → Layout → List ℕ → Result Command CdbFault
+command_by_in profile l cdb =
     if nat_lt (length cdb) (length_of l.opcode) then Err (Short (length cdb))
-    else command_by_row cdb (Some l)
+    else command_by_row profile cdb (Some l)
+
+abbrev pub command_by : Layout → List ℕ → Result Command CdbFault
+command_by l cdb = command_by_in Extended l cdb
 
 -- The command of a CDB by all layouts of an operation code.
 unfoldable pub command_with : (opcode : ℕ) → List ℕ → Result Command CdbFault
-command_with opcode cdb = command_by_rows cdb (rows_in Extended opcode)
+command_with opcode cdb = command_by_rows Extended cdb (rows_in Extended opcode)
 
--- The command of a CDB by its name. The service action decides about PERSISTENT RESERVE IN and OUT.
-abbrev pub command_of_name : Name → List ℕ → Result Command CdbFault
-command_of_name name.PersistentReserveIn cdb = command_with 0x5E cdb
-command_of_name name.PersistentReserveOut cdb = command_with 0x5F cdb
-command_of_name named cdb = command_by (layout_of named) cdb
+-- The command of a CDB by its name, on a disk of a profile. The service action decides about
+-- PERSISTENT RESERVE IN and OUT. Only WRITE SAME(16) has a field that depends on the profile.
+abbrev pub command_of_name : Profile → Name → List ℕ → Result Command CdbFault
+command_of_name profile name.PersistentReserveIn cdb = command_with 0x5E cdb
+command_of_name profile name.PersistentReserveOut cdb = command_with 0x5F cdb
+command_of_name profile name.WriteSame16 cdb =
+    command_by_in profile (layout_of name.WriteSame16) cdb
+command_of_name profile named cdb = command_by (layout_of named) cdb
 
 -- The command of a CDB that fits the masks of its layout, and the fault of one that does not.
+abbrev pub IsDecodedIn : Profile → List ℕ → Name → Type 0
+IsDecodedIn profile cdb named =
+    let l = layout_of named in
+    command_by_in profile l cdb ≡ Ok (make_from cdb l.fields l.make)
+
 abbrev pub IsDecoded : List ℕ → Name → Type 0
-IsDecoded cdb named =
-    let l = layout_of named in command_by l cdb ≡ Ok (make_from cdb l.fields l.make)
+IsDecoded cdb named = IsDecodedIn Extended cdb named
+
+abbrev pub IsRefusedIn : Profile → List ℕ → Name → CdbFault → Type 0
+IsRefusedIn profile cdb named fault = command_by_in profile (layout_of named) cdb ≡ Err fault
 
 abbrev pub IsRefused : List ℕ → Name → CdbFault → Type 0
-IsRefused cdb named fault = command_by (layout_of named) cdb ≡ Err fault
+IsRefused cdb named fault = IsRefusedIn Extended cdb named fault

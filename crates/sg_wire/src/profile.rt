@@ -65,6 +65,8 @@ pub struct Rules {
     pub select_of_nothing_ignores_page_format: bool,
     /// Data-out that is too short is an ILLEGAL REQUEST, and no DATA PHASE ERROR (SPC-4, sense keys).
     pub short_data_out_is_illegal: bool,
+    /// WRITE SAME takes data-out of one block, or with NDOB none, and no other length (SBC-3, 5.43).
+    pub write_same_takes_exact_length: bool,
     /// SWP refuses a command only if it writes a block, with WRITE PROTECTED (SBC-3, 4.12).
     pub protects_only_writes: bool,
     /// A unit attention comes before a reservation conflict only if its additional sense code is 29h,
@@ -88,6 +90,7 @@ const BASE_RULES: Rules = Rules {
     ignores_number_of_blocks: false,
     select_of_nothing_ignores_page_format: false,
     short_data_out_is_illegal: false,
+    write_same_takes_exact_length: false,
     protects_only_writes: false,
     only_resets_outrank_conflicts: false,
     preempt_needs_a_key: false,
@@ -102,6 +105,7 @@ const EXTENDED_RULES: Rules = Rules {
     ignores_number_of_blocks: true,
     select_of_nothing_ignores_page_format: true,
     short_data_out_is_illegal: true,
+    write_same_takes_exact_length: true,
     protects_only_writes: true,
     only_resets_outrank_conflicts: true,
     preempt_needs_a_key: true,

@@ -80,6 +80,7 @@ const WRITE_SAME_16: Command = Command::WriteSame16(WriteSame16 {
     count: 0x090A_0B0C,
     anchor: false,
     unmap: true,
+    ndob: false,
 });
 
 const GET_LBA_STATUS: Command = Command::GetLbaStatus(GetLbaStatus {
@@ -191,6 +192,25 @@ fn only_the_extended_profile_has_write_long(rt: HostRuntime) {
     assert!(rt; Command::read(&WRITE_LONG_CDB) == Err(CdbFault::Opcode));
     assert!(rt; extended == Ok(WRITE_LONG));
     assert!(rt; WRITE_LONG.write().as_slice() == WRITE_LONG_CDB.as_slice());
+}
+
+/// A CDB of WRITE SAME(16) with NDOB, and the command.
+const ZEROS_CDB: [u8; 16] = [0x93, 0x01, 1, 2, 3, 4, 5, 6, 7, 8, 9, 10, 11, 12, 0, 0];
+
+const ZEROS: Command = Command::WriteSame16(WriteSame16 {
+    lba: 0x0102_0304_0506_0708,
+    count: 0x090A_0B0C,
+    anchor: false,
+    unmap: false,
+    ndob: true,
+});
+
+#[test]
+fn only_the_extended_profile_has_ndob(rt: HostRuntime) {
+    let extended = Command::read_in(Profile::Extended, &ZEROS_CDB);
+    assert!(rt; Command::read(&ZEROS_CDB) == Err(CdbFault::Field(1)));
+    assert!(rt; extended == Ok(ZEROS));
+    assert!(rt; ZEROS.write().as_slice() == ZEROS_CDB.as_slice());
 }
 
 /// CDBs of six bytes, with the address and the count that they mean.

@@ -23,6 +23,7 @@ use super::rows::{
 use super::table::{Name, Row, check_row};
 use super::{CdbFault, Command, ShortExtent, diagnostic, format, provisioning, start_stop, verify};
 use crate::bytes::{CdbBytes, MAX_CDB_LENGTH};
+use crate::profile::Profile;
 use byteorder::{BigEndian, ByteOrder};
 
 // Bits of byte 1 of WRITE LONG.
@@ -92,10 +93,10 @@ pub struct ReadCapacity16 {
 
 // ---- Decoding
 
-/// The block command of a CDB whose row has a name.
-pub(super) fn decode_block(name: Name, cdb: &[u8]) -> Result<Command, CdbFault>
+/// The block command of a CDB whose row has a name, on a disk of a profile.
+pub(super) fn decode_block(profile: Profile, name: Name, cdb: &[u8]) -> Result<Command, CdbFault>
     requires { names_block_command name ≡ true }
-    ensures { result ≡ command_of_name name cdb.now }
+    ensures { result ≡ command_of_name profile name cdb.now }
 {
     match name {
         Name::CompareAndWrite => verify::decode_compare_and_write(cdb),
@@ -130,7 +131,7 @@ pub(super) fn decode_block(name: Name, cdb: &[u8]) -> Result<Command, CdbFault>
         Name::WriteAtomic16 => decode_write_atomic_16(cdb),
         Name::WriteLong10 => decode_write_long_10(cdb),
         Name::WriteSame10 => provisioning::decode_write_same_10(cdb),
-        Name::WriteSame16 => provisioning::decode_write_same_16(cdb),
+        Name::WriteSame16 => provisioning::decode_write_same_16(profile, cdb),
         Name::Unmap => provisioning::decode_unmap(cdb),
         Name::GetLbaStatus => provisioning::decode_get_lba_status(cdb),
         _ => unreachable!(),

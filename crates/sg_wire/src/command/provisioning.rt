@@ -1,20 +1,23 @@
 // Commands of logical block provisioning (SBC-3, 4.7 and 5).
-ghost use Rattle.std.specs.Prelude.{◌≡◌, true};
+ghost use Rattle.std.specs.Prelude.{◌≡◌, ◌≤◌, length, true, IfErr, OnOk};
 ghost use Rattle.sg_wire.specs.CdbEncoding.{cdb_of};
 ghost use Rattle.sg_wire.specs.FieldRoom.{fits_cdb};
-ghost use Rattle.sg_wire.specs.Table.{command_by, layout_of};
+ghost use Rattle.sg_wire.specs.Table.{IsDecodedIn, IsRefusedIn, command_by, command_by_in, layout_of};
 ghost use Rattle.sg_wire.specs.declared.command.table.Name.{Name};
 
 use super::block::{decode_extent_10, decode_extent_16};
-use super::masks::two_bits;
+use super::masks::{check_masks, two_bits};
 use super::{CdbFault, Command, GroupNumber, rows, table};
 use crate::bytes::{CdbBytes, MAX_CDB_LENGTH};
+use crate::profile::Profile;
 use byteorder::{BigEndian, ByteOrder};
 
 // Bits of byte 1: of WRITE SAME, and of UNMAP.
 const WRITE_SAME_ANCHOR: u8 = 0x10;
 
 const WRITE_SAME_UNMAP: u8 = 0x08;
+
+const WRITE_SAME_NDOB: u8 = 0x01;
 
 const UNMAP_ANCHOR: u8 = 0x01;
 
@@ -42,6 +45,8 @@ pub struct WriteSame16 {
     pub anchor: bool,
     /// The blocks are to be unmapped in place of being written, if they then read as the block.
     pub unmap: bool,
+    /// NDOB: there is no data-out, and the block is zeros. A base disk refuses it.
+    pub ndob: bool,
 }
 
 /// The fields of UNMAP (SBC-3, 5.28).
@@ -78,16 +83,30 @@ pub(super) fn decode_write_same_10(cdb: &[u8]) -> Result<Command, CdbFault>
     }))
 }
 
-pub(super) fn decode_write_same_16(cdb: &[u8]) -> Result<Command, CdbFault>
-    ensures { result ≡ command_by (layout_of Name.WriteSame16) cdb.now }
+pub(super) fn decode_write_same_16(profile: Profile, cdb: &[u8]) -> Result<Command, CdbFault>
+    ensures { result ≡ command_by_in profile (layout_of Name.WriteSame16) cdb.now }
 {
-    let extent = decode_extent_16(&rows::WRITE_SAME_16, cdb)?;
+    check_write_same_16(profile, cdb)?;
     Ok(Command::WriteSame16(WriteSame16 {
-        lba: extent.lba,
-        count: extent.count,
+        lba: BigEndian::read_u64(&cdb[2..]),
+        count: BigEndian::read_u32(&cdb[10..]),
         anchor: cdb[1] & WRITE_SAME_ANCHOR != 0,
         unmap: cdb[1] & WRITE_SAME_UNMAP != 0,
+        ndob: cdb[1] & WRITE_SAME_NDOB != 0,
     }))
+}
+
+/// Refuses a CDB of WRITE SAME(16) that ends early or has a bit that a disk of the profile does not
+/// allow.
+fn check_write_same_16(profile: Profile, cdb: &[u8]) -> Result<(), CdbFault>
+    ensures decoded { OnOk result (IsDecodedIn profile cdb.now Name.WriteSame16) }
+    ensures refused { IfErr result (IsRefusedIn profile cdb.now Name.WriteSame16) }
+    ensures whole { OnOk result (16 ≤ length cdb.now) }
+{
+    match profile {
+        Profile::Base => check_masks(&rows::BASE_WRITE_SAME_16, cdb),
+        Profile::Extended => table::check_row(&rows::WRITE_SAME_16, cdb),
+    }
 }
 
 pub(super) fn decode_unmap(cdb: &[u8]) -> Result<Command, CdbFault>
@@ -135,7 +154,8 @@ impl WriteSame16 {
         ensures fits { fits_cdb (Command.WriteSame16 self) ≡ true }
     {
         let mut cdb = rows::WRITE_SAME_16.begin();
-        cdb[1] = two_bits(self.anchor, WRITE_SAME_ANCHOR, self.unmap, WRITE_SAME_UNMAP);
+        let ndob = if self.ndob { WRITE_SAME_NDOB } else { 0 };
+        cdb[1] = two_bits(self.anchor, WRITE_SAME_ANCHOR, self.unmap, WRITE_SAME_UNMAP) + ndob;
         BigEndian::write_u64(&mut cdb[2..], self.lba);
         BigEndian::write_u32(&mut cdb[10..], self.count);
         CdbBytes::new(cdb, MAX_CDB_LENGTH)

@@ -315,8 +315,11 @@ pub(super) static WRITE_SAME_10: Row = row! {
 
 pub(super) static WRITE_SAME_16: Row = row! {
     WriteSame16, Base, opcode::WRITE_SAME_16, None, Writes, BLOCKED,
-    range_16!(0x18, 0x1F), range_16!(0x18, 0x00)
+    range_16!(0x19, 0x1F), range_16!(0x19, 0x00)
 };
+
+// The masks of WRITE SAME(16) on a base disk, which refuses NDOB.
+pub(super) static BASE_WRITE_SAME_16: [u8; 16] = range_16!(0x18, 0x1F);
 
 pub(super) static UNMAP: Row = row! {
     Unmap, Base, opcode::UNMAP, None, Writes, BLOCKED,

@@ -12,7 +12,7 @@ use Rattle.sg_wire.specs.declared.command.CdbFault.TheVariants.{Short}
 use Rattle.sg_wire.specs.declared.command.Command.{Command}
 use Rattle.sg_wire.specs.Laws.{cut_at, has_command}
 use Rattle.sg_wire.specs.declared.profile.Profile.{Profile}
-use Rattle.sg_wire.proofs.ProfileLemmas.{first_opcode, has_row, rows-same}
+use Rattle.sg_wire.proofs.ProfileLemmas.{first_opcode, has-parts, has_row, rows-same}
 use Rattle.sg_wire.proofs.laws.prefixes_are_refused.Goals as goal
 
 -- an operation code has a row in a profile
@@ -22,13 +22,15 @@ HasRow profile opcode = first_opcode (rows_in profile opcode) ≡ Some opcode
 has_row_in : (profile : Profile) (command : Command) → has_command profile command ≡ true
     → HasRow profile (layout command).opcode
 unfolding HasRow
-has_row_in profile command has = ap first_opcode (rows-same profile command has) ∙ has_row command
+has_row_in profile command has =
+    ap first_opcode (rows-same profile command (has-parts profile command has).1) ∙ has_row command
 
 -- a CDB is refused as cut if it is shorter than the first row of its operation code says
-cut-by_rows : (cdb : List ℕ) (opcode : ℕ) (rows : List Layout) → first_opcode rows ≡ Some opcode
-    → length cdb < length_of opcode → command_by_rows cdb rows ≡ Err (Short (length cdb))
-cut-by_rows cdb opcode [] e h = cc
-cut-by_rows cdb opcode (l ∷ ls) e h =
+cut-by_rows : (profile : Profile) (cdb : List ℕ) (opcode : ℕ) (rows : List Layout)
+    → first_opcode rows ≡ Some opcode
+    → length cdb < length_of opcode → command_by_rows profile cdb rows ≡ Err (Short (length cdb))
+cut-by_rows profile cdb opcode [] e h = cc
+cut-by_rows profile cdb opcode (l ∷ ls) e h =
     let same : l.opcode ≡ opcode = cc in
     let less : nat_lt (length cdb) (length_of l.opcode) ≡ true =
     rw same (grind (arith, nat_tests)) in
@@ -48,7 +50,8 @@ module _ (profile : Profile) where
       → length (opcode ∷ rest) < length_of opcode
       → command_in profile (opcode ∷ rest) ≡ Err (Short (length (opcode ∷ rest)))
   unfolding HasRow command_in
-  cut-by_opcode opcode rest row h = cut-by_rows (opcode ∷ rest) opcode (rows_in profile opcode) row h
+  cut-by_opcode opcode rest row h =
+      cut-by_rows profile (opcode ∷ rest) opcode (rows_in profile opcode) row h
 
   -- the first bytes of a CDB begin with the operation code
   cut-by_layout : (l : Layout) (size count : ℕ) → HasRow profile l.opcode → size ≡ length_of l.opcode

@@ -1,6 +1,7 @@
 use Rattle.std.proofs.Common.{sym, ◌∙◌}
 use Rattle.sg_wire.proofs.ClassLemmas.{class-of_command}
 use Rattle.sg_wire.proofs.ProfileLemmas.{blocked-alike, read-alike, rows-alike}
+use Rattle.sg_wire.proofs.UsageLemmas.{bits-added}
 use Rattle.sg_wire.proofs.laws.profiles_only_add.Goals as goal
 
 pub returns : goal.returns
@@ -11,4 +12,5 @@ returns c = record {
       ∙ sym (class-of_command one cdb command e);
   rows = λ one other cdb command e has. rows-alike one cdb command e other has;
   attention = λ one other cdb command e has. blocked-alike one cdb command e other has;
+  bits = bits-added;
 }
