@@ -14,6 +14,7 @@ pub mod ModeSense
 pub mod MultiByteField
 pub mod ProvisioningPages
 pub mod Reports
+pub mod SeedLaws
 pub mod VitalProductData
 -- A module that only private contracts cite.
 pub mod SentValues

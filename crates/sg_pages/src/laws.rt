@@ -1,6 +1,8 @@
-// Laws of the mode pages: each is the contract of a function that changes nothing.
+// Laws of the mode pages and of seeds: each is the contract of a function that changes nothing.
 ghost use Rattle.sg_pages.specs.ModeLaws.{BytesPointToThemselves, FieldsPointToTheirFirstByte};
 ghost use Rattle.sg_pages.specs.ModeLaws.{OnlyChangeableBitsChange, OnlySpSaves, SpSavesAll};
+ghost use Rattle.sg_pages.specs.SeedLaws.{SeedOneIsStandard, SeedsHaveDesignators};
+ghost use Rattle.sg_pages.specs.SeedLaws.{SeedsHaveSerials, SeedsMakeIdentities};
 
 /// A MODE SELECT changes only bits that can be changed.
 pub fn only_changeable_bits_change()
@@ -25,4 +27,24 @@ pub fn bytes_point_to_themselves()
 /// On an extended disk each byte of a field of several bytes points to the field's first byte.
 pub fn fields_point_to_their_first_byte()
     ensures { FieldsPointToTheirFirstByte }
+{}
+
+/// Each seed of at most 60 bits makes an identity.
+pub fn seeds_make_identities()
+    ensures { SeedsMakeIdentities }
+{}
+
+/// Seed 1 makes the default identity.
+pub fn seed_one_is_standard()
+    ensures { SeedOneIsStandard }
+{}
+
+/// Two seeds of at most 60 bits make two NAA designators.
+pub fn seeds_have_designators()
+    ensures { SeedsHaveDesignators }
+{}
+
+/// Two seeds of at most 32 bits make two serial numbers.
+pub fn seeds_have_serials()
+    ensures { SeedsHaveSerials }
 {}
