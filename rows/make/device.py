@@ -39,8 +39,9 @@ class Reply:
 class Device:
     """A logical unit that was just powered on."""
 
-    def __init__(self, capacity, pool, profile="base"):
+    def __init__(self, capacity, pool, profile="base", seed=1):
         self.profile = profile
+        self.seed = seed  # of the names, 60 bits
         self.provisioning = Provisioning(capacity, pool)
         self.stopped = False
         self.modes = modes.Modes()

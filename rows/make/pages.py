@@ -5,8 +5,6 @@ import blocks
 VENDOR = b"SGMODEL "  # T10 VENDOR IDENTIFICATION, 8 bytes
 PRODUCT = b"THIN DISK       "  # 16 bytes
 REVISION = b"0100"
-SERIAL_NUMBER = b"00000001"
-LOCAL_NUMBER = 1  # of the NAA designator, 60 bits
 SAM_5, SPC_4, SBC_3 = 0x00A0, 0x0460, 0x04C0  # version descriptors, of no version of a draft
 
 
@@ -21,7 +19,7 @@ def inquiry(device, _initiator, command, _data_out):
     elif code == 0x00:  # SPC-4, 7.8: the codes of the supported pages in ascending order
         data = page(code, bytes(sorted([code, *pages])))
     elif code in pages:
-        data = page(code, pages[code](device.profile))
+        data = page(code, pages[code](device))
     else:
         raise command.unsupported("page_code")
     return data[:command["allocation_length"]]
@@ -43,21 +41,31 @@ def extended_standard_inquiry_data():
     return standard_inquiry_data(0x02, bytes(58 - 36) + descriptors.ljust(16, bytes(1)))
 
 
-def unit_serial_number(_profile):
-    return SERIAL_NUMBER
+def unit_serial_number(device):
+    """The lowest 32 bits of the seed"""
+    return f"{device.seed % 2**32:08x}".encode("ascii")
 
 
-def device_identification(_profile):
+def device_identification(device):
     """SPC-4, 7.8.6: a designator by the vendor (7.8.6.4), and a locally assigned NAA (7.8.6.6)"""
-    by_vendor = VENDOR + PRODUCT + SERIAL_NUMBER
-    naa = (0x3 << 60 | LOCAL_NUMBER).to_bytes(8, "big")
+    by_vendor = VENDOR + PRODUCT + unit_serial_number(device)
+    naa = (0x3 << 60 | device.seed).to_bytes(8, "big")
     ascii_text, binary, vendor_type, naa_type = 2, 1, 1, 3
     return (bytes([ascii_text, vendor_type, 0, len(by_vendor)]) + by_vendor
             + bytes([binary, naa_type, 0, len(naa)]) + naa)
 
 
-def block_limits(profile):
+def extended_device_identification(device):
+    """SPC-4, 7.8.6.7: the target port, association 1, is relative target port 1, in two bytes"""
+    binary, port_association, relative_type = 1, 1 << 4, 4
+    port = bytes(2) + (1).to_bytes(2, "big")
+    return (device_identification(device)
+            + bytes([binary, port_association | relative_type, 0, len(port)]) + port)
+
+
+def block_limits(device):
     """SBC-3, vital product data parameters; numbers of bytes are those of the page"""
+    profile = device.profile
     page = bytearray(64)
     page[4] = 0x01  # WSNZ
     page[5] = blocks.MAXIMUM_COMPARE_AND_WRITE_LENGTH[profile]
@@ -78,7 +86,7 @@ def block_limits(profile):
 # Pages of an extended disk. The numbers of bytes are those of the page.
 
 
-def extended_inquiry_data(_profile):
+def extended_inquiry_data(_device):
     """SPC-4, 7.8.7"""
     page = bytearray(64)
     page[5] = 0x04 | 0x02 | 0x01  # HEADSUP, ORDSUP, SIMPSUP
@@ -87,19 +95,19 @@ def extended_inquiry_data(_profile):
     return bytes(page[4:])
 
 
-def mode_page_policy(_profile):
+def mode_page_policy(_device):
     """SPC-4, 7.8: pages 3Fh and subpages FFh are all, and policy 00b is shared"""
     return bytes([0x3F, 0xFF, 0, 0])
 
 
-def scsi_ports(_profile):
+def scsi_ports(_device):
     """SPC-4, 7.8: RELATIVE PORT IDENTIFIER 1, no initiator port, no target port descriptor"""
     page = bytearray(16)
     page[6:8] = (1).to_bytes(2, "big")
     return bytes(page[4:])
 
 
-def block_device_characteristics(_profile):
+def block_device_characteristics(_device):
     """SBC-3, vital product data parameters"""
     page = bytearray(64)
     page[4:6] = (1).to_bytes(2, "big")  # MEDIUM ROTATION RATE: it does not rotate
@@ -108,14 +116,15 @@ def block_device_characteristics(_profile):
     return bytes(page[4:])
 
 
-def logical_block_provisioning(_profile):
+def logical_block_provisioning(_device):
     """SBC-3: LBPU, LBPWS, LBPWS10, LBPRZ and ANC_SUP are 1, PROVISIONING TYPE is 2"""
     return bytes([0, 0x80 | 0x40 | 0x20 | 0x04 | 0x02, 2, 0])
 
 
 STANDARD_INQUIRY_DATA = {"base": standard_inquiry_data, "extended": extended_standard_inquiry_data}
 
-# The pages of a disk of each profile, besides 00h
+# The pages of a disk of each profile, besides 00h. If both tables have a page, an extended disk has
+# the second.
 OF_BOTH = {
     0x80: unit_serial_number,
     0x83: device_identification,
@@ -123,6 +132,7 @@ OF_BOTH = {
     0xB2: logical_block_provisioning,
 }
 OF_EXTENDED = {
+    0x83: extended_device_identification,
     0x86: extended_inquiry_data,
     0x87: mode_page_policy,
     0x88: scsi_ports,

@@ -3,7 +3,7 @@ use Rattle.sg_wire.specs.Cut.{answer_of}
 use Rattle.sg_wire.specs.CutAnswer.{put}
 use Rattle.sg_pages.specs.VitalProductData.{locally_assigned}
 use Rattle.sg_pages.proofs.PageLemmas.{put-two, descriptor-put, length-descriptors, length-locally_assigned}
-use Rattle.sg_pages.proofs.vital_product_data.write_designators.Goals as goal
+use Rattle.sg_pages.proofs.vital_product_data.write_unit_descriptors.Goals as goal
 
 pub returns-clause-length : goal.returns-clause-length
 returns-clause-length c =
