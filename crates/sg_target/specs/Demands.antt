@@ -229,10 +229,10 @@ verify config OneBlock extent byte data_out = verify_each config extent byte dat
 
 -- COMPARE AND WRITE takes the blocks to compare, then as many to write, and no other number of bytes.
 -- The byte is where NUMBER OF LOGICAL BLOCKS is.
--- Choice (SBC-3, 5.2): data-out of another length may be answered otherwise.
 abbrev pub exchange_need : Extent → DataOutNeed
 exchange_need extent = record { bytes = 2 * bytes_of extent; if_short = InvalidFieldInCdb 13 }
 
+-- Choice (SBC-3, 5.2): data-out of another length may be answered otherwise.
 abbrev pub wrong_length : Extent → (data_out : List ℕ) → Option ℕ
 wrong_length extent data_out =
     if length data_out == (exchange_need extent).bytes then None else Some 13
