@@ -52,6 +52,7 @@ static const struct {
     { { 0x89, [13] = 255 }, 16, 0, 261120 },
     { { 0x41, [8] = 9 }, 10, 1, 512 },                            /* WRITE SAME(10) */
     { { 0x93, 0x08, [13] = 9 }, 16, 1, 512 },                     /* WRITE SAME(16) with UNMAP */
+    { { 0x93, 0x01, [13] = 9 }, 16, 1, 0 },                       /* with NDOB; a base disk refuses it */
     { { 0x42, [8] = 24 }, 10, 1, 24 },                            /* UNMAP */
     { { 0x15, 0x10, [4] = 12 }, 6, 1, 12 },                       /* MODE SELECT(6) */
     { { 0x55, 0x10, [7] = 1, 2 }, 10, 1, 258 },                   /* MODE SELECT(10) */

@@ -15,7 +15,7 @@ use Rattle.sg_wire.specs.declared.command.Command.TheVariants as command
 use Rattle.sg_wire.specs.declared.command.CdbFault.{CdbFault}
 use Rattle.sg_wire.specs.declared.extent.Extent.{Extent}
 use Rattle.sg_wire.specs.CdbDecoding.{command_in}
-use Rattle.sg_store.specs.Disk.{Contents, IsWellFormed, anchored, block, block_at, unmapped}
+use Rattle.sg_store.specs.Disk.{Contents, IsWellFormed, anchored, block, block_at, unmapped, zero_block}
 use Rattle.sg_store.specs.Disk.Mapping.{Data, Anchored}
 use Rattle.sg_store.specs.Laws.{DisksStayWellFormed}
 use Rattle.sg_wire.specs.declared.command.verify.ByteCheck.{ByteCheck}
@@ -30,14 +30,14 @@ use Rattle.sg_target.specs.Checks.{cdb_checks, checked_cdb, checked_operation}
 use Rattle.sg_target.specs.Checks.{checked_parse, not_ready, out_of_range, past_capacity}
 use Rattle.sg_target.specs.Checks.{requested, short_data_out, unsupported_value, write_protection}
 use Rattle.sg_target.specs.Config.{ConfigFields}
-use Rattle.sg_target.specs.Demands.{DataOutNeed, Demands, bad_atomic, bad_comparison, bad_count}
+use Rattle.sg_target.specs.Demands.{DataOutNeed, Demands, bad_atomic, bad_comparison, bad_same}
 use Rattle.sg_target.specs.Demands.{demands, extent, list_refusal}
 use Rattle.sg_target.specs.Demands.{exchange_need, need, takes, verify, verify_only}
-use Rattle.sg_target.specs.Demands.{too_long, bad_anchor, unmap_extent, unmap_extents}
+use Rattle.sg_target.specs.Demands.{too_long, same_length, unmap_extent, unmap_extents}
 use Rattle.sg_target.specs.Demands.{unmap_or_fill}
 use Rattle.sg_target.specs.Effect.{Effect}
 use Rattle.sg_target.specs.Extents.{AreOnDisk}
-use Rattle.sg_target.specs.ProvisioningCommands.{block_out, changed_in_turn, unmaps}
+use Rattle.sg_target.specs.ProvisioningCommands.{block_out, changed_in_turn, same_block, unmaps}
 use Rattle.sg_target.specs.Demands.{extents_out}
 use Rattle.sg_target.specs.Refusal.{checked_next, first_some, or_refused, unless_refused, when_sound}
 use Rattle.sg_target.specs.Semantics.{effect_of, medium_use}
@@ -118,15 +118,22 @@ fill-or-unmap true true extent block h = tt
 fill-or-unmap false true extent block h = tt
 fill-or-unmap anchor false extent block h = h
 
-write_same-sound : (config : ConfigFields) (anchor unmap : Bool) (extent : Extent)
+-- WRITE SAME has a whole block, with NDOB, too
+pub same-whole : (ndob : Bool) (data_out : List ℕ) → same_length ndob ≤ length data_out
+    → length (same_block ndob data_out) ≡ logical_block_length
+unfolding zero_block
+same-whole true data_out h = refl
+same-whole false data_out h = whole logical_block_length data_out h
+
+write_same-sound : (config : ConfigFields) (anchor unmap ndob : Bool) (extent : Extent)
     (unsupported : Option ℕ) (data_out : List ℕ)
-    → Sound (requested (takes config logical_block_length unsupported
-    (Ok (unmap_or_fill anchor unmap extent (block_out data_out)))) data_out)
-write_same-sound config anchor unmap extent unsupported data_out =
-    let block = block_out data_out in
-    takes-sound config logical_block_length unsupported
+    → Sound (requested (takes config (same_length ndob) unsupported
+    (Ok (unmap_or_fill anchor unmap extent (same_block ndob data_out)))) data_out)
+write_same-sound config anchor unmap ndob extent unsupported data_out =
+    let block = same_block ndob data_out in
+    takes-sound config (same_length ndob) unsupported
     (Ok (unmap_or_fill anchor unmap extent block)) data_out
-    (λ h. fill-or-unmap anchor (unmaps unmap block) extent block (whole logical_block_length data_out h))
+    (λ h. fill-or-unmap anchor (unmaps unmap block) extent block (same-whole ndob data_out h))
 
 extents-sound : (anchor : Bool) (extents : List Extent) → IsSound (unmap_extents anchor extents)
 extents-sound true extents = tt
@@ -227,11 +234,11 @@ command-sound config (command.ReportLuns c) data_out =
     (when (ok_or (lists_unit c.select) (CheckCondition (InvalidFieldInCdb 2)))
     (λ listed. operation.ReturnLuns listed c.allocation_length) (λ listed. tt))
 command-sound config (command.WriteSame10 c) data_out =
-    write_same-sound config c.anchor c.unmap (extent c.lba c.count)
-    (bad_anchor c.anchor c.unmap (bad_count config c.count 7)) data_out
+    write_same-sound config c.anchor c.unmap false (extent c.lba c.count)
+    (bad_same config c.anchor c.unmap false c.count 7 data_out) data_out
 command-sound config (command.WriteSame16 c) data_out =
-    write_same-sound config c.anchor c.unmap (extent c.lba c.count)
-    (bad_anchor c.anchor c.unmap (bad_count config c.count 10)) data_out
+    write_same-sound config c.anchor c.unmap c.ndob (extent c.lba c.count)
+    (bad_same config c.anchor c.unmap c.ndob c.count 10 data_out) data_out
 command-sound config (command.Inquiry c) data_out =
     requested-sound (demands config (command.Inquiry c) data_out) data_out
     (when (ok_or (inquiry_page config.identity.profile c.evpd c.page_code)

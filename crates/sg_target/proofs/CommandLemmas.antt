@@ -1,7 +1,7 @@
 -- Commands on blocks that end with GOOD.
 use Rattle.std.proofs.Common.{◌≡◌, ◌≤◌, ◌<◌, ℕ, ◌+◌, ◌-◌, ◌*◌, ◌==◌, List, [], ◌∷◌, length, take, drop}
 use Rattle.std.proofs.Common.{Bool, true, false, cond, Option, Some, None, Result, Ok, Err, replicate}
-use Rattle.std.proofs.Common.{refl, sym, ap, ◌∙◌, subst, arith, length-take}
+use Rattle.std.proofs.Common.{refl, sym, ap, ◌∙◌, subst, arith}
 use Rattle.std.proofs.lemmas.Bool.{and_parts, eqb-true}
 use Rattle.std.proofs.lemmas.Bool.Decides.{nat_tests}
 use Rattle.std.proofs.lemmas.List.{drop-take, take-take}
@@ -47,12 +47,12 @@ use Rattle.sg_target.specs.CommandLaws.{blocks_to_read, blocks_to_write, status_
 use Rattle.sg_target.specs.CommandLaws.{unmapped_status, verified_blocks, write_same_fields}
 use Rattle.sg_target.specs.Config.{ConfigFields}
 use Rattle.sg_target.specs.Demands.{need as need_of}
-use Rattle.sg_target.specs.Demands.{bad_comparison, bad_count, demands, extent, bad_anchor}
+use Rattle.sg_target.specs.Demands.{bad_comparison, bad_same, demands, extent, same_length}
 use Rattle.sg_target.specs.Demands.{unmap_extent}
 use Rattle.sg_target.specs.Demands.{unmap_extents, unmap_or_fill}
 use Rattle.sg_target.specs.Effect.{Effect, with_contents}
 use Rattle.sg_target.specs.Laws.{AnchorsEachExtent, UnmapsEachExtent, lies_in_any}
-use Rattle.sg_target.specs.ProvisioningCommands.{anchoring, block_out, filling, unmap_list_refusal}
+use Rattle.sg_target.specs.ProvisioningCommands.{anchoring, filling, same_block, unmap_list_refusal}
 use Rattle.sg_target.specs.ProvisioningCommands.{unmapping, unmaps}
 use Rattle.sg_target.specs.Semantics.{effect_of}
 use Rattle.sg_target.specs.State.{State, config_of}
@@ -61,7 +61,7 @@ use Rattle.sg_target.specs.declared.operation.Operation.{Operation}
 use Rattle.sg_target.specs.declared.operation.Operation.TheVariants as operation
 use Rattle.sg_target.specs.declared.refusal.Refusal.{Refusal}
 use Rattle.sg_target.specs.declared.reply.Status.TheVariants.{Good}
-use Rattle.sg_target.proofs.BlocksLemmas.{long_enough}
+use Rattle.sg_target.proofs.BlocksLemmas.{long_enough, same-whole}
 use Rattle.sg_target.proofs.LiftLemmas.{Asked, asked, lifted, not_good, outcome-by, request_checks}
 
 -- ---- Any command
@@ -363,26 +363,38 @@ unmaps-follow unmaps anchors state i cdb data_out c is good =
 
 -- ---- WRITE SAME
 
+abbrev same_fields : (anchor unmap ndob : Bool) → Extent → WriteSameFields
+same_fields anchor unmap ndob extent =
+    record { extent = extent; anchor = anchor; unmap = unmap; ndob = ndob }
+
+abbrev asked_by : WriteSameFields → (data_out : List ℕ) → Operation
+asked_by c data_out = unmap_or_fill c.anchor c.unmap c.extent (same_block c.ndob data_out)
+
 same-asked : (config : ConfigFields) (k : Command) (data_out : List ℕ) (o : Operation) (c : WriteSameFields)
     → (demands config k data_out).operation ≡ Ok o → write_same_fields (Ok k) ≡ Some c
-    → unmap_or_fill c.anchor c.unmap c.extent (block_out data_out) ≡ o
+    → asked_by c data_out ≡ o
 same-asked config (command.WriteSame10 w) data_out o c e h =
-    let same : record { extent = extent w.lba w.count; anchor = w.anchor; unmap = w.unmap } ≡ c = cc in
-    let is : unmap_or_fill w.anchor w.unmap (extent w.lba w.count) (block_out data_out) ≡ o = cc in
-    ap (λ (f : WriteSameFields). unmap_or_fill f.anchor f.unmap f.extent (block_out data_out)) (sym same) ∙ is
+    let same : same_fields w.anchor w.unmap false (extent w.lba w.count) ≡ c = cc in
+    let is : asked_by (same_fields w.anchor w.unmap false (extent w.lba w.count)) data_out ≡ o = cc in
+    ap (λ (f : WriteSameFields). asked_by f data_out) (sym same) ∙ is
 same-asked config (command.WriteSame16 w) data_out o c e h =
-    let same : record { extent = extent w.lba w.count; anchor = w.anchor; unmap = w.unmap } ≡ c = cc in
-    let is : unmap_or_fill w.anchor w.unmap (extent w.lba w.count) (block_out data_out) ≡ o = cc in
-    ap (λ (f : WriteSameFields). unmap_or_fill f.anchor f.unmap f.extent (block_out data_out)) (sym same) ∙ is
+    let same : same_fields w.anchor w.unmap w.ndob (extent w.lba w.count) ≡ c = cc in
+    let is : asked_by (same_fields w.anchor w.unmap w.ndob (extent w.lba w.count)) data_out ≡ o = cc in
+    ap (λ (f : WriteSameFields). asked_by f data_out) (sym same) ∙ is
 same-asked config _ data_out o c e h = cc
 
 same-long : (config : ConfigFields) (k : Command) (data_out : List ℕ) (c : WriteSameFields)
     → first_some (request_checks (demands config k data_out) data_out) ≡ None
-    → write_same_fields (Ok k) ≡ Some c → 512 ≤ length data_out
+    → write_same_fields (Ok k) ≡ Some c → same_length c.ndob ≤ length data_out
 same-long config (command.WriteSame10 w) data_out c e h =
-    long_enough (bad_anchor w.anchor w.unmap (bad_count config w.count 7)) (need_of config 512) data_out e
+    let same : same_fields w.anchor w.unmap false (extent w.lba w.count) ≡ c = cc in
+    subst (λ (f : WriteSameFields). same_length f.ndob ≤ length data_out) same
+    (long_enough (bad_same config w.anchor w.unmap false w.count 7 data_out) (need_of config 512) data_out e)
 same-long config (command.WriteSame16 w) data_out c e h =
-    long_enough (bad_anchor w.anchor w.unmap (bad_count config w.count 10)) (need_of config 512) data_out e
+    let same : same_fields w.anchor w.unmap w.ndob (extent w.lba w.count) ≡ c = cc in
+    subst (λ (f : WriteSameFields). same_length f.ndob ≤ length data_out) same
+    (long_enough (bad_same config w.anchor w.unmap w.ndob w.count 10 data_out)
+    (need_of config (same_length w.ndob)) data_out e)
 same-long config _ data_out c e h = cc
 
 -- a block of zeros is the block of zeros
@@ -399,9 +411,6 @@ unfolding zero_block unmaps
 zero-is unmap bytes h z =
     sym (all-zero bytes (and_parts unmap (list_all (λ byte. byte == 0) bytes) z).1
     ∙ ap (λ n. replicate n 0) h)
-
-whole-block : (data_out : List ℕ) → 512 ≤ length data_out → length (block_out data_out) ≡ 512
-whole-block data_out h = omega (arith, length-take 512 data_out)
 
 -- a range that is read as zeros is read as a block of zeros
 zeroed : (state : State) (contents : Contents) (e : Extent) (status : ProvisioningStatus)
@@ -468,10 +477,11 @@ module _ (fills : FillMapsEachAddress) (puts : FillsEachBlock) (unmapped : Unmap
       let known = same-asked (config_of state) d.asked.command data_out d.operation c
       d.asked.operation_is fields in
       let long = same-long (config_of state) d.asked.command data_out c d.asked.accepted fields in
-      let done = by-fields state i c (block_out data_out) (whole-block data_out long) in
+      let given = same_block c.ndob data_out in
+      let done = by-fields state i c given (same-whole c.ndob data_out long) in
       by-operation
       (λ (after : Step). Changes state after.state (lies_in c.extent.lba c.extent.count)
-      (status_of_same c (block_out data_out)) (λ address. block_out data_out))
+      (status_of_same c given) (λ address. given))
       state i d.operation d.effect (step state i cdb data_out)
-      (unmap_or_fill c.anchor c.unmap c.extent (block_out data_out)) done.its known done.is
+      (unmap_or_fill c.anchor c.unmap c.extent given) done.its known done.is
       d.effect_is d.done_is done.changes

@@ -24,7 +24,7 @@ use Rattle.sg_target.specs.Demands.{list_refusal, verify, verify_only}
 use Rattle.sg_target.specs.FaultLaws.{is_write_long}
 use Rattle.sg_target.specs.PrimaryCommands.{inquiry_page}
 use Rattle.sg_target.specs.Demands.{extents_out}
-use Rattle.sg_target.specs.ProvisioningCommands.{block_out, unmaps}
+use Rattle.sg_target.specs.ProvisioningCommands.{block_out, same_block, unmaps}
 use Rattle.sg_target.specs.Refusal.{or_refused, unless_refused, when_sound}
 use Rattle.sg_target.specs.ReservationCommands.{fields_out}
 use Rattle.sg_target.specs.State.{State, config_of, profile_of}
@@ -115,7 +115,8 @@ unmarked config (command.WriteLong10 c) data_out other = cc
 unmarked config (command.WriteSame10 c) data_out other =
     same-unmarked c.anchor (unmaps c.unmap (block_out data_out)) _ (block_out data_out)
 unmarked config (command.WriteSame16 c) data_out other =
-    same-unmarked c.anchor (unmaps c.unmap (block_out data_out)) _ (block_out data_out)
+    let block = same_block c.ndob data_out in
+    same-unmarked c.anchor (unmaps c.unmap block) _ block
 unmarked config (command.Unmap c) data_out other =
     sound-unmarked (extents_out config c.list_length data_out) (unmap_extents c.anchor)
     (unmap-unmarked c.anchor)

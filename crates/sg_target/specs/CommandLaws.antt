@@ -21,7 +21,7 @@ use Rattle.sg_target.specs.Checks.{checked_effect}
 use Rattle.sg_target.specs.Demands.{extent}
 use Rattle.sg_target.specs.Effect.{Effect, with_contents}
 use Rattle.sg_target.specs.Laws.{lies_in_any}
-use Rattle.sg_target.specs.ProvisioningCommands.{block_out, unmaps}
+use Rattle.sg_target.specs.ProvisioningCommands.{same_block, unmaps}
 use Rattle.sg_target.specs.State.{IsWithinLimits, State}
 use Rattle.sg_target.specs.Step.{Step, step}
 use Rattle.sg_target.specs.declared.reply.Status.TheVariants.{Good}
@@ -136,26 +136,31 @@ pub record WriteSameFields : Type 0 where
   pub extent : Extent
   pub anchor : Bool
   pub unmap : Bool
+  pub ndob : Bool
 
-abbrev pub fields_of : (anchor unmap : Bool) → Extent → Option WriteSameFields
-fields_of anchor unmap extent = Some (record { extent = extent; anchor = anchor; unmap = unmap })
+abbrev pub fields_of : (anchor unmap ndob : Bool) → Extent → Option WriteSameFields
+fields_of anchor unmap ndob extent =
+    Some (record { extent = extent; anchor = anchor; unmap = unmap; ndob = ndob })
 
 abbrev pub write_same_fields : Result Command CdbFault → Option WriteSameFields
-write_same_fields (Ok (command.WriteSame10 c)) = fields_of c.anchor c.unmap (extent c.lba c.count)
-write_same_fields (Ok (command.WriteSame16 c)) = fields_of c.anchor c.unmap (extent c.lba c.count)
+write_same_fields (Ok (command.WriteSame10 c)) =
+    fields_of c.anchor c.unmap false (extent c.lba c.count)
+write_same_fields (Ok (command.WriteSame16 c)) =
+    fields_of c.anchor c.unmap c.ndob (extent c.lba c.count)
 write_same_fields _ = None
 
 -- With UNMAP 1 and a block of zeros the addresses are unmapped, and otherwise they are mapped.
 abbrev pub status_of_same : WriteSameFields → (block : List ℕ) → ProvisioningStatus
 status_of_same c block = if unmaps c.unmap block then unmapped_status c.anchor else Mapped
 
--- Each address has that status, and is read as the block of the data-out, even if it is unmapped.
+-- Each address has that status, and is read as the block of the data-out, even if it is unmapped. With
+-- NDOB it is read as zeros, because the block is zeros.
 abbrev pub WriteSamesLeaveTheirBlock : Type 0
 WriteSamesLeaveTheirBlock =
     (state : State) (initiator : ℕ) (cdb data_out : List ℕ) (c : WriteSameFields)
     → write_same_fields (command_of cdb) ≡ Some c → EndsWithGood state initiator cdb data_out
     → Changes state (step state initiator cdb data_out).state (lies_in c.extent.lba c.extent.count)
-    (status_of_same c (block_out data_out)) (λ address. block_out data_out)
+    (status_of_same c (same_block c.ndob data_out)) (λ address. same_block c.ndob data_out)
 
 -- ---- FORMAT UNIT and SANITIZE (SBC-3, 5.3 and 5.24)
 

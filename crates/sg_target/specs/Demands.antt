@@ -39,7 +39,7 @@ use Rattle.sg_target.specs.Config.{ConfigFields, limits_for}
 use Rattle.sg_target.specs.FormatList.{header_length, header_refusal}
 use Rattle.sg_target.specs.ModeCommands.{bad_page_format}
 use Rattle.sg_target.specs.PrimaryCommands.{format_of, inquiry_page}
-use Rattle.sg_target.specs.ProvisioningCommands.{block_out, listed_extents, unmaps}
+use Rattle.sg_target.specs.ProvisioningCommands.{block_out, listed_extents, same_block, unmaps}
 use Rattle.sg_target.specs.Refusal.{or_refused, unless_refused, when_sound}
 use Rattle.sg_target.specs.ReservationCommands.{fields_out, bad_type}
 use Rattle.sg_target.specs.declared.operation.Operation.{Operation}
@@ -314,12 +314,24 @@ bad_anchor anchor unmap otherwise = if anchor && not unmap then Some 1 else othe
 
 -- WRITE SAME writes at least one block, and no more than the page Block Limits says; the byte is
 -- where NUMBER OF LOGICAL BLOCKS begins.
-abbrev pub bad_count : ConfigFields → (count byte : ℕ) → Option ℕ
-bad_count config count byte =
-    if nat_le 1 count && nat_le count (limits_for config).write_same_length then None else Some byte
+abbrev pub bad_count : ConfigFields → (count byte : ℕ) → (otherwise : Option ℕ) → Option ℕ
+bad_count config count byte otherwise =
+    if nat_le 1 count && nat_le count (limits_for config).write_same_length
+    then otherwise else Some byte
 
--- WRITE SAME takes one block. It replaces each of its blocks by that block, or unmaps or anchors
--- them.
+-- WRITE SAME takes one block, or with NDOB no data-out.
+abbrev pub same_length : (ndob : Bool) → ℕ
+same_length ndob = if ndob then 0 else logical_block_length
+
+-- An extended disk takes no other number of bytes. NDOB is in byte 1.
+-- Choice (SBC-3, 5.43): data-out of another length may be answered otherwise.
+abbrev pub bad_length : ConfigFields → (needed : ℕ) → (data_out : List ℕ) → Option ℕ
+bad_length config needed data_out =
+    if (rules_of config.identity.profile).write_same_takes_exact_length
+    && not (length data_out == needed)
+    then Some 1 else None
+
+-- It replaces each of its blocks by that block, or unmaps or anchors them.
 abbrev pub unmap_extent : (anchor : Bool) → Extent → Operation
 unmap_extent anchor extent =
     if anchor then operation.AnchorExtent extent else operation.UnmapExtent extent
@@ -328,11 +340,17 @@ abbrev pub unmap_or_fill : (anchor unmap : Bool) → Extent → (block : List �
 unmap_or_fill anchor unmap extent block =
     if unmaps unmap block then unmap_extent anchor extent else operation.Fill extent block
 
-abbrev pub write_same : ConfigFields → (anchor unmap : Bool) → Extent → (byte : ℕ)
+abbrev pub bad_same : ConfigFields → (anchor unmap ndob : Bool) → (count byte : ℕ)
+    → (data_out : List ℕ) → Option ℕ
+bad_same config anchor unmap ndob count byte data_out =
+    bad_anchor anchor unmap
+    (bad_count config count byte (bad_length config (same_length ndob) data_out))
+
+abbrev pub write_same : ConfigFields → (anchor unmap ndob : Bool) → Extent → (byte : ℕ)
     → (data_out : List ℕ) → Demands
-write_same config anchor unmap extent byte data_out =
-    takes config logical_block_length (bad_anchor anchor unmap (bad_count config extent.count byte))
-    (Ok (unmap_or_fill anchor unmap extent (block_out data_out)))
+write_same config anchor unmap ndob extent byte data_out =
+    takes config (same_length ndob) (bad_same config anchor unmap ndob extent.count byte data_out)
+    (Ok (unmap_or_fill anchor unmap extent (same_block ndob data_out)))
 
 -- UNMAP takes a list of extents, which it unmaps or anchors. The profile says whether an extent of no
 -- block counts.
@@ -431,9 +449,9 @@ demands config (command.WriteAndVerify16 c) data_out =
 demands config (command.WriteAtomic16 c) data_out = write_atomic config c data_out
 demands config (command.WriteLong10 c) data_out = write_long c
 demands config (command.WriteSame10 c) data_out =
-    write_same config c.anchor c.unmap (extent c.lba c.count) 7 data_out
+    write_same config c.anchor c.unmap false (extent c.lba c.count) 7 data_out
 demands config (command.WriteSame16 c) data_out =
-    write_same config c.anchor c.unmap (extent c.lba c.count) 10 data_out
+    write_same config c.anchor c.unmap c.ndob (extent c.lba c.count) 10 data_out
 demands config (command.Unmap c) data_out = unmap config c data_out
 demands config (command.GetLbaStatus c) data_out =
     asks (operation.ReturnLbaStatus c.start c.allocation_length)

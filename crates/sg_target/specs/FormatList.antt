@@ -1,6 +1,6 @@
 -- The parameter list of FORMAT UNIT (SBC-3, 5.3.2): what the disk supports in its header.
 use Rattle.std.specs.Prelude.{ℕ, ◌+◌, ◌-◌, List, [], ◌∷◌, take, drop, slice_index, find, not}
-use Rattle.std.specs.Prelude.{Bool, true, false, ◌==◌, bit_and, if◌then◌else◌}
+use Rattle.std.specs.Prelude.{Bool, ◌==◌, bit_and, if◌then◌else◌}
 use Rattle.std.specs.Prelude.{Option, option_map}
 use Rattle.std.specs.List.{list_all}
 use Rattle.sg_wire.specs.Bits.{has_bit}

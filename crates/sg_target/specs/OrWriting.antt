@@ -1,5 +1,5 @@
 -- ORWRITE block by block, as the store counts it.
-use Rattle.std.specs.Prelude.{◌≡◌, ℕ, ◌+◌, ◌*◌, ◌^◌, ◌≤◌, List}
+use Rattle.std.specs.Prelude.{ℕ, ◌+◌, ◌*◌, ◌^◌, ◌≤◌, List}
 use Rattle.sg_store.specs.Disk.{Disk, disk_filled, max_pool}
 use Rattle.sg_store.specs.Meter.{Meter, probe_bound}
 use Rattle.sg_store.specs.declared.store.Counts.{Counts}

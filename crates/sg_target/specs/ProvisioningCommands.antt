@@ -1,5 +1,5 @@
 -- The effects of the commands of logical block provisioning (SBC-3, 4.7 and 5).
-use Rattle.std.specs.Prelude.{ℕ, ◌==◌, ◌&&◌, List, [], ◌∷◌, Bool, Result}
+use Rattle.std.specs.Prelude.{ℕ, ◌==◌, ◌&&◌, List, [], ◌∷◌, Bool, Result, if◌then◌else◌}
 use Rattle.std.specs.List.{list_all}
 use Rattle.std.specs.Result.{result_map_both}
 use Rattle.sg_wire.specs.FirstBytes.{first_bytes}
@@ -8,7 +8,7 @@ use Rattle.sg_wire.specs.declared.unmap_list.UnmapListFault.{UnmapListFault}
 use Rattle.sg_wire.specs.declared.unmap_list.UnmapListFault.TheVariants.{Short, TooManyDescriptors}
 use Rattle.sg_wire.specs.declared.extent.Extent.{Extent}
 use Rattle.sg_wire.specs.declared.profile.Rules.{Rules}
-use Rattle.sg_store.specs.Disk.{Contents, anchored, filled, unmapped}
+use Rattle.sg_store.specs.Disk.{Contents, anchored, filled, unmapped, zero_block}
 use Rattle.sg_wire.specs.LbaStatus.{status_data}
 use Rattle.sg_store.specs.LbaStatus.{lba_status}
 use Rattle.sg_pages.specs.BlockDescriptor.{logical_block_length}
@@ -72,6 +72,10 @@ filling state extent block =
 -- The block is the first of data-out.
 abbrev pub block_out : (data_out : List ℕ) → List ℕ
 block_out data_out = first_bytes logical_block_length data_out
+
+-- The block of a WRITE SAME. With NDOB 1 there is no data-out, and the block is zeros.
+abbrev pub same_block : (ndob : Bool) → (data_out : List ℕ) → List ℕ
+same_block ndob data_out = if ndob then zero_block else block_out data_out
 
 -- With UNMAP 1, blocks are unmapped in place of being written with zeros. They are read as zeros
 -- then.

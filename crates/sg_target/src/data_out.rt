@@ -83,7 +83,8 @@ fn needed_bytes(command: &Command) -> u64
         Command::Verify10(fields) => compared_bytes(fields.byte_check, fields.extent.into()),
         Command::Verify12(fields) => compared_bytes(fields.byte_check, fields.extent.into()),
         Command::Verify16(fields) => compared_bytes(fields.byte_check, fields.extent.into()),
-        Command::WriteSame10(_) | Command::WriteSame16(_) => BLOCK_LENGTH as u64,
+        Command::WriteSame10(_) => BLOCK_LENGTH as u64,
+        Command::WriteSame16(fields) if !fields.ndob => BLOCK_LENGTH as u64,
         _ => 0,
     }
 }

@@ -1,18 +1,20 @@
 // UNMAP, WRITE SAME and GET LBA STATUS: logical block provisioning (SBC-3, 4.7 and 5).
-ghost use Rattle.std.specs.Prelude.{◌≡◌, ◌+◌, ◌≤◌, [], ◌∷◌, length};
+ghost use Rattle.std.specs.Prelude.{◌≡◌, ◌+◌, ◌≤◌, [], ◌∷◌, length, false};
 ghost use Rattle.std.specs.Prelude.{Some, None, Ok, IfOk, IfErr, IfNone, min};
 ghost use Rattle.sg_wire.specs.UnmapList.{maximum_unmap_descriptors};
 ghost use Rattle.sg_store.specs.Disk.{unmapped};
 ghost use Rattle.sg_store.specs.Meter.{no_counts};
+ghost use Rattle.sg_pages.specs.BlockDescriptor.{logical_block_length};
 ghost use Rattle.sg_target.specs.Anchoring.{HasAllowedSize, disk_changed_in_turn};
-ghost use Rattle.sg_target.specs.Checks.{out_of_range, requested, unsupported_value};
+ghost use Rattle.sg_target.specs.Checks.{out_of_range, requested, short_data_out, unsupported_value};
 ghost use Rattle.sg_target.specs.DataInBound.{longest_status};
-ghost use Rattle.sg_target.specs.Demands.{bad_count, unmap as demands_of_unmap, write_same, extent};
+ghost use Rattle.sg_target.specs.Demands.{bad_count, bad_length, need, same_length, write_same};
+ghost use Rattle.sg_target.specs.Demands.{unmap as demands_of_unmap, extent};
 ghost use Rattle.sg_target.specs.Charge.{IsCounted, TakesStep, cost_bounds};
 ghost use Rattle.sg_target.specs.Extents.{AreOnDisk};
 ghost use Rattle.sg_target.specs.ProvisioningCommands.{anchoring, filling};
 ghost use Rattle.sg_target.specs.ProvisioningCommands.{reporting_status, unmap_list_refusal};
-ghost use Rattle.sg_target.specs.ProvisioningCommands.{unmapping, unmaps};
+ghost use Rattle.sg_target.specs.ProvisioningCommands.{same_block, unmapping, unmaps};
 ghost use Rattle.sg_target.specs.Ranges.{anchoring_ranges, range, ranges_in_turn, status_ranges};
 ghost use Rattle.sg_target.specs.Semantics.{names_some_block};
 ghost use Rattle.sg_target.specs.State.{IsWithinLimits};
@@ -35,8 +37,13 @@ use sg_wire::{
 };
 use std::marker::Model;
 
-/// Where ANCHOR is in the CDB of WRITE SAME.
+/// Where ANCHOR is in the CDB of WRITE SAME, and NDOB.
 const ANCHOR_BYTE: u16 = 1;
+
+const NDOB_BYTE: u16 = 1;
+
+/// The block of a WRITE SAME with NDOB.
+const ZERO_BLOCK: [u8; BLOCK_LENGTH] = [0; BLOCK_LENGTH];
 
 // ---- UNMAP
 
@@ -238,21 +245,19 @@ pub(crate) fn check_write_same_10<'a>(
     fields: WriteSame10,
     data_out: &'a [u8],
 ) -> Result<Operation<'a>, Refusal>
-    ensures { result ≡ requested (write_same config.now fields.anchor fields.unmap
+    ensures { result ≡ requested (write_same config.now fields.anchor fields.unmap false
         (extent fields.lba fields.count) 7 data_out.now) data_out.now }
 {
     let extent = Extent {
         lba: u64::from(fields.lba),
         count: u32::from(fields.count),
     };
-    check_write_same(
-        config,
-        fields.anchor,
-        fields.unmap,
-        extent,
-        NUMBER_OF_BLOCKS_10,
-        data_out,
-    )
+    let bits = SameBits {
+        anchor: fields.anchor,
+        unmap: fields.unmap,
+        ndob: false,
+    };
+    check_write_same(config, bits, extent, NUMBER_OF_BLOCKS_10, data_out)
 }
 
 /// WRITE SAME(16).
@@ -261,40 +266,50 @@ pub(crate) fn check_write_same_16<'a>(
     fields: WriteSame16,
     data_out: &'a [u8],
 ) -> Result<Operation<'a>, Refusal>
-    ensures { result ≡ requested (write_same config.now fields.anchor fields.unmap
+    ensures { result ≡ requested (write_same config.now fields.anchor fields.unmap fields.ndob
         (extent fields.lba fields.count) 10 data_out.now) data_out.now }
 {
     let extent = Extent {
         lba: fields.lba,
         count: fields.count,
     };
-    check_write_same(
-        config,
-        fields.anchor,
-        fields.unmap,
-        extent,
-        NUMBER_OF_BLOCKS_16,
-        data_out,
-    )
+    let bits = SameBits {
+        anchor: fields.anchor,
+        unmap: fields.unmap,
+        ndob: fields.ndob,
+    };
+    check_write_same(config, bits, extent, NUMBER_OF_BLOCKS_16, data_out)
+}
+
+/// ANCHOR, UNMAP and NDOB.
+#[derive(Clone, Copy)]
+struct SameBits {
+    anchor: bool,
+    unmap: bool,
+    ndob: bool,
 }
 
 /// NUMBER OF LOGICAL BLOCKS begins at the byte.
 fn check_write_same<'a>(
     config: &Config,
-    anchor: bool,
-    unmap: bool,
+    bits: SameBits,
     extent: Extent,
     byte: u16,
     data_out: &'a [u8],
 ) -> Result<Operation<'a>, Refusal>
-    ensures { result
-        ≡ requested (write_same config.now anchor unmap extent byte data_out.now) data_out.now }
+    ensures { result ≡ requested (write_same config.now bits.anchor bits.unmap bits.ndob extent byte
+        data_out.now) data_out.now }
 {
+    let SameBits {
+        anchor,
+        unmap,
+        ndob,
+    } = bits;
     if anchor && !unmap {
         return Err(Refusal::CheckCondition(Reason::InvalidFieldInCdb { byte: ANCHOR_BYTE }));
     }
-    check_write_same_length(config, extent, byte)?;
-    let bytes = needed_data_out(config, data_out, BLOCK_LENGTH)?;
+    check_write_same_lengths(config, extent, byte, ndob, data_out)?;
+    let bytes = same_block(config, ndob, data_out)?;
     if !unmaps(unmap, bytes) {
         let block = BlockOut { bytes };
         Ok(Operation::Fill { extent, block })
@@ -305,16 +320,44 @@ fn check_write_same<'a>(
     }
 }
 
-/// Refuses no block, and more blocks than WRITE SAME writes.
-fn check_write_same_length(config: &Config, extent: Extent, byte: u16) -> Result<(), Refusal>
-    ensures refused { IfErr result (λ refusal.
-        unsupported_value (bad_count config.now extent.count byte) ≡ Some refusal) }
-    ensures passed { IfOk result (λ _. bad_count config.now extent.count byte ≡ None) }
+/// Refuses no block, more blocks than WRITE SAME writes, and data-out of a length that it does not
+/// take, if the profile says so.
+fn check_write_same_lengths(
+    config: &Config,
+    extent: Extent,
+    byte: u16,
+    ndob: bool,
+    data_out: &[u8],
+) -> Result<(), Refusal>
+    ensures refused { IfErr result (λ refusal. unsupported_value (bad_count config.now extent.count
+        byte (bad_length config.now (same_length ndob) data_out.now)) ≡ Some refusal) }
+    ensures passed { IfOk result (λ _. bad_count config.now extent.count byte
+        (bad_length config.now (same_length ndob) data_out.now) ≡ None) }
 {
     if !(1..=config.limits().write_same_length).contains(&extent.count) {
         return Err(Refusal::CheckCondition(Reason::InvalidFieldInCdb { byte }));
     }
+    let needed = if ndob { 0 } else { BLOCK_LENGTH };
+    if config.rules().write_same_takes_exact_length && data_out.len() != needed {
+        return Err(Refusal::CheckCondition(Reason::InvalidFieldInCdb { byte: NDOB_BYTE }));
+    }
     Ok(())
+}
+
+/// The block that WRITE SAME writes: the first of data-out, or zeros.
+#[tactic(auto, unfolding(sg_store::specs::Disk::zero_block))]
+fn same_block<'a>(config: &Config, ndob: bool, data_out: &'a [u8]) -> Result<&'a [u8], Refusal>
+    ensures refused { IfErr result (λ refusal.
+        short_data_out (Some (need config.now (same_length ndob))) data_out.now ≡ Some refusal) }
+    ensures passed { IfOk result (λ _.
+        short_data_out (Some (need config.now (same_length ndob))) data_out.now ≡ None) }
+    ensures block { IfOk result (λ bytes. bytes.now ≡ same_block ndob data_out.now) }
+    ensures whole { IfOk result (λ bytes. length bytes.now ≡ logical_block_length) }
+{
+    if ndob {
+        return Ok(&ZERO_BLOCK);
+    }
+    needed_data_out(config, data_out, BLOCK_LENGTH)
 }
 
 /// Returns `true` if WRITE SAME unmaps its blocks, which are read as zeros then.
