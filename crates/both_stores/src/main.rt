@@ -100,6 +100,7 @@ fn write_same(random: &mut Random, lba: u32, count: u8) -> Command {
     Command::WriteSame16(WriteSame16 {
         anchor: random.byte() < 64,
         unmap: random.byte() < 128,
+        ndob: false,
         lba: u64::from(lba),
         count: u32::from(count),
     })

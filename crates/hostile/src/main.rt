@@ -9,7 +9,8 @@
 //!   its byte. It refuses CONTROL 01h in the same way.
 //! - One byte of data-out less than the command announces is a DATA PHASE ERROR, and one more
 //!   changes nothing. An extended disk reports INVALID FIELD IN COMMAND INFORMATION UNIT. COMPARE AND
-//!   WRITE needs its exact length: the disk points to NUMBER OF LOGICAL BLOCKS.
+//!   WRITE needs its exact length: the disk points to NUMBER OF LOGICAL BLOCKS. So does WRITE SAME of
+//!   an extended disk: the disk points to the byte of NDOB.
 //!
 //! The program prints a line with the numbers of tries for each command, and a line for each try
 //! that ends otherwise. Rows that are wrong on purpose show that such tries are found.
@@ -207,6 +208,10 @@ fn ends_by_data_out(row: Row, profile: Profile) -> (Ending, Ending) {
     // NUMBER OF LOGICAL BLOCKS of COMPARE AND WRITE.
     if row.cdb.first() == Some(&0x89) {
         return (Ending::InvalidField(13), Ending::InvalidField(13));
+    }
+    // NDOB of WRITE SAME.
+    if row.cdb.first() == Some(&0x93) && profile == Profile::Extended {
+        return (Ending::InvalidField(1), Ending::InvalidField(1));
     }
     match profile {
         Profile::Base => (Ending::DataPhaseError, row.ending),

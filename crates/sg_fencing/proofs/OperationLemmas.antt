@@ -24,7 +24,7 @@ use Rattle.sg_target.specs.Armed.{first_blocks}
 use Rattle.sg_target.specs.Config.{ConfigFields}
 use Rattle.sg_target.specs.Demands.{demands, list_refusal, unmap_extent, unmap_extents}
 use Rattle.sg_target.specs.PrimaryCommands.{inquiry_page}
-use Rattle.sg_target.specs.ProvisioningCommands.{block_out, unmaps}
+use Rattle.sg_target.specs.ProvisioningCommands.{block_out, same_block, unmaps}
 use Rattle.sg_target.specs.Demands.{extents_out}
 use Rattle.sg_wire.specs.SupportedOperations.{requested_report}
 use Rattle.sg_pages.specs.Reports.{lists_unit, log_page_with}
@@ -208,8 +208,8 @@ suits config (command.WriteSame10 c) data_out =
     same-suits (command.WriteSame10 c) refl refl c.anchor
     (unmaps c.unmap (block_out data_out)) _ (block_out data_out)
 suits config (command.WriteSame16 c) data_out =
-    same-suits (command.WriteSame16 c) refl refl c.anchor
-    (unmaps c.unmap (block_out data_out)) _ (block_out data_out)
+    let block = same_block c.ndob data_out in
+    same-suits (command.WriteSame16 c) refl refl c.anchor (unmaps c.unmap block) _ block
 suits config (command.Unmap c) data_out =
     sound-suits (command.Unmap c) (extents_out config c.list_length data_out)
     (unmap_extents c.anchor) (unmap-suits (command.Unmap c) refl refl c.anchor)

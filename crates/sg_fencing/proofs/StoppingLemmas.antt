@@ -30,7 +30,7 @@ use Rattle.sg_target.specs.Happenings.{after_happening}
 use Rattle.sg_target.specs.Laws.{ConfigurationStays}
 use Rattle.sg_target.specs.ModeCommands.{changing_modes, mode_parameters, selected_modes}
 use Rattle.sg_target.specs.PrimaryCommands.{inquiry_page}
-use Rattle.sg_target.specs.ProvisioningCommands.{block_out, unmaps}
+use Rattle.sg_target.specs.ProvisioningCommands.{block_out, same_block, unmaps}
 use Rattle.sg_target.specs.Refusal.{first_some, or_refused, unless_refused, when_sound}
 use Rattle.sg_target.specs.ReservationCommands.{changing_reservations, fields_out, reservation_change}
 use Rattle.sg_target.specs.Runs.{step_of}
@@ -145,8 +145,8 @@ stops-if config (command.WriteSame10 c) data_out =
     same-stops (command.WriteSame10 c) refl c.anchor (unmaps c.unmap (block_out data_out)) _
     (block_out data_out)
 stops-if config (command.WriteSame16 c) data_out =
-    same-stops (command.WriteSame16 c) refl c.anchor (unmaps c.unmap (block_out data_out)) _
-    (block_out data_out)
+    same-stops (command.WriteSame16 c) refl c.anchor (unmaps c.unmap (same_block c.ndob data_out)) _
+    (same_block c.ndob data_out)
 stops-if config (command.FormatUnit c) data_out =
     format-stops c (list_refusal c data_out) config.blocks
 stops-if config (command.Unmap c) data_out =

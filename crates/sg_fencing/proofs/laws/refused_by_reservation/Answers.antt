@@ -2,7 +2,7 @@ use Rattle.std.proofs.Common.{◌≡◌, ℕ, List, [], ◌∷◌, Option, Some,
 use Rattle.std.proofs.Common.{Bool, true, false, refl}
 use Rattle.std.specs.Prelude.{if◌then◌else◌, find, nat_lt, length}
 use Rattle.sg_wire.specs.CdbDecoding.{class_by_rows, class_in, command_by_row, command_by_rows}
-use Rattle.sg_wire.specs.CdbDecoding.{command_in, first_bad, has_action_of, masks}
+use Rattle.sg_wire.specs.CdbDecoding.{command_in, first_bad, has_action_of, masks_in}
 use Rattle.sg_wire.specs.CdbDecoding.{rows_in, unless_bad}
 use Rattle.sg_wire.specs.Layout.{Layout, length_of}
 use Rattle.sg_wire.specs.declared.command.CdbFault.{CdbFault}
@@ -27,28 +27,29 @@ byte-or-bad : (bad : Option ℕ) (command : Command) → HasByte (unless_bad bad
 byte-or-bad None command = refl
 byte-or-bad (Some byte) command = refl
 
-byte-by-row : (cdb : List ℕ) (found : Option Layout) → HasByte (command_by_row cdb found)
-byte-by-row cdb None = refl
-byte-by-row cdb (Some l) = byte-or-bad (first_bad 0 (masks l) cdb) _
+byte-by-row : (profile : Profile) (cdb : List ℕ) (found : Option Layout)
+    → HasByte (command_by_row profile cdb found)
+byte-by-row profile cdb None = refl
+byte-by-row profile cdb (Some l) = byte-or-bad (first_bad 0 (masks_in profile l) cdb) _
 
 byte-or-short : (is_short : Bool) (count : ℕ) (parse : Result Command CdbFault) → HasByte parse
     → HasByte (if is_short then Err (Short count) else parse)
 byte-or-short true count parse h = refl
 byte-or-short false count parse h = h
 
-byte-by-rows : (cdb : List ℕ) (rows : List Layout) (class : Class)
-    → class_by_rows cdb rows ≡ Some class → HasByte (command_by_rows cdb rows)
-byte-by-rows cdb [] class h = cc
-byte-by-rows cdb (l ∷ ls) class h =
+byte-by-rows : (profile : Profile) (cdb : List ℕ) (rows : List Layout) (class : Class)
+    → class_by_rows cdb rows ≡ Some class → HasByte (command_by_rows profile cdb rows)
+byte-by-rows profile cdb [] class h = cc
+byte-by-rows profile cdb (l ∷ ls) class h =
     byte-or-short (nat_lt (length cdb) (length_of l.opcode)) _ _
-    (byte-by-row cdb (find (has_action_of cdb) (l ∷ ls)))
+    (byte-by-row profile cdb (find (has_action_of cdb) (l ∷ ls)))
 
 has-byte : (profile : Profile) (cdb : List ℕ) (class : Class) → class_in profile cdb ≡ Some class
     → HasByte (command_in profile cdb)
 unfolding class_in command_in
 has-byte profile [] class h = cc
 has-byte profile (opcode ∷ rest) class h =
-    byte-by-rows (opcode ∷ rest) (rows_in profile opcode) class h
+    byte-by-rows profile (opcode ∷ rest) (rows_in profile opcode) class h
 
 conflicts : (state : State) (i : ℕ) (cdb : List ℕ) (class : Class)
     → class_in (profile_of state) cdb ≡ Some class → allows state.reservations i class ≡ false
