@@ -20,6 +20,7 @@ from sense import (
     UNRECOVERED_READ_ERROR,
     WRITE_PROTECTED,
     CheckCondition,
+    invalid_field_in_cdb,
     invalid_field_in_parameter_list,
     parameter_list_length_error,
 )
@@ -34,6 +35,7 @@ MAXIMUM_TRANSFER_LENGTH = {"base": 256, "extended": 2048}
 MAXIMUM_COMPARE_AND_WRITE_LENGTH = {"base": 0, "extended": 255}
 MAXIMUM_ATOMIC_TRANSFER_LENGTH = {"base": 0, "extended": 2048}
 MAXIMUM_WRITE_SAME_LENGTH = {"base": 65536, "extended": 65535}
+NDOB_AT = 1  # its byte in the CDB of WRITE SAME(16)
 MAXIMUM_UNMAP_BLOCK_DESCRIPTOR_COUNT = 64
 
 
@@ -161,13 +163,18 @@ def compare_and_write(device, _initiator, command, data_out):
 
 
 def write_same(device, _initiator, command, data_out):
-    """WRITE SAME (SBC-3, 5.43 and 5.44); with UNMAP 1 and a block of zeros 4.7 applies"""
+    """WRITE SAME (SBC-3, 5.43 and 5.44); with UNMAP 1 and a block of zeros 4.7 applies. NDOB 1 is a
+    block of zeros. An extended disk takes as much data-out as there has to be, and no more."""
     address, count = command["address"], command["count"]
     if command["anchor"] and not command["unmap"]:
         raise command.unsupported("anchor")
     if not 1 <= count <= MAXIMUM_WRITE_SAME_LENGTH[device.profile]:
         raise command.unsupported("count")
-    block = need_data_out(device, data_out, BLOCK_LENGTH)
+    ndob = command.name == "WRITE SAME(16)" and command["ndob"]
+    length = 0 if ndob else BLOCK_LENGTH
+    if device.profile == "extended" and len(data_out) != length:
+        raise invalid_field_in_cdb(NDOB_AT)
+    block = ZEROS if ndob else need_data_out(device, data_out, BLOCK_LENGTH)
     extents = [(address, count)]
     check_addresses(device, extents)
     check_write_protection(device, extents)

@@ -116,7 +116,7 @@ class Device:
             raise CheckCondition(sense.UNIT_ATTENTION, self.attentions[initiator].pop(0))
         if not is_known:
             raise CheckCondition(sense.ILLEGAL_REQUEST, sense.INVALID_COMMAND_OPERATION_CODE)
-        command = Command(cdb, layout)  # 5 and 6
+        command = Command(cdb, layout, self.profile)  # 5 and 6
         return OPERATIONS[command.name](self, initiator, command, data_out)
 
     def comes_before_a_conflict(self, code):

@@ -63,8 +63,8 @@ TABLE = """
 8F    | VERIFY(16)             | reads   | bytchk 1:06, address 2-9, count 10-13       | 1:10, 14:1F
 90    | PRE-FETCH(16)          | reads   | address 2-9, count 10-13                    | 1:02, 14:1F
 91    | SYNCHRONIZE CACHE(16)  | writes  | address 2-9, count 10-13                    | 1:06, 14:1F
-93    | WRITE SAME(16)         | writes  | anchor 1:10, unmap 1:08, address 2-9, \
-                                           count 10-13                                 | 14:1F
+93    | WRITE SAME(16)         | writes  | anchor 1:10, unmap 1:08, ndob 1:01, \
+                                           address 2-9, count 10-13                    | 14:1F
 9C    | WRITE ATOMIC(16)       | writes  | address 2-9, boundary 10-11, count 12-13    | 1:18, 14:1F
 9E.10 | READ CAPACITY(16)      | allowed | allocation_length 10-13                     |
 9E.12 | GET LBA STATUS         | reads   | address 2-9, allocation_length 10-13        |
@@ -100,6 +100,9 @@ SHOWN = {
 # Operation codes that only a disk of the extended profile knows.
 OF_EXTENDED = {0x04, 0x1B, 0x1D, 0x2E, 0x2F, 0x34, 0x37, 0x3F, 0x48, 0x4D, 0x89, 0x8B, 0x8E, 0x8F, 0x90,
                0x91, 0x9C, 0xA0, 0xA3, 0xA8, 0xAA, 0xAE, 0xAF, 0xB7}
+
+# Fields that only a disk of the extended profile knows. A base disk refuses their bits.
+FIELDS_OF_EXTENDED = {("WRITE SAME(16)", "ndob")}
 
 # These two have a name for each service action, from 00h on.
 SERVICE_ACTIONS = {
@@ -150,10 +153,14 @@ class Layout:
         for named in filter(None, fields.split(",")):
             field, places = named.split()
             self.fields[field] = Field(places)
-        allowed = [*self.fields.values(), *map(Field, filter(None, ignored.split(",")))]
+        ignored = [*map(Field, filter(None, ignored.split(",")))]
         if action is not None:
-            allowed.append(Field("1:1F"))
-        self.allowed_bits = bits_of(allowed, self.length)
+            ignored.append(Field("1:1F"))
+        of_base = [place for field, place in self.fields.items()
+                   if (name, field) not in FIELDS_OF_EXTENDED]
+        self.allowed_bits = {
+            "base": bits_of([*of_base, *ignored], self.length),
+            "extended": bits_of([*self.fields.values(), *ignored], self.length)}
         shown = [place for field, place in self.fields.items() if field != "group_number"]
         shown += map(Field, filter(None, SHOWN.get(name, "").split(",")))
         self.usage = bytearray(bits_of(shown, self.length))
@@ -210,14 +217,14 @@ def class_of(cdb, layout):
 class Command:
     """A CDB that has passed the checks of its length and of its bits."""
 
-    def __init__(self, cdb, layout):
+    def __init__(self, cdb, layout, profile):
         """Checks length, service action, and bits (docs/PROFILE.md, checks 5 and 6)."""
         length = LENGTH_OF_GROUP[cdb[0] >> 5]
         if len(cdb) < length:
             raise invalid_field_in_cdb(len(cdb))
         if layout is None:
             raise invalid_field_in_cdb(1)  # no command allows the bits of this service action
-        for byte, bits in enumerate(layout.allowed_bits):
+        for byte, bits in enumerate(layout.allowed_bits[profile]):
             if cdb[byte] & ~bits:
                 raise invalid_field_in_cdb(byte)
         self.cdb, self.layout, self.name = cdb, layout, layout.name
