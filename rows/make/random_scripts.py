@@ -42,7 +42,8 @@ EXTENDED_LINES = (
     "sg_sync --16 -l A -c N", "sg_verify -l A -c N", "sg_verify --16 -l A -c N",
     "sg_verify -l A -c N -i B", "sg_verify -l A -c N -E 3 -i B", "sg_compare_and_write -l A -i B",
     "sg_compare_and_write -l A -i B", "sg_write_same -l A -n N -i B", "sg_write_same -S -l A -n N -U",
-    "sg_write_same --10 -l A -n N -i B", "sg_start", "sg_start -s", "sg_start -S", "sg_start -p 3 -m 1")
+    "sg_write_same --10 -l A -n N -i B", "sg_write_same -N -l A -n N", "sg_write_same -NUa -l A -n N",
+    "sg_start", "sg_start -s", "sg_start -S", "sg_start -p 3 -m 1")
 # Verbs of an extended disk
 HAPPENINGS = ("reset", "reset", "reset target", "nexus", "nexus", "grow", *4 * ("attention",),
               *7 * ("fault",), "faults", "faults", "heal", "heal")
@@ -163,6 +164,8 @@ class Script:
             cdb[self.random.randrange(len(cdb))] ^= 1 << self.random.randrange(8)
         if self.is_rare(0.05):
             data_out = data_out[:-1]
+        elif self.is_rare(0.03):
+            data_out += bytes(1)
         return (cdb[:self.random.randrange(len(cdb))] if self.is_rare(0.02) else cdb), data_out
 
     def is_rare(self, share):
@@ -196,6 +199,7 @@ class Script:
             "page_code": self.random.choice(pages),
             "subpage_code": self.random.choice((0, 0, 0xFF)),
             "pf": 1,
+            "ndob": self.random.choice((0, 0, 1) if self.profile == "extended" else (0,)),
             "wr_uncor": 1,
             "transfer_length": 0,
             "bytchk": self.random.choice((0, 1)),
@@ -223,6 +227,8 @@ class Script:
             halves = (self.nearly_equal(bytes([self.small()]) * 512), bytes([self.small()]) * 512)
             return b"".join(halves) if values["count"] else b""
         if command.startswith("WRITE SAME"):
+            if values.get("ndob") and self.profile == "extended":
+                return b""
             return bytes([self.random.choice((0, 0, 7))]) * 512
         if command == "UNMAP":
             count = 65 if self.is_rare(0.03) else self.small()

@@ -35,17 +35,19 @@ block_or_nothing zeros ones =
 abbrev pub byte_check_or : (compares : Bool) → Option Text → Option ℕ
 byte_check_or compares text = number_or (if compares then 1 else 0) 3 text
 
--- Without --in the data-out is a block of zeros, or with --ff a block of FFh.
-abbrev pub filled_block : (ones : Bool) → Parameters
-filled_block ones = parameters.Block (if ones then 0xFF else 0x00)
+-- Without --in the data-out is a block of zeros, with --ff a block of FFh, and with --ndob nothing.
+abbrev pub filled_block : (ones ndob : Bool) → Parameters
+filled_block ones ndob =
+    if ndob then parameters.Nothing else parameters.Block (if ones then 0xFF else 0x00)
 
 -- One of --in, --lba and --num has to be given.
 abbrev pub is_none_given : (word lba count : Bool) → Bool
 is_none_given word lba count = not (word || (lba || count))
 
--- --in excludes --ff, and --10 excludes --16.
-abbrev pub excludes : (word ones short long : Bool) → Bool
-excludes word ones short long = (word && ones) || (short && long)
+-- --in excludes --ff, and --10 excludes --16. --ndob excludes all three but --16.
+abbrev pub excludes : (word ones ndob short long : Bool) → Bool
+excludes word ones ndob short long =
+    (word && ones) || ((short && long) || (ndob && (word || (ones || short))))
 
 -- The address and the count, if WRITE SAME(10) has room for them.
 abbrev pub short_extent : (lba count : ℕ) → Option (ℕ × ℕ)
@@ -53,11 +55,12 @@ short_extent lba count =
     if nat_lt lba (2 ^ 32) && nat_lt count (2 ^ 16) then Some (lba, count) else None
 
 -- With --10 the command is WRITE SAME(10), and None if it has no room. Without --10 and --16 it is
--- WRITE SAME(10) if there is room, unless blocks are unmapped.
-abbrev pub write_same : (short long anchor unmap : Bool) (lba count : ℕ) → Option (ℕ × ℕ)
+-- WRITE SAME(10) if there is room, unless blocks are unmapped or there is no data-out.
+abbrev pub write_same : (short long anchor unmap ndob : Bool) (lba count : ℕ) → Option (ℕ × ℕ)
     → Option Command
-write_same short long anchor unmap lba count None =
-    if short then None else Some (command.write_same_16 anchor unmap lba count)
-write_same short long anchor unmap lba count (Some extent) =
-    if short || not (long || unmap) then Some (command.write_same_10 anchor unmap extent.0 extent.1)
-    else Some (command.write_same_16 anchor unmap lba count)
+write_same short long anchor unmap ndob lba count None =
+    if short then None else Some (command.write_same_16 anchor unmap ndob lba count)
+write_same short long anchor unmap ndob lba count (Some extent) =
+    if short || not (long || (unmap || ndob))
+    then Some (command.write_same_10 anchor unmap extent.0 extent.1)
+    else Some (command.write_same_16 anchor unmap ndob lba count)

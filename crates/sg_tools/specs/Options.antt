@@ -145,6 +145,7 @@ options_of SgWriteSame =
     ∷ text "n" "num"  -- NUMBER OF LOGICAL BLOCKS
     ∷ flag "a" "anchor"  -- ANCHOR
     ∷ flag "U" "unmap"  -- UNMAP
+    ∷ flag "N" "ndob"  -- NDOB
     ∷ text "i" "in"  -- data-out
     ∷ flag "f" "ff"  -- data-out: a block of FFh in place of zeros
     ∷ []

@@ -432,12 +432,12 @@ sg_compare_and_write rows =
 
 -- ---- sg_write_same: WRITE SAME(10) or WRITE SAME(16)
 
-abbrev pub write_block : (short long anchor unmap : Bool) → (lba count : Option ℕ)
+abbrev pub write_block : (short long anchor unmap ndob : Bool) → (lba count : Option ℕ)
     → Option Parameters → Request
-write_block short long anchor unmap lba count sent =
+write_block short long anchor unmap ndob lba count sent =
     with_value lba (λ lba. with_value count (λ count. with_value sent (λ sent.
-    with_value (write_same short long anchor unmap lba count (short_extent lba count)) (λ command.
-    sends command sent show.Nothing))))
+    with_value (write_same short long anchor unmap ndob lba count (short_extent lba count))
+    (λ command. sends command sent show.Nothing))))
 
 abbrev pub sg_write_same : List Row → Request
 sg_write_same rows =
@@ -447,11 +447,12 @@ sg_write_same rows =
     let short = is_set (codes "10") rows in
     let long = is_set (codes "16") rows in
     let ones = is_set (codes "ff") rows in
+    let ndob = is_set (codes "ndob") rows in
     if is_none_given (is_some word) (is_some lba) (is_some count) then Err Usage
-    else unless_exclusive (excludes (is_some word) ones short long)
-    (write_block short long (is_set (codes "anchor") rows) (is_set (codes "unmap") rows)
+    else unless_exclusive (excludes (is_some word) ones ndob short long)
+    (write_block short long (is_set (codes "anchor") rows) (is_set (codes "unmap") rows) ndob
     (number_or 0 (2 ^ 64 - 1) lba) (number_or 1 (2 ^ 32 - 1) count)
-    (data_or (filled_block ones) word))
+    (data_or (filled_block ones ndob) word))
 
 -- ---- sg_start: START STOP UNIT
 

@@ -114,6 +114,7 @@ const SG_WRITE_SAME: &[ToolOption] = &[
     Text('n', "num"),
     Flag('a', "anchor"),
     Flag('U', "unmap"),
+    Flag('N', "ndob"),
     Text('i', "in"),
     Flag('f', "ff"),
 ];

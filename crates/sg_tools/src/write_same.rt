@@ -28,12 +28,14 @@ pub(crate) fn sg_write_same(options: &GivenOptions) -> Result<Tool, ToolFault>
         long: options.is_set("16"),
     };
     let ones = options.is_set("ff");
-    if excludes(has_word, ones, widths) {
+    let ndob = options.is_set("ndob");
+    if excludes(has_word, ones, ndob, widths) {
         return Err(ToolFault::Exclusive);
     }
     let fields = WriteSameBits {
         anchor: options.is_set("anchor"),
         unmap: options.is_set("unmap"),
+        ndob,
     };
     let lba = number_or(0, u64::MAX, lba);
     let count = number_or(1, 0xffff_ffff, count);
@@ -42,7 +44,7 @@ pub(crate) fn sg_write_same(options: &GivenOptions) -> Result<Tool, ToolFault>
         fields,
         lba,
         count,
-        data_or(filled_block(ones), word),
+        data_or(filled_block(ones, ndob), word),
     )
 }
 
@@ -52,23 +54,27 @@ fn is_none_given(word: bool, lba: bool, count: bool) -> bool
     !(word || lba || count)
 }
 
-fn excludes(word: bool, ones: bool, widths: Widths) -> bool
-    ensures { result ≡ excludes word ones widths.short widths.long }
+fn excludes(word: bool, ones: bool, ndob: bool, widths: Widths) -> bool
+    ensures { result ≡ excludes word ones ndob widths.short widths.long }
 {
-    (word && ones) || (widths.short && widths.long)
+    (word && ones) || (widths.short && widths.long) || (ndob && (word || ones || widths.short))
 }
 
-fn filled_block(ones: bool) -> Parameters
-    ensures { result ≡ filled_block ones }
+fn filled_block(ones: bool, ndob: bool) -> Parameters
+    ensures { result ≡ filled_block ones ndob }
 {
+    if ndob {
+        return Parameters::Nothing;
+    }
     Parameters::Block(if ones { 0xFF } else { 0x00 })
 }
 
-/// ANCHOR and UNMAP.
+/// ANCHOR, UNMAP and NDOB.
 #[derive(Clone, Copy)]
 struct WriteSameBits {
     anchor: bool,
     unmap: bool,
+    ndob: bool,
 }
 
 /// WRITE SAME, if the address, the count and the data-out have values, and the CDB has room for them.
@@ -80,7 +86,8 @@ fn write_block(
     sent: Option<Parameters>,
 ) -> Result<Tool, ToolFault>
     requires { IfSome count (λ n. n ≤ 0xFFFFFFFF) }
-    ensures { result ≡ write_block widths.short widths.long bits.anchor bits.unmap lba count sent }
+    ensures { result ≡ write_block widths.short widths.long bits.anchor bits.unmap bits.ndob lba count
+        sent }
 {
     let (Some(lba), Some(count), Some(sent)) = (lba, count, sent) else {
         return Err(ToolFault::Number);
@@ -90,6 +97,7 @@ fn write_block(
         count: count as u32,
         anchor: bits.anchor,
         unmap: bits.unmap,
+        ndob: bits.ndob,
     };
     match write_same(widths, fields) {
         Some(command) => Ok(Tool::with_data_out(command, sent)),
@@ -106,8 +114,8 @@ struct Widths {
 
 /// The command with these fields. None if it has to be WRITE SAME(10), which has no room for them.
 fn write_same(widths: Widths, fields: WriteSame16) -> Option<Command>
-    ensures { result ≡ write_same widths.short widths.long fields.anchor fields.unmap fields.lba
-        fields.count (short_extent fields.lba fields.count) }
+    ensures { result ≡ write_same widths.short widths.long fields.anchor fields.unmap fields.ndob
+        fields.lba fields.count (short_extent fields.lba fields.count) }
 {
     let Some((lba, count)) = short_extent(fields.lba, fields.count) else {
         if widths.short {
@@ -115,7 +123,7 @@ fn write_same(widths: Widths, fields: WriteSame16) -> Option<Command>
         }
         return Some(Command::WriteSame16(fields));
     };
-    if widths.short || !(widths.long || fields.unmap) {
+    if widths.short || !(widths.long || fields.unmap || fields.ndob) {
         return Some(Command::WriteSame10(WriteSame10 {
             lba,
             count,

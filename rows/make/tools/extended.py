@@ -111,11 +111,14 @@ def sg_compare_and_write(values):
 
 
 def sg_write_same(values):
-    """WRITE SAME(10) (SBC-3, 5.43) or (16) (SBC-3, 5.44): ANCHOR is 10h of byte 1, UNMAP is 08h."""
-    flags = 0x10 * ("anchor" in values) | 0x08 * ("unmap" in values)
+    """WRITE SAME(10) (SBC-3, 5.43) or (16) (SBC-3, 5.44): ANCHOR is 10h of byte 1, UNMAP is 08h. NDOB
+    is 01h of (16), and then there is no data-out."""
+    flags = 0x10 * ("anchor" in values) | 0x08 * ("unmap" in values) | 0x01 * ("ndob" in values)
     lba, count = values.get("lba", 0), values.get("num", 1)
     data_out = values.get("in", (b"\xff" if "ff" in values else b"\0") * 512)
-    long = "16" in values or "unmap" in values or not has_room(values)
+    if "ndob" in values:
+        data_out = b""
+    long = {"16", "unmap", "ndob"} & values.keys() or not has_room(values)
     if long and "10" not in values:
         return Request(of_bytes((0x93, 1), (flags, 1), (lba, 8), (count, 4), (0, 2)), data_out)
     return Request(of_bytes((0x41, 1), (flags, 1), (lba, 4), (0, 1), (count, 2), (0, 1)), data_out)
@@ -159,9 +162,11 @@ EXTENDED_TOOLS = {
         sg_compare_and_write, required=["lba", "in"]),
     "sg_write_same": Tool(
         [Option("R", "10"), Option("S", "16"), Option("l", "lba", EIGHT), Option("n", "num", FOUR),
-         Option("a", "anchor"), Option("U", "unmap"), Option("i", "in", given_bytes),
-         Option("f", "ff")],
-        sg_write_same, exclusive=[("in", "ff"), ("10", "16")], one_of=["in", "lba", "num"],
+         Option("a", "anchor"), Option("U", "unmap"), Option("N", "ndob"),
+         Option("i", "in", given_bytes), Option("f", "ff")],
+        sg_write_same,
+        exclusive=[("in", "ff"), ("10", "16"), ("ndob", "in"), ("ndob", "ff"), ("ndob", "10")],
+        one_of=["in", "lba", "num"],
         in_range=lambda values: "10" not in values or has_room(values)),
     "sg_start": Tool(
         [Option("e", "eject"), Option("l", "load"), Option("L", "loej"),
