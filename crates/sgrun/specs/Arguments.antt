@@ -1,21 +1,25 @@
 -- The request that the words of the command line make (docs/SCRIPT.md). Of two stops, the first in
--- this order is returned: `Usage`; `Number`; `Profile`; and then `Blocks` and `Pool`, in the order of
--- a disk's checks.
+-- this order is returned: `Usage`; `Number`; `Profile`; `Seed`; and then `Blocks` and `Pool`, in the
+-- order of a disk's checks.
 use Rattle.std.specs.Prelude.{◌≡◌, ◌⊎◌, ℕ, ◌^◌, ◌-◌, List, codes, Option, Some, None, Result, Ok}
-use Rattle.std.specs.Prelude.{Err, [], ◌∷◌, bytes_eq, find}
+use Rattle.std.specs.Prelude.{Err, [], ◌∷◌, bytes_eq, find, Bool, true, false, not, ◌&&◌, is_some}
+use Rattle.std.specs.Prelude.{if◌then◌else◌}
 use Rattle.clap.specs.Words.{Row, Text}
 use Rattle.sg_wire.specs.declared.profile.Profile.{Profile}
 use Rattle.sg_wire.specs.declared.profile.Profile.TheVariants.{Base, Extended}
-use Rattle.sg_pages.specs.NewIdentity.{standard_identity}
+use Rattle.sg_pages.specs.Identity.{IdentityFields}
+use Rattle.sg_pages.specs.NewIdentity.{identity_of_seed}
+use Rattle.sg_pages.specs.declared.identity.IdentityFault.{IdentityFault}
 use Rattle.sg_target.specs.Config.{ConfigFields, checked_config}
 use Rattle.sg_target.specs.declared.config.ConfigFault.{ConfigFault}
 use Rattle.sg_tools.specs.GivenOptions.{given_options, text_of}
 use Rattle.sg_tools.specs.OptionTexts.{number_or}
 use Rattle.sg_tools.specs.declared.tool_fault.ToolFault.{ToolFault}
 use Rattle.sgrun.specs.Options.{command_line}
-use Rattle.sgrun.specs.Stops.{stop_of_config, stop_of_options}
+use Rattle.sgrun.specs.Stops.{stop_of_config, stop_of_identity, stop_of_options}
 use Rattle.sgrun.specs.declared.stop.Stop.{Stop}
-use Rattle.sgrun.specs.declared.stop.Stop.TheVariants.{Number, OutOfMemory, Profile as BadProfile}
+use Rattle.sgrun.specs.declared.stop.Stop.TheVariants.{Usage, Number, OutOfMemory}
+use Rattle.sgrun.specs.declared.stop.Stop.TheVariants.{Profile as BadProfile}
 
 -- ---- The disk
 
@@ -24,6 +28,10 @@ default_blocks = 4096
 
 abbrev pub default_pool : ℕ
 default_pool = 4
+
+-- Its identity is the default one.
+abbrev pub default_seed : ℕ
+default_seed = 1
 
 -- The name of a profile.
 abbrev pub name_of : Profile → List ℕ
@@ -36,20 +44,29 @@ profile_named None = Some Base
 profile_named (Some name) =
     find (λ profile. bytes_eq name (name_of profile)) (Base ∷ Extended ∷ [])
 
--- A disk with the standard names. Its numbers have to be in range.
-abbrev pub disk_with : (blocks pool : ℕ) → Profile → ConfigFields
-disk_with blocks pool profile = record {
+-- Only `--profile extended` takes a seed.
+abbrev pub takes_seed : Option Profile → Bool
+takes_seed (Some Extended) = true
+takes_seed profile = false
+
+-- A disk with the names of a seed.
+abbrev pub disk_with : (blocks pool : ℕ) → Profile → IdentityFields → ConfigFields
+disk_with blocks pool profile names = record {
   blocks = blocks;
   pool = pool;
-  identity = record standard_identity { profile = profile };
+  identity = record names { profile = profile };
 }
 
 abbrev pub by_config : Result ConfigFields ConfigFault → Result ConfigFields Stop
 by_config (Ok disk) = Ok disk
 by_config (Err fault) = Err (stop_of_config fault)
 
-abbrev pub checked_disk : (blocks pool : ℕ) → Profile → Result ConfigFields Stop
-checked_disk blocks pool profile = by_config (checked_config (disk_with blocks pool profile))
+-- Its numbers have to be in range.
+abbrev pub checked_disk : (blocks pool : ℕ) → Profile → Result IdentityFields IdentityFault
+    → Result ConfigFields Stop
+checked_disk blocks pool profile (Err fault) = Err (stop_of_identity fault)
+checked_disk blocks pool profile (Ok names) =
+    by_config (checked_config (disk_with blocks pool profile names))
 
 -- The number of an option's text, or the default if the option is not given.
 abbrev pub number_of_option : (default : ℕ) → Option Text → Option ℕ
@@ -64,13 +81,21 @@ abbrev pub with_profile : Option Profile → (Profile → Result ConfigFields St
 with_profile None disk = Err BadProfile
 with_profile (Some profile) disk = disk profile
 
--- Both numbers and the profile are read before a number is checked.
-abbrev pub disk_of : List Row → Result ConfigFields Stop
-disk_of rows =
+-- The numbers and the profile are read before a number is checked.
+abbrev pub disk_by : (profile : Option Profile) → List Row → Result ConfigFields Stop
+disk_by named rows =
     with_number (number_of_option default_blocks (text_of (codes "blocks") rows)) (λ blocks.
     with_number (number_of_option default_pool (text_of (codes "pool") rows)) (λ pool.
-    with_profile (profile_named (text_of (codes "profile") rows)) (λ profile.
-    checked_disk blocks pool profile)))
+    with_number (number_of_option default_seed (text_of (codes "seed") rows)) (λ seed.
+    with_profile named (λ profile.
+    checked_disk blocks pool profile (identity_of_seed seed)))))
+
+-- A seed that the profile does not take is refused first, as an option that does not exist is.
+abbrev pub disk_of : List Row → Result ConfigFields Stop
+disk_of rows =
+    let named = profile_named (text_of (codes "profile") rows) in
+    if is_some (text_of (codes "seed") rows) && not (takes_seed named) then Err Usage
+    else disk_by named rows
 
 -- ---- Every option
 

@@ -3,6 +3,7 @@ use Rattle.std.specs.Prelude.{ℕ, List, ◌++◌, codes, Result, Ok, Err}
 use Rattle.std.specs.Borrow.{Bor}
 use Rattle.std.specs.declared.io.ErrorKind.{ErrorKind}
 use Rattle.std.specs.declared.io.ErrorKind.TheVariants.{OutOfMemory as NoMemory}
+use Rattle.sg_pages.specs.declared.identity.IdentityFault.{IdentityFault}
 use Rattle.sg_run.specs.declared.run.RunFault.{RunFault}
 use Rattle.sg_run.specs.declared.run.RunFault.TheVariants.{Read as ReadFault, Write as WriteFault}
 use Rattle.sg_target.specs.declared.config.ConfigFault.{ConfigFault}
@@ -11,8 +12,8 @@ use Rattle.sg_target.specs.declared.config.ConfigFault.TheVariants.{Pool as Pool
 use Rattle.sg_tools.specs.declared.tool_fault.ToolFault.{ToolFault}
 use Rattle.sg_tools.specs.declared.tool_fault.ToolFault.TheVariants.{OutOfMemory as NoMemoryFault}
 use Rattle.sgrun.specs.declared.stop.Stop.{Stop}
-use Rattle.sgrun.specs.declared.stop.Stop.TheVariants.{Usage, Number, Profile, Blocks, Pool}
-use Rattle.sgrun.specs.declared.stop.Stop.TheVariants.{CannotOpen, Read, Write, OutOfMemory}
+use Rattle.sgrun.specs.declared.stop.Stop.TheVariants.{Usage, Number, Profile, Seed, Blocks}
+use Rattle.sgrun.specs.declared.stop.Stop.TheVariants.{Pool, CannotOpen, Read, Write, OutOfMemory}
 
 -- The text that a stop prints to standard error after the program's name, and the program's exit
 -- status.
@@ -27,6 +28,7 @@ abbrev pub row_of : Stop → Row
 row_of Usage = row (codes "usage") 1
 row_of Number = row (codes "number") 1
 row_of Profile = row (codes "profile") 1
+row_of Seed = row (codes "seed") 1
 row_of Blocks = row (codes "blocks") 1
 row_of Pool = row (codes "pool") 1
 row_of (CannotOpen file) = row (codes "cannot open " ++ file.now) 15
@@ -43,6 +45,10 @@ stop_of_words kind = Usage
 abbrev pub stop_of_options : ToolFault → Stop
 stop_of_options NoMemoryFault = OutOfMemory
 stop_of_options fault = Usage
+
+-- The stop if a seed makes no names: it has too many bits.
+abbrev pub stop_of_identity : IdentityFault → Stop
+stop_of_identity fault = Seed
 
 -- The stop if a disk can't have such a size.
 abbrev pub stop_of_config : ConfigFault → Stop

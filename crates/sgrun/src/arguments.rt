@@ -28,30 +28,35 @@ ghost use Rattle.std.specs.String.{string_bytes};
 ghost use Rattle.clap.specs.Words.{app_of, rule_of};
 ghost use Rattle.sg_tools.specs.Options.{rule};
 ghost use Rattle.sgrun.specs.Arguments.{IsUnlessOutOfMemory, arguments, arguments_of, checked_disk};
-ghost use Rattle.sgrun.specs.Arguments.{disk_of, number_of_option, profile_named};
+ghost use Rattle.sgrun.specs.Arguments.{disk_by, disk_of, number_of_option, profile_named};
+ghost use Rattle.sgrun.specs.Arguments.{takes_seed};
 ghost use Rattle.sgrun.specs.Options.{command_line, text_option};
 
 use crate::stop::Stop;
 use clap::{Arg, ArgAction, Command};
-use sg_pages::Identity;
+use sg_pages::{Identity, IdentityFault};
 use sg_tools::{GivenOptions, number_or};
 use sg_wire::Profile;
 use std::alloc::{AllocError, Global};
 
-// The disk's logical blocks, and the number of them that can be mapped at once, if no option gives
-// them.
+// The disk's logical blocks, the number of them that can be mapped at once, and the seed of its names,
+// if no option gives them.
 const DEFAULT_BLOCKS: u64 = 4_096;
 
 const DEFAULT_POOL: u64 = 4;
+
+const DEFAULT_SEED: u64 = 1;
 
 impl<'a> Arguments<'a> {
     /// Reads the request that words make. The first word is the program's name.
     ///
     /// # Errors
     /// The first of these that applies:
-    /// - `Usage` if clap does not accept the words, or if they ask for help.
-    /// - `Number` if the text of `--blocks` or `--pool` is no number.
+    /// - `Usage` if clap does not accept the words, or if they ask for help, or if they have `--seed`
+    ///   without `--profile extended`.
+    /// - `Number` if the text of `--blocks`, `--pool` or `--seed` is no number.
     /// - `Profile` if no profile has the name of `--profile`.
+    /// - `Seed` if the seed has more than 60 bits.
     /// - `Blocks` or `Pool` if there is no disk of that size.
     ///
     /// If memory is refused, `OutOfMemory` is returned in place of any of these, and of a success.
@@ -77,10 +82,22 @@ impl<'a> Arguments<'a> {
 fn disk<'a>(options: &GivenOptions) -> Result<Config, Stop<'a>>
     ensures { result ≡ disk_of options.now }
 {
+    let profile = profile_named(options.text("profile"));
+    if options.text("seed").is_some() && !takes_seed(profile) {
+        return Err(Stop::Usage);
+    }
+    disk_by(profile, options)
+}
+
+/// The disk of a profile that options ask for. None is no profile.
+fn disk_by<'a>(profile: Option<Profile>, options: &GivenOptions) -> Result<Config, Stop<'a>>
+    ensures { result ≡ disk_by profile options.now }
+{
     let blocks = number_of_option(DEFAULT_BLOCKS, options.text("blocks")).ok_or(Stop::Number)?;
     let pool = number_of_option(DEFAULT_POOL, options.text("pool")).ok_or(Stop::Number)?;
-    let profile = profile_named(options.text("profile")).ok_or(Stop::Profile)?;
-    checked_disk(blocks, pool, profile)
+    let seed = number_of_option(DEFAULT_SEED, options.text("seed")).ok_or(Stop::Number)?;
+    let profile = profile.ok_or(Stop::Profile)?;
+    checked_disk(blocks, pool, profile, Identity::from_seed(seed))
 }
 
 /// The number of a text, or the default if there is no text.
@@ -101,13 +118,25 @@ fn profile_named(name: Option<&str>) -> Option<Profile>
     }
 }
 
-/// A disk of a size and a profile, if there can be one.
-fn checked_disk<'a>(blocks: u64, pool: u64, profile: Profile) -> Result<Config, Stop<'a>>
-    ensures { result ≡ checked_disk blocks pool profile }
+/// Whether a profile takes the option `--seed`.
+fn takes_seed(profile: Option<Profile>) -> bool
+    ensures { result ≡ takes_seed profile }
+{
+    matches!(profile, Some(Profile::Extended))
+}
+
+/// A disk of a size and a profile, with the names of an identity, if there can be one.
+fn checked_disk<'a>(
+    blocks: u64,
+    pool: u64,
+    profile: Profile,
+    names: Result<Identity, IdentityFault>,
+) -> Result<Config, Stop<'a>>
+    ensures { result ≡ checked_disk blocks pool profile names }
 {
     // A number that is no u32 is too large for any pool. So it is refused as 0 is.
     let pool = u32::try_from(pool).unwrap_or(0);
-    let identity = Identity::standard().with_profile(profile);
+    let identity = names?.with_profile(profile);
     Ok(Config::new(blocks, pool, identity)?)
 }
 
@@ -119,6 +148,7 @@ fn command_line<'a>(alloc: Global) -> Result<Command<'a>, AllocError>
         .arg(text_option(alloc, "blocks"))?
         .arg(text_option(alloc, "pool"))?
         .arg(text_option(alloc, "profile"))?
+        .arg(text_option(alloc, "seed"))?
         .arg(text_option(alloc, "script"))
 }
 

@@ -2,6 +2,7 @@
 ghost use Rattle.std.specs.Prelude.{◌≡◌, ◌++◌};
 ghost use Rattle.sgrun.specs.Stops.{exit_status, row_of, stop_of_open, stop_of_words};
 
+use sg_pages::IdentityFault;
 use sg_run::RunFault;
 use sg_target::ConfigFault;
 use sg_tools::ToolFault;
@@ -17,6 +18,8 @@ pub(crate) enum Stop<'a> {
     Number,
     /// No profile has this name.
     Profile,
+    /// No disk has the names of this seed.
+    Seed,
     /// A disk can't have as many blocks.
     Blocks,
     /// A disk can't have a pool of this size.
@@ -60,6 +63,7 @@ impl<'a> Stop<'a> {
             Stop::Usage => ("usage", ""),
             Stop::Number => ("number", ""),
             Stop::Profile => ("profile", ""),
+            Stop::Seed => ("seed", ""),
             Stop::Blocks => ("blocks", ""),
             Stop::Pool => ("pool", ""),
             Stop::CannotOpen(file) => ("cannot open ", file),
@@ -73,7 +77,8 @@ impl<'a> Stop<'a> {
         ensures { result ≡ (row_of self.entry).status }
     {
         match self {
-            Stop::Usage | Stop::Number | Stop::Profile | Stop::Blocks | Stop::Pool => 1,
+            Stop::Usage | Stop::Number => 1,
+            Stop::Profile | Stop::Seed | Stop::Blocks | Stop::Pool => 1,
             Stop::CannotOpen(_) | Stop::Read | Stop::Write => 15,
             Stop::OutOfMemory => 99,
         }
@@ -100,6 +105,16 @@ impl From<ToolFault> for Stop<'_> {
             ToolFault::OutOfMemory => Stop::OutOfMemory,
             ToolFault::Usage | ToolFault::Number | ToolFault::Exclusive => Stop::Usage,
         }
+    }
+}
+
+impl From<IdentityFault> for Stop<'_> {
+    ghost use Rattle.sgrun.specs.Stops.{stop_of_identity};
+
+    ghost from_gives = { λ fault stop. stop ≡ stop_of_identity fault };
+
+    fn from(_fault: IdentityFault) -> Self {
+        Stop::Seed
     }
 }
 

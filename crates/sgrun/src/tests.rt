@@ -48,7 +48,7 @@ const ASKED: [(&str, u64, u32, Profile, Option<&str>); 15] = [
 ];
 
 /// The words after the program's name, and the message of the stop.
-const REFUSED: [(&str, &str); 27] = [
+const REFUSED: [(&str, &str); 36] = [
     ("FILE", "usage"),
     ("-h", "usage"),
     ("--help", "usage"),
@@ -76,6 +76,35 @@ const REFUSED: [(&str, &str); 27] = [
     ("--profile Base", "profile"),
     ("--profile= --pool zz", "number"),
     ("--profile extende --blocks 0", "profile"),
+    ("--profile extended --seed", "usage"),
+    ("--seed 1", "usage"),
+    ("--seed 1 --profile base", "usage"),
+    ("--seed 1 --profile extende", "usage"),
+    ("--seed zz --blocks zz", "usage"),
+    ("--profile extended --seed zz", "number"),
+    ("--profile extended --seed 0x10000000000000000", "number"),
+    ("--profile extended --blocks 0 --seed -1", "usage"),
+    (
+        "--profile extended --blocks 0 --seed 0x1000000000000000",
+        "seed",
+    ),
+];
+
+/// The words after the program's name, and the disk's serial number and locally assigned identifier.
+const NAMED: [(&str, &[u8; 8], u64); 5] = [
+    ("", b"00000001", 1),
+    ("--profile extended", b"00000001", 1),
+    ("--profile extended --seed 0", b"00000000", 0),
+    (
+        "--seed=0x123456789ABCDEF --profile extended",
+        b"89abcdef",
+        0x0123_4567_89AB_CDEF,
+    ),
+    (
+        "--profile extended --seed 1152921504606846975",
+        b"ffffffff",
+        (1 << 60) - 1,
+    ),
 ];
 
 /// A command line: the program's name, and words with blanks between them.
@@ -99,6 +128,19 @@ fn words_ask_for_a_disk_and_a_script(rt: HostRuntime) -> Result<(), Fail> {
         assert_eq!(rt; arguments.disk.pool(), pool);
         assert_eq!(rt; arguments.disk.identity().profile(), profile);
         assert_eq!(rt; arguments.script, script);
+    }
+    Ok(())
+}
+
+#[test]
+fn a_seed_names_the_disk(rt: HostRuntime) -> Result<(), Fail> {
+    for (line, serial, local) in NAMED {
+        let words = words(rt.alloc(), line)?;
+        let Ok(arguments) = Arguments::parse(rt.alloc(), words.as_slice()) else {
+            return Err(Fail::from(line));
+        };
+        let identity = arguments.disk.identity();
+        assert!(rt; identity.serial() == serial && identity.local() == local);
     }
     Ok(())
 }

@@ -20,8 +20,10 @@ returns c =
     let second = c.text_option-2.ensures in
     let third = c.text_option-3.ensures in
     let fourth = c.text_option-4.ensures in
+    let fifth = c.text_option-5.ensures in
     let one = added _ _ _ _ _ c.new.ensures.app first.global first.rule c.in_ok-arg.ensures in
     let two = added _ _ _ _ _ one second.global second.rule c.in_ok-arg-2.ensures in
     let three = added _ _ _ _ _ two third.global third.rule c.in_ok-arg-3.ensures in
-    IfOk-weaker c.arg-4.result _ _
-    (λ command adds. added _ _ _ _ _ three fourth.global fourth.rule adds) c.arg-4.ensures
+    let four = added _ _ _ _ _ three fourth.global fourth.rule c.in_ok-arg-4.ensures in
+    IfOk-weaker c.arg-5.result _ _
+    (λ command adds. added _ _ _ _ _ four fifth.global fifth.rule adds) c.arg-5.ensures
