@@ -13,6 +13,7 @@ uint32_t mehdalung_make_with_profile(mdl_disk *disk, uint32_t profile, uint64_t 
                                      uint32_t pool);
 uint32_t mehdalung_make_as_with_profile(mdl_disk *disk, uint32_t profile, uint64_t blocks,
                                         uint32_t pool, const mdl_identity *identity);
+uint32_t mehdalung_identity_of_seed(uint64_t seed, mdl_identity *identity);
 void mehdalung_free(mdl_disk *disk);
 uint32_t mehdalung_execute(mdl_disk *disk, uint32_t initiator, const uint8_t *cdb,
                            size_t cdb_length, const uint8_t *data_out, size_t data_out_length,
@@ -119,6 +120,11 @@ mdl_error mdl_make_with_profile(mdl_disk *disk, uint32_t profile, uint64_t block
     if (!identity)
         return (mdl_error)mehdalung_make_with_profile(disk, profile, blocks, pool);
     return (mdl_error)mehdalung_make_as_with_profile(disk, profile, blocks, pool, identity);
+}
+
+mdl_error mdl_identity_of_seed(uint64_t seed, mdl_identity *identity)
+{
+    return identity ? (mdl_error)mehdalung_identity_of_seed(seed, identity) : MDL_NULL_POINTER;
 }
 
 void mdl_free(mdl_disk *disk)

@@ -63,7 +63,7 @@ typedef enum mdl_error {
     MDL_BLOCKS = 3,             /* the number of blocks is not 1 to 2^40 */
     MDL_POOL = 4,               /* the size of the pool is not 1 to 65,536 blocks */
     MDL_IDENTITY_TEXT = 5,      /* a text of the identity has a byte outside 20h to 7Eh */
-    MDL_IDENTITY_LOCAL = 6,     /* the local identifier has more than 60 bits */
+    MDL_IDENTITY_LOCAL = 6,     /* the local identifier, or the seed, has more than 60 bits */
     MDL_OUT_OF_MEMORY = 7,      /* memory ran out */
     MDL_NO_INITIATOR = 8,       /* the initiator is not 0 to 7, or a fault names no initiator */
     MDL_BUFFER_TOO_SHORT = 9,   /* the buffer is too short for the data-in that the command asks
@@ -158,6 +158,16 @@ mdl_error mdl_make(mdl_disk *disk, uint64_t blocks, uint32_t pool, const mdl_ide
  * returned, and `disk` stays as it was. */
 mdl_error mdl_make_with_profile(mdl_disk *disk, uint32_t profile, uint64_t blocks, uint32_t pool,
                                 const mdl_identity *identity);
+
+/* Makes the identity of a seed, a number of at most 60 bits. Two seeds make two identities, whose
+ * designators in page 83h differ. The seed is the locally assigned identifier. Its lowest 32 bits, as
+ * 8 hexadecimal digits, are the serial number. The other texts are those of the standard identity,
+ * and seed 1 makes the standard identity. If an initiator sees two disks, give each a seed of its own,
+ * such as 60 random bits.
+ *     identity  The call writes it.
+ * Errors: MDL_NULL_POINTER, or MDL_IDENTITY_LOCAL if the seed has more than 60 bits. Then `identity`
+ * stays as it was. */
+mdl_error mdl_identity_of_seed(uint64_t seed, mdl_identity *identity);
 
 /* Frees a disk. Afterwards it is MDL_NONE. For null and MDL_NONE the call does nothing. */
 void mdl_free(mdl_disk *disk);

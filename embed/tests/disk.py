@@ -1,8 +1,8 @@
 #!/usr/bin/env python3
 """Tries the parts of examples/python/mehdalung.py that the first minute does not use."""
 from mehdalung import (BUSY, CHECK_CONDITION, GOOD, NO_REPLY, Disk, Error, FaultOutcome,
-                       HappeningRecord, Kind, Profile, Refused, decode, identity, read_happening,
-                       version)
+                       HappeningRecord, Kind, Profile, Refused, decode, identity,
+                       identity_of_seed, read_happening, version)
 
 TEST_UNIT_READY = bytes(6)
 INQUIRY = bytes.fromhex("120000002400")
@@ -149,7 +149,10 @@ for blocks, pool, why in ((0, 4, Error.BLOCKS), (64, 65_537, Error.POOL), (-1, 4
                           ((1 << 64) + 64, 4, ValueError), (64, (1 << 32) + 4, ValueError)):
     assert refusal(Disk, blocks, pool) == why
 assert refusal(Disk, 64, 4, identity("\x7f")) == Error.IDENTITY_TEXT
-with Disk(64, 4, profile=Profile.EXTENDED) as disk:
+assert bytes(identity_of_seed(0xF00D)) == bytes(identity(serial="0000f00d", local=0xF00D))
+assert refusal(identity_of_seed, 1 << 60) == Error.IDENTITY_LOCAL
+assert refusal(identity_of_seed, 1 << 64) is ValueError
+with Disk(64, 4, identity_of_seed(1), Profile.EXTENDED) as disk:
     assert disk.execute(0, INQUIRY).status == GOOD
 assert refusal(Disk, 64, 4, None, 2) == Error.UNKNOWN_PROFILE
 assert refusal(Disk, 64, 4, None, 1 << 32) is ValueError

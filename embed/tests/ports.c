@@ -90,6 +90,38 @@ static void show_identities(void)
     }
 }
 
+/* A seed makes the names of a disk: the bytes of page 83h from the serial number on. */
+static void show_names_of_seeds(void)
+{
+    static const struct { uint64_t seed; char serial[9]; uint8_t naa[8]; } names[] = {
+        { 0, "00000000", { 0x30 } },
+        { 1, "00000001", { 0x30, 0, 0, 0, 0, 0, 0, 1 } },
+        { 0x80000000, "80000000", { 0x30, 0, 0, 0, 0x80 } },
+        { UINT64_C(0x1DEADBEEF), "deadbeef", { 0x30, 0, 0, 1, 0xDE, 0xAD, 0xBE, 0xEF } },
+        { (UINT64_C(1) << 60) - 1, "ffffffff", { 0x3F, 255, 255, 255, 255, 255, 255, 255 } },
+    };
+    static const mdl_identity standard = MDL_STANDARD_IDENTITY;
+    static const uint8_t page_83[6] = { 0x12, 1, 0x83, 0, 255 };
+    mdl_identity own = standard;
+    size_t at;
+
+    WANT(mdl_identity_of_seed(2, NULL) == MDL_NULL_POINTER);
+    WANT(mdl_identity_of_seed(UINT64_C(1) << 60, &own) == MDL_IDENTITY_LOCAL);
+    WANT(mdl_identity_of_seed(UINT64_MAX, &own) == MDL_IDENTITY_LOCAL);
+    WANT(!memcmp(&own, &standard, sizeof own));
+    own.vendor[0] = own.product[0] = own.revision[0] = 0;
+    WANT(mdl_identity_of_seed(1, &own) == MDL_OK && !memcmp(&own, &standard, sizeof own));
+    for (at = 0; at < sizeof names / sizeof names[0]; at++) {
+        WANT(mdl_identity_of_seed(names[at].seed, &own) == MDL_OK);
+        WANT(mdl_make_with_profile(&disk, MDL_PROFILE_EXTENDED, 64, 4, &own) == MDL_OK);
+        WANT(status_of(0, page_83, 6, NULL, 0) == MDL_GOOD);
+        WANT(!memcmp(data_in + 8, "SGMODEL THIN DISK       ", 24));
+        WANT(!memcmp(data_in + 32, names[at].serial, 8));
+        WANT(!memcmp(data_in + 44, names[at].naa, 8));
+        mdl_free(&disk);
+    }
+}
+
 static void refuse_ports(void)
 {
     uint32_t mask = 5;
@@ -146,6 +178,7 @@ int main(void)
 {
     refuse_profiles();
     show_identities();
+    show_names_of_seeds();
     WANT(mdl_make(&disk, 64, 4, NULL) == MDL_OK);
     refuse_ports();
     ask();

@@ -5,7 +5,7 @@
 #![tactic(auto)]
 
 ghost use Rattle.std.specs.Prelude.{◌≡◌, ◌≢◌, None, Some, IfOk, MatchOption, Ok, IfErr, length};
-ghost use Rattle.sg_pages.specs.NewIdentity.{standard_identity};
+ghost use Rattle.sg_pages.specs.NewIdentity.{identity_of_seed, standard_identity};
 ghost use Rattle.sg_tools.specs.ExitStatus.{exit_status};
 ghost use Rattle.sg_wire.specs.SenseReading.{read_sense};
 ghost use Rattle.sg_embed.specs.Executed.{HasUndergone, IsAnswered, IsForgotten, disk_config};
@@ -13,8 +13,8 @@ ghost use Rattle.sg_embed.specs.Executed.{new_disk, registrants};
 ghost use Rattle.sg_embed.specs.Happening.{asked_happening};
 ghost use Rattle.sg_embed.specs.Outcome.{IsCodeUnlessOutOfMemory, execute_outcome, happen_outcome};
 ghost use Rattle.sg_embed.specs.Outcome.{forget_outcome, make_as_outcome, make_outcome};
-ghost use Rattle.sg_embed.specs.Outcome.{make_with_outcome, outcome_code, outcome_of};
-ghost use Rattle.sg_embed.specs.Outcome.{plan_outcome};
+ghost use Rattle.sg_embed.specs.Outcome.{make_with_outcome, names_outcome, outcome_code};
+ghost use Rattle.sg_embed.specs.Outcome.{outcome_of, plan_outcome};
 ghost use Rattle.sg_embed.specs.Planned.{IsPlanned};
 ghost use Rattle.sg_embed.specs.Profiles.{identity_with_profile};
 ghost use Rattle.sg_embed.specs.Records.{asked_identity, sense_record};
@@ -60,6 +60,22 @@ pub extern "C" fn mehdalung_make_as(
     match identity.read() {
         Ok(names) => disk.make(alloc, blocks, pool, names).code(),
         Err(fault) => Outcome::of_identity(fault).code(),
+    }
+}
+
+/// Makes the identity of a seed. The record stays as it was if the seed is refused.
+#[unsafe(no_mangle)]
+pub extern "C" fn mehdalung_identity_of_seed(seed: u64, identity: &mut IdentityRecord) -> u32
+    ensures outcome { result ≡ outcome_code (names_outcome (identity_of_seed seed)) }
+    ensures made { result ≡ 0 → asked_identity identity.new ≡ identity_of_seed seed }
+    ensures silent { result ≢ 0 → identity.new ≡ identity.old }
+{
+    match IdentityRecord::from_seed(seed) {
+        Ok(made) => {
+            *identity = made;
+            Outcome::Done.code()
+        }
+        Err(refusal) => refusal.code(),
     }
 }
 

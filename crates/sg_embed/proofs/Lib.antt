@@ -1,4 +1,5 @@
 pub mod CommandLemmas
 pub mod MaskLemmas
+pub mod RecordLemmas
 pub mod SlotSteps
 mod InMemoryLemmas

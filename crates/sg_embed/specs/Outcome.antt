@@ -87,6 +87,11 @@ abbrev pub identity_outcome : IdentityFault → Outcome
 identity_outcome Text = IdentityText
 identity_outcome Local = IdentityLocal
 
+-- The outcome of making an identity, or the reason why it is refused.
+abbrev pub names_outcome : Result IdentityFields IdentityFault → Outcome
+names_outcome (Ok names) = Done
+names_outcome (Err fault) = identity_outcome fault
+
 abbrev pub config_outcome : ConfigFault → Outcome
 config_outcome Blocks = BlockCount
 config_outcome Pool = PoolSize

@@ -31,6 +31,16 @@ pub record Shows (shown : ReplyRecord) (reply : Reply) : Type 0 where
 abbrev pub asked_identity : IdentityRecord → Result IdentityFields IdentityFault
 asked_identity i = checked_identity (identity_fields i.vendor i.product i.revision i.serial i.local)
 
+-- The record of the names of an identity. It has no place for the profile.
+abbrev pub identity_record : IdentityFields → IdentityRecord
+identity_record i = record {
+  vendor = i.vendor;
+  product = i.product;
+  revision = i.revision;
+  serial = i.serial;
+  local = i.local;
+}
+
 abbrev is_present : {T : Type 0} → Option T → Bool
 is_present (Some value) = true
 is_present None = false

@@ -1,9 +1,12 @@
 // The records of C. `laws` says how each lies in memory.
-ghost use Rattle.std.specs.Prelude.{◌≡◌, option_map};
-ghost use Rattle.sg_embed.specs.Records.{Shows, asked_identity, sense_record};
+ghost use Rattle.std.specs.Prelude.{◌≡◌, ◌≢◌, IfErr, IfOk, option_map};
+ghost use Rattle.sg_embed.specs.Outcome.{names_outcome, outcome_of};
+ghost use Rattle.sg_embed.specs.Records.{Shows, asked_identity, identity_record, sense_record};
+ghost use Rattle.sg_pages.specs.NewIdentity.{identity_of_seed};
 ghost use Rattle.sg_wire.specs.Sense.{fields_of};
 ghost use Rattle.sg_wire.specs.SenseReading.{read_sense};
 
+use crate::outcome::Outcome;
 use sg_pages::{Identity, IdentityFault};
 use sg_target::{Reply, SENSE_LENGTH};
 use sg_wire::Sense;
@@ -89,6 +92,34 @@ impl IdentityRecord {
             self.serial,
             self.local,
         )
+    }
+
+    /// The record of the identity of a seed.
+    ///
+    /// # Errors
+    /// [`Outcome::IdentityLocal`] if the seed has more than 60 bits.
+    #[tactic(auto, using(crate::proofs::RecordLemmas::reads_back))]
+    pub fn from_seed(seed: u64) -> Result<IdentityRecord, Outcome>
+        ensures outcome { outcome_of result ≡ names_outcome (identity_of_seed seed) }
+        ensures asked { IfOk result (λ made. asked_identity made ≡ identity_of_seed seed) }
+        ensures refused { IfErr result (λ outcome. outcome ≢ Outcome.Done) }
+    {
+        match Identity::from_seed(seed) {
+            Ok(identity) => Ok(IdentityRecord::of(&identity)),
+            Err(fault) => Err(Outcome::of_identity(fault)),
+        }
+    }
+
+    fn of(identity: &Identity) -> IdentityRecord
+        ensures { result ≡ identity_record identity.now }
+    {
+        IdentityRecord {
+            vendor: *identity.vendor(),
+            product: *identity.product(),
+            revision: *identity.revision(),
+            serial: *identity.serial(),
+            local: identity.local(),
+        }
     }
 }
 

@@ -174,6 +174,7 @@ def load():
     library.mdl_make.argtypes = [slot, c_uint64, c_uint32, ctypes.POINTER(IdentityRecord)]
     library.mdl_make_with_profile.argtypes = [slot, c_uint32, c_uint64, c_uint32,
                                               ctypes.POINTER(IdentityRecord)]
+    library.mdl_identity_of_seed.argtypes = [c_uint64, ctypes.POINTER(IdentityRecord)]
     library.mdl_free.argtypes = [slot]
     library.mdl_free.restype = None
     library.mdl_execute.argtypes = [slot, c_uint32, bytes_of, c_size_t, bytes_of, c_size_t,
@@ -260,6 +261,13 @@ def identity(vendor="SGMODEL", product="THIN DISK", revision="0100", serial="000
         if len(text) > len(field):
             raise ValueError(f"{name} has more than {len(field)} characters: {text}")
         field[:] = text.encode("ascii").ljust(len(field))
+    return record
+
+
+def identity_of_seed(seed):
+    """Returns the identity of a seed of at most 60 bits. Two seeds make two identities."""
+    record = IdentityRecord()
+    check(LIBRARY.mdl_identity_of_seed(within("seed", seed, 64), record))
     return record
 
 

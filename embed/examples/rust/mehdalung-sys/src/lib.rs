@@ -206,6 +206,7 @@ extern "C" {
         pool: u32,
         identity: *const mdl_identity,
     ) -> c_uint;
+    pub fn mdl_identity_of_seed(seed: u64, identity: *mut mdl_identity) -> c_uint;
     pub fn mdl_free(disk: *mut mdl_disk);
     pub fn mdl_execute(
         disk: *mut mdl_disk,

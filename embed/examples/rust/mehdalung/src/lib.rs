@@ -43,6 +43,15 @@ pub fn version() -> Option<String> {
     text_of(|text| unsafe { sys::mdl_version(text.as_mut_ptr().cast(), text.len()) })
 }
 
+/// Makes the identity of a seed of at most 60 bits. Two seeds make two identities.
+pub fn identity_of_seed(seed: u64) -> Result<Identity, Error> {
+    let mut identity =
+        Identity { vendor: [0; 8], product: [0; 16], revision: [0; 4], serial: [0; 8], local: 0 };
+    // SAFETY: the pointer is to a whole record.
+    check(unsafe { sys::mdl_identity_of_seed(seed, &mut identity) })?;
+    Ok(identity)
+}
+
 /// The reply to a command. It borrows the disk's data-in until the next command. `kind` says how
 /// data-in is printed: `kind::HEX`, unless a tool sent the command.
 pub struct Reply<'a> {

@@ -1,6 +1,6 @@
 //! Tries the parts of the crate that the first minute does not use.
-use mehdalung::{decode, fault_outcome, kind, profile, version, Disk, Error, Fault, Identity};
-use mehdalung::{Reply, ALL_INITIATORS, BUSY, CHECK_CONDITION, GOOD};
+use mehdalung::{decode, fault_outcome, identity_of_seed, kind, profile, version};
+use mehdalung::{Disk, Error, Fault, Identity, Reply, ALL_INITIATORS, BUSY, CHECK_CONDITION, GOOD};
 
 const TEST_UNIT_READY: [u8; 6] = [0; 6];
 const INQUIRY: [u8; 6] = [0x12, 0, 0, 0, 36, 0];
@@ -34,6 +34,19 @@ fn replies_have_texts_and_fields() -> Result<(), Error> {
     assert_eq!(disk.registered()?, 0);
     disk.forget(2)?;
     assert_eq!(disk.execute(2, &TEST_UNIT_READY, &[])?.status(), GOOD);
+    Ok(())
+}
+
+#[test]
+fn two_seeds_make_two_identities() -> Result<(), Error> {
+    for (seed, serial) in [(1, b"00000001"), (0xF00D, b"0000f00d"), (1 << 32, b"00000000")] {
+        let identity = identity_of_seed(seed)?;
+        assert_eq!((&identity.vendor, &identity.product), (b"SGMODEL ", b"THIN DISK       "));
+        assert_eq!((&identity.revision, &identity.serial), (b"0100", serial));
+        assert_eq!(identity.local, seed);
+        Disk::with_profile(profile::EXTENDED, 64, 4, Some(&identity))?;
+    }
+    assert_eq!(identity_of_seed(1 << 60).err(), Some(Error::IdentityLocal));
     Ok(())
 }
 
