@@ -10,6 +10,7 @@
 #include <stdio.h>
 #include <stdlib.h>
 #include <string.h>
+#include <sys/random.h>
 
 #include "unit.h"
 #include "driver.h"
@@ -218,58 +219,84 @@ static int execute(int tid, struct scsi_cmd *cmd)
     return deliver(cmd, &reply);
 }
 
-/* Reads a number after a name, and moves `text` past it. */
-static int read_size(const char **text, const char *name, uint64_t *size)
+/* Moves `text` past a word, if the text begins with it. */
+static int read_word(const char **text, const char *word)
 {
-    size_t length = strlen(name);
+    size_t length = strlen(word);
+
+    if (strncmp(*text, word, length) != 0)
+        return 0;
+    *text += length;
+    return 1;
+}
+
+/* Reads a number after a name, and moves `text` past it. It is decimal, or 0x and hexadecimal. */
+static int read_number(const char **text, const char *name, uint64_t *number)
+{
     char *end;
 
-    if (strncmp(*text, name, length) != 0 || (*text)[length] < '0' || (*text)[length] > '9')
+    if (!read_word(text, name) || **text < '0' || **text > '9')
         return 0;
     errno = 0;
-    *size = strtoull(*text + length, &end, 10);
+    *number = strtoull(*text, &end, strncmp(*text, "0x", 2) == 0 ? 16 : 10);
     *text = end;
     return errno == 0;
 }
 
-/* Reads the rest of a text: nothing, for the base profile, or a profile's name. */
-static int read_profile(const char *text, uint32_t *profile)
+/* What the path of a logical unit asks for. */
+struct asked {
+    uint64_t blocks, pool, seed;
+    uint32_t profile;
+    int has_seed;
+};
+
+/* Reads blocks=N:pool=N, and after it a profile and a seed, if it has them. */
+static int read_path(const char *text, struct asked *asked)
 {
-    *profile = strcmp(text, ":profile=extended") == 0 ? MDL_PROFILE_EXTENDED : MDL_PROFILE_BASE;
-    return *profile == MDL_PROFILE_EXTENDED || *text == '\0' || strcmp(text, ":profile=base") == 0;
+    if (!read_number(&text, "blocks=", &asked->blocks) || !read_number(&text, ":pool=", &asked->pool))
+        return 0;
+    asked->profile = read_word(&text, ":profile=extended") ? MDL_PROFILE_EXTENDED : MDL_PROFILE_BASE;
+    if (asked->profile == MDL_PROFILE_BASE)
+        read_word(&text, ":profile=base");
+    asked->has_seed = *text != '\0';
+    return !asked->has_seed || (read_number(&text, ":seed=", &asked->seed) && *text == '\0');
 }
 
-/* The vendor, product and revision are those texts of the standard identity. Each logical unit has
- * its own number; LUN 1 of target 1 has 1, the standard number. */
-static void identify(const struct scsi_lu *lu, mdl_identity *identity)
+/* The seed of a logical unit that asks for none. That of an extended disk is random. A base disk has a
+ * number of its own in this tgtd: LUN 1 of target 1 has 1, which makes the standard identity. */
+static int choose_seed(const struct scsi_lu *lu, struct asked *asked)
 {
-    static const mdl_identity standard = MDL_STANDARD_IDENTITY;
-    char serial[sizeof identity->serial + 1];
-    uint32_t number = (uint32_t)(lu->tgt->tid - 1) << 16 | (uint32_t)(lu->lun & 0xFFFF);
-
-    *identity = standard;
-    snprintf(serial, sizeof serial, "%08" PRIx32, number);
-    memcpy(identity->serial, serial, sizeof identity->serial);
-    identity->local = number;
+    if (asked->has_seed)
+        return 1;
+    if (asked->profile == MDL_PROFILE_BASE) {
+        asked->seed = (uint32_t)(lu->tgt->tid - 1) << 16 | (uint32_t)(lu->lun & 0xFFFF);
+        return 1;
+    }
+    if (getrandom(&asked->seed, sizeof asked->seed, 0) != sizeof asked->seed)
+        return 0;
+    asked->seed >>= 4; /* 60 bits */
+    return 1;
 }
 
 static int open_disk(struct scsi_lu *lu, char *path, int *fd, uint64_t *size)
 {
     struct unit *unit = unit_of(lu);
-    const char *text = path;
+    struct asked asked;
     mdl_identity identity;
-    uint64_t blocks, pool;
-    uint32_t profile;
     mdl_error error;
 
-    if (!read_size(&text, "blocks=", &blocks) || !read_size(&text, ":pool=", &pool) ||
-        !read_profile(text, &profile)) {
-        eprintf("%s is not blocks=N:pool=N, nor blocks=N:pool=N:profile=extended\n", path);
+    if (!read_path(path, &asked)) {
+        eprintf("%s is not blocks=N:pool=N[:profile=extended][:seed=N]\n", path);
         return -EINVAL;
     }
-    identify(lu, &identity);
-    error = mdl_make_with_profile(&unit->disk, profile, blocks,
-                                  pool > UINT32_MAX ? 0 : (uint32_t)pool, &identity);
+    if (!choose_seed(lu, &asked)) {
+        eprintf("there are no random bytes for the seed of %s\n", path);
+        return -EINVAL;
+    }
+    error = mdl_identity_of_seed(asked.seed, &identity);
+    if (!error)
+        error = mdl_make_with_profile(&unit->disk, asked.profile, asked.blocks,
+                                      asked.pool > UINT32_MAX ? 0 : (uint32_t)asked.pool, &identity);
     if (error) {
         eprintf("no disk of %s: error %d of mehdalung.h\n", path, (int)error);
         return -EINVAL;
@@ -278,7 +305,7 @@ static int open_disk(struct scsi_lu *lu, char *path, int *fd, uint64_t *size)
     INIT_LIST_HEAD(&unit->held);
     watch(lu, &store);
     *fd = -1;
-    *size = blocks * MDL_BLOCK_LENGTH;
+    *size = asked.blocks * MDL_BLOCK_LENGTH;
     return 0;
 }
 

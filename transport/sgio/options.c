@@ -4,6 +4,11 @@
 #include <errno.h>
 #include <stdlib.h>
 #include <string.h>
+#include <sys/random.h>
+
+/* A seed has at most 60 bits. This is none. */
+#define MOST_SEED ((UINT64_C(1) << 60) - 1)
+#define NO_SEED UINT64_MAX
 
 int read_number(const char *text, uint64_t most, uint64_t *number)
 {
@@ -38,6 +43,7 @@ static const char *read_option(const char *name, const char *value, struct optio
         { "--blocks", &options->blocks, UINT64_MAX },
         { "--pool", &options->pool, UINT32_MAX },
         { "--local", &identity->local, UINT64_MAX },
+        { "--seed", &options->seed, MOST_SEED },
     };
     const struct { const char *name; uint8_t *field; size_t length; } texts[] = {
         { "--vendor", identity->vendor, sizeof identity->vendor },
@@ -66,15 +72,12 @@ static const char *read_option(const char *name, const char *value, struct optio
     return NULL;
 }
 
-const char *read_options(int count, char **words, struct options *options, const char **word)
+/* Reads each option. Returns null, or what is wrong with one. */
+static const char *read_each(int count, char **words, struct options *options, const char **word)
 {
-    static const mdl_identity standard = MDL_STANDARD_IDENTITY;
     const char *fault;
     int at;
 
-    memset(options, 0, sizeof *options);
-    options->identity = standard;
-    options->profile = MDL_PROFILE_BASE;
     for (at = 1; at < count; at += 2) {
         *word = words[at];
         if (at + 1 == count)
@@ -83,6 +86,39 @@ const char *read_options(int count, char **words, struct options *options, const
         if (fault)
             return fault;
     }
+    return NULL;
+}
+
+/* Makes the identity of the seed. Without a seed the identity of a base disk is the standard one, and
+ * that of an extended disk is made of random bits. Returns 0 if there are none. */
+static int make_identity(struct options *options)
+{
+    if (options->seed == NO_SEED) {
+        options->seed = 1;
+        if (options->profile == MDL_PROFILE_EXTENDED) {
+            if (getrandom(&options->seed, sizeof options->seed, 0) != sizeof options->seed)
+                return 0;
+            options->seed &= MOST_SEED;
+        }
+    }
+    return mdl_identity_of_seed(options->seed, &options->identity) == MDL_OK;
+}
+
+const char *read_options(int count, char **words, struct options *options, const char **word)
+{
+    const char *fault;
+
+    memset(options, 0, sizeof *options);
+    options->seed = NO_SEED;
+    options->profile = MDL_PROFILE_BASE;
+    fault = read_each(count, words, options, word);
+    if (fault)
+        return fault;
+    *word = "--seed";
+    if (!make_identity(options))
+        return "there are no random bytes to make it of";
+    /* The options are read again, because their texts and number replace those of the seed. */
+    read_each(count, words, options, word);
     *word = "--socket, --blocks or --pool";
     return options->socket && options->blocks && options->pool ? NULL : "is missing, or 0";
 }

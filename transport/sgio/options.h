@@ -8,6 +8,7 @@ struct options {
     const char *socket;
     uint64_t blocks, pool; /* the pool is below 2^32 */
     uint32_t profile;
+    uint64_t seed; /* what the options do not name of the identity is made of it */
     mdl_identity identity;
 };
 
