@@ -166,7 +166,7 @@ write-asked config (command.WriteAndVerify16 c) data_out o out e h =
 write-asked config _ data_out o out e h = cc
 
 -- a block of the first bytes of data-out is that of data-out
-first-block : (data_out : List ℕ) (count index : ℕ) → index < count
+pub first-block : (data_out : List ℕ) (count index : ℕ) → index < count
     → block_at (take (512 * count) data_out) index ≡ block_at data_out index
 first-block data_out count index below =
     let more = 512 * count - 512 * index in
@@ -177,7 +177,7 @@ first-block data_out count index below =
     ∙ take-take 512 more (drop (512 * index) data_out) enough)
 
 -- a range's address has an index below the count
-below : (lba count address : ℕ) → lies_in lba count address ≡ true → address - lba < count
+pub below : (lba count address : ℕ) → lies_in lba count address ≡ true → address - lba < count
 below lba count address h = grind (arith, nat_tests)
 
 given-first : (lies : Bool) (out : Extent) (data_out : List ℕ) (address : ℕ) (old : List ℕ)

@@ -15,6 +15,7 @@ mod InTurnLemmas
 mod EachExtentLemmas
 pub mod OrWriteLemmas
 pub mod CommandLemmas
+mod OrWriteLawLemmas
 mod EmptyingLemmas
 mod JoiningLemmas
 pub mod NeedLemmas

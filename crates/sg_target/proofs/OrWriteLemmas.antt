@@ -33,7 +33,7 @@ pub length-or : (old bytes : List ℕ) → length (or_bytes old bytes) ≡ min (
 length-or old bytes =
     length-map (zip old bytes) (λ (pair : ℕ × ℕ). bit_or pair.0 pair.1) ∙ length-zip old bytes
 
-get_or-or : (old bytes : List ℕ) (k : ℕ) → k < length old → k < length bytes
+pub get_or-or : (old bytes : List ℕ) (k : ℕ) → k < length old → k < length bytes
     → get_or (or_bytes old bytes) k 0 ≡ bit_or (get_or old k 0) (get_or bytes k 0)
 get_or-or [] bytes k h l = absurd (omega arith)
 get_or-or (x ∷ xs) [] k h l = absurd (omega arith)

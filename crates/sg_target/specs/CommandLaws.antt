@@ -1,7 +1,8 @@
 -- Laws of the commands on blocks: what `step` returns and leaves if one of them ends with GOOD.
 use Rattle.std.specs.FinMap.{len}
-use Rattle.std.specs.Prelude.{◌≡◌, ◌≢◌, ℕ, ◌-◌, List, Bool, true, false, if◌then◌else◌}
-use Rattle.std.specs.Prelude.{Option, Some, None, Result, Ok}
+use Rattle.std.specs.Int.{bit_at}
+use Rattle.std.specs.Prelude.{◌≡◌, ◌≢◌, ℕ, ◌-◌, ◌==◌, ◌||◌, Bool, true, false, if◌then◌else◌}
+use Rattle.std.specs.Prelude.{List, length, slice_index_or, Option, Some, None, Result, Ok}
 use Rattle.sg_wire.specs.FirstBytes.{first_bytes}
 use Rattle.sg_wire.specs.CdbDecoding.{command_of}
 use Rattle.sg_wire.specs.UnmapList.{unmap_list}
@@ -12,7 +13,7 @@ use Rattle.sg_wire.specs.declared.command.provisioning.Unmap.{Unmap}
 use Rattle.sg_wire.specs.declared.command.verify.ByteCheck.{ByteCheck}
 use Rattle.sg_wire.specs.declared.command.verify.ByteCheck.TheVariants.{Nothing, DataOut}
 use Rattle.sg_wire.specs.declared.extent.Extent.{Extent}
-use Rattle.sg_store.specs.Disk.{block, block_at, blocks, lies_in, zero_block}
+use Rattle.sg_store.specs.Disk.{block, block_at, block_length, blocks, lies_in, zero_block}
 use Rattle.sg_store.specs.LbaStatus.{status_at}
 use Rattle.sg_wire.specs.declared.lba_status.ProvisioningStatus.{ProvisioningStatus}
 use Rattle.sg_wire.specs.declared.lba_status.ProvisioningStatus.TheVariants.{Mapped, Deallocated}
@@ -108,6 +109,38 @@ WritesOverUsedAddressesHaveSpace =
     → IsWithinLimits state → blocks_to_write (command_of cdb) ≡ Some out → AreUsed state out
     → checked_effect state initiator cdb data_out ≡ Ok effect
     → EndsWithGood state initiator cdb data_out
+
+-- ---- ORWRITE (SBC-3, 5.5)
+
+-- The blocks of an ORWRITE.
+abbrev pub blocks_to_or : Result Command CdbFault → Option Extent
+blocks_to_or (Ok (command.OrWrite16 c)) = Some (extent c.lba c.count)
+blocks_to_or _ = None
+
+-- A bit of a byte, from bit 0 on, is 1. The bytes are a block, or the data-out.
+abbrev pub is_set : (bytes : List ℕ) → (byte bit : ℕ) → Bool
+is_set bytes byte bit = bit_at (slice_index_or bytes byte 0) bit == 1
+
+-- A bit is 1 exactly if it was 1 in the old block, or is 1 in the block of the data-out. So no bit goes
+-- from 1 to 0.
+pub record SetsBits (old given left : List ℕ) : Type 0 where
+  pub length : length left ≡ block_length
+  pub bits : (byte bit : ℕ) → is_set left byte bit ≡ (is_set old byte bit || is_set given byte bit)
+  pub none_cleared : (byte bit : ℕ) → is_set old byte bit ≡ true → is_set left byte bit ≡ true
+
+-- Each block of the command has the bits of the data-out set, too, and is mapped. Nothing more has changed.
+pub record SetsTheBitsOfItsBlocks (before after : State) (out : Extent) (data_out : List ℕ)
+    : Type 0 where
+  pub its_blocks : (address : ℕ) → lies_in out.lba out.count address ≡ true
+      → SetsBits (block before.disk.contents address) (block_at data_out (address - out.lba))
+      (block after.disk.contents address)
+  pub changes : Changes before after (lies_in out.lba out.count) Mapped (block after.disk.contents)
+
+abbrev pub OrWritesSetTheBitsOfTheirData : Type 0
+OrWritesSetTheBitsOfTheirData =
+    (state : State) (initiator : ℕ) (cdb data_out : List ℕ) (out : Extent) → IsWithinLimits state
+    → blocks_to_or (command_of cdb) ≡ Some out → EndsWithGood state initiator cdb data_out
+    → SetsTheBitsOfItsBlocks state (step state initiator cdb data_out).state out data_out
 
 -- ---- UNMAP (SBC-3, 5.28)
 

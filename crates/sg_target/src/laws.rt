@@ -1,7 +1,7 @@
 //! Laws of the definitions: each is the contract of a function that does nothing, and calls those
 //! whose laws it follows from.
 ghost use Rattle.sg_target.specs.CommandLaws.{FormatsEmptyTheDisk, ReadsReturnTheirBlocks};
-ghost use Rattle.sg_target.specs.CommandLaws.{UnmapsFollowTheirLists};
+ghost use Rattle.sg_target.specs.CommandLaws.{OrWritesSetTheBitsOfTheirData, UnmapsFollowTheirLists};
 ghost use Rattle.sg_target.specs.CommandLaws.{WriteSamesLeaveTheirBlock, WritesLeaveTheirData};
 ghost use Rattle.sg_target.specs.CommandLaws.{WritesOverUsedAddressesHaveSpace};
 ghost use Rattle.sg_target.specs.Laws.{AnchorsEachExtent, ConfigurationStays};
@@ -138,6 +138,14 @@ pub fn writes_leave_their_data()
 /// disk never refuses it for space.
 pub fn writes_over_used_addresses_have_space()
     ensures { WritesOverUsedAddressesHaveSpace }
+{
+    sg_store::laws::remapping_takes_what_is_needed();
+}
+
+/// After an ORWRITE that ends with GOOD a bit of its blocks is 1 exactly if it was 1 or is 1 in the
+/// data-out. So no bit goes from 1 to 0. The blocks are mapped, and nothing more has changed.
+pub fn or_writes_set_the_bits_of_their_data()
+    ensures { OrWritesSetTheBitsOfTheirData }
 {
     sg_store::laws::remapping_takes_what_is_needed();
 }
