@@ -31,7 +31,7 @@ use Rattle.sg_target.specs.Checks.{reservation_conflict, short_cdb, short_data_o
 use Rattle.sg_target.specs.Checks.{unsupported_value, write_protection, writes_some}
 use Rattle.sg_target.specs.Config.{ConfigFields}
 use Rattle.sg_target.specs.CommandLaws.{WritesOverUsedAddressesHaveSpace, blocks_to_write}
-use Rattle.sg_target.specs.Demands.{bad_comparison, extent, need, too_long, write}
+use Rattle.sg_target.specs.Demands.{bad_atomic, bad_comparison, extent, need, too_long, write}
 use Rattle.sg_target.specs.Effect.{Effect}
 use Rattle.sg_target.specs.Refusal.{checked_next, first_some, refusal_for, sense_of, unless_refused}
 use Rattle.sg_target.specs.Semantics.{MediumUse, effect_of, medium_use}
@@ -311,6 +311,8 @@ module _ (state : State) (i : ℕ) (data_out : List ℕ) where
       (bad_comparison c.byte_check (too_long (config_of state) c.extent.count 10))
   by-cdb None (Ok (command.Write16 c)) out h is =
       write-other (extent c.lba c.count) (too_long (config_of state) c.count 10)
+  by-cdb None (Ok (command.WriteAtomic16 c)) out h is =
+      write-other (extent c.lba c.count) (bad_atomic (config_of state) c.boundary c.count)
   by-cdb None (Err fault) out h is = fault-other fault
   by-cdb None (Ok c) out h is = let none : blocks_to_write (Ok c) ≡ Some out = is c refl in cc
 

@@ -1,13 +1,13 @@
 -- A WRITE that nothing forbids passes each check.
 use Rattle.std.proofs.Common.{◌≡◌, ◌≤◌, ℕ, List, [], ◌∷◌, Bool, true, false, Option, Some, None}
-use Rattle.std.proofs.Common.{Result, Ok, Err, refl, subst, sym, ap, ◌∙◌, length, ◌+◌, ◌&&◌, arith}
+use Rattle.std.proofs.Common.{Result, Ok, Err, refl, subst, sym, ap, ◌∙◌, length, ◌+◌, ◌&&◌, ◌==◌, arith}
 use Rattle.std.specs.Prelude.{if◌then◌else◌, nat_lt, option_and_then}
 use Rattle.std.specs.Option.{option_map}
 use Rattle.std.proofs.lemmas.Bool.Decides.{nat_tests}
-use Rattle.sg_wire.specs.Laws.{CommandsHaveTheirClass}
+use Rattle.sg_wire.specs.Laws.{CommandsHaveTheirClass, has_command}
 use Rattle.sg_wire.specs.CdbDecoding.{class_in, command_in, command_of, is_blocked_in}
 use Rattle.sg_wire.specs.Layout.{layout}
-use Rattle.sg_wire.specs.Profile.{limits_of, rules_of}
+use Rattle.sg_wire.specs.Profile.{is_in, limits_of, rules_of}
 use Rattle.sg_wire.specs.declared.command.CdbFault.{CdbFault}
 use Rattle.sg_wire.specs.declared.command.Class.{Class}
 use Rattle.sg_wire.specs.declared.command.Class.TheVariants.{Writes}
@@ -15,13 +15,15 @@ use Rattle.sg_wire.specs.declared.command.Command.{Command}
 use Rattle.sg_wire.specs.declared.command.Command.TheVariants as command
 use Rattle.sg_wire.specs.declared.command.verify.ByteCheck.{ByteCheck}
 use Rattle.sg_wire.specs.declared.extent.Extent.{Extent}
-use Rattle.sg_target.proofs.CommandLemmas.{its-blocks, its-comparison}
+use Rattle.sg_target.proofs.CommandLemmas.{its-blocks, its-comparison, its-undivided}
+use Rattle.sg_wire.specs.declared.profile.Profile.{Profile}
+use Rattle.sg_wire.specs.declared.profile.Profile.TheVariants.{Base, Extended}
 use Rattle.sg_wire.specs.declared.profile.Rules.{Rules}
 use Rattle.sg_pages.specs.ModePage.{ModeState, write_protected}
 use Rattle.sg_units.specs.Access.{allows}
 use Rattle.sg_units.specs.Attentions.{oldest}
 use Rattle.sg_target.specs.BlockCommands.{blocks_out, bytes_of, writing}
-use Rattle.sg_wire.proofs.ProfileLemmas.{read-any}
+use Rattle.sg_wire.proofs.ProfileLemmas.{is-in, read-any}
 use Rattle.sg_target.specs.Checks.{attention_refusal, bad_field, cdb_checks, checked_cdb}
 use Rattle.sg_target.specs.Checks.{checked_effect, if_it_outranks, outranking_attention}
 use Rattle.sg_target.specs.Checks.{checked_operation, checked_parse, empty_cdb, medium_checks, not_ready}
@@ -30,7 +32,7 @@ use Rattle.sg_target.specs.Checks.{reservation_conflict, short_cdb, short_data_o
 use Rattle.sg_target.specs.Checks.{unsupported_value, write_protection, writes_some}
 use Rattle.sg_target.specs.CommandLaws.{WritesOverUsedAddressesHaveSpace, blocks_to_write}
 use Rattle.sg_target.specs.CommandLaws.{verified_blocks}
-use Rattle.sg_target.specs.Demands.{bad_comparison, extent, need, too_long, write}
+use Rattle.sg_target.specs.Demands.{bad_atomic, bad_comparison, extent, need, too_long, write}
 use Rattle.sg_target.specs.Effect.{Effect}
 use Rattle.sg_target.specs.Refusal.{checked_next, first_some, unless_refused}
 use Rattle.sg_target.specs.Semantics.{MediumUse, effect_of, medium_use}
@@ -189,36 +191,61 @@ module _ (state : State) (i : ℕ) (data_out : List ℕ) (out : Extent)
       (its-comparison check named out length is
       ∙ (ap (λ (e : Extent). too_long (config_of state) e.count byte) e ∙ allowed-length byte))
 
-  by-command : (parse : Result Command CdbFault) → blocks_to_write parse ≡ Some out
+  -- a WRITE ATOMIC has the limit of a WRITE, because its profile is the extended one
+  atomic-limit : (profile : Profile) → is_in Extended profile ≡ true
+      → (limits_of profile).atomic_transfer_length ≡ (limits_of profile).transfer_length
+  atomic-limit Base has = cc
+  atomic-limit Extended has = refl
+
+  allowed-atomic : (boundary count : ℕ) → (boundary == 0) ≡ true → count ≡ out.count
+      → is_in Extended (profile_of state) ≡ true → bad_atomic (config_of state) boundary count ≡ None
+  allowed-atomic boundary count whole same has =
+      let most = (limits_of (profile_of state)).atomic_transfer_length in
+      let long = if nat_lt most count then Some 12 else None in
+      ap (λ b. if b then long else Some 10) whole
+      ∙ if-none (nat_lt most count) _ (at-most count most
+      (omega (arith, same, free.not_too_long, atomic-limit (profile_of state) has)))
+
+  -- the disk has the command
+  abbrev Has : Result Command CdbFault → Type 0
+  Has parse = (c : Command) → parse ≡ Ok c → has_command (profile_of state) c ≡ true
+
+  by-command : (parse : Result Command CdbFault) → blocks_to_write parse ≡ Some out → Has parse
       → IsItsEffect (checked_next (checked_parse state parse data_out) (effect_of state i))
-  by-command (Ok (command.Write6 c)) is =
+  by-command (Ok (command.Write6 c)) is has =
       let e : extent c.0 c.1 ≡ out = cc in at-extent (extent c.0 c.1) e None refl
-  by-command (Ok (command.Write10 c)) is =
+  by-command (Ok (command.Write10 c)) is has =
       let e : extent c.lba c.count ≡ out = cc in
       at-extent (extent c.lba c.count) e (too_long (config_of state) c.count 7)
       (ap (λ (e : Extent). too_long (config_of state) e.count 7) e ∙ allowed-length 7)
-  by-command (Ok (command.Write16 c)) is =
+  by-command (Ok (command.Write16 c)) is has =
       let e : extent c.lba c.count ≡ out = cc in
       at-extent (extent c.lba c.count) e (too_long (config_of state) c.count 10)
       (ap (λ (e : Extent). too_long (config_of state) e.count 10) e ∙ allowed-length 10)
-  by-command (Ok (command.Write12 c)) is =
+  by-command (Ok (command.Write12 c)) is has =
       let e : extent c.lba c.count ≡ out = cc in
       at-extent (extent c.lba c.count) e (too_long (config_of state) c.count 6)
       (ap (λ (e : Extent). too_long (config_of state) e.count 6) e ∙ allowed-length 6)
-  by-command (Ok (command.WriteAndVerify10 c)) is =
+  by-command (Ok (command.WriteAndVerify10 c)) is has =
       verifying c.byte_check (extent c.extent.lba c.extent.count) is 7
-  by-command (Ok (command.WriteAndVerify12 c)) is =
+  by-command (Ok (command.WriteAndVerify12 c)) is has =
       verifying c.byte_check (extent c.extent.lba c.extent.count) is 6
-  by-command (Ok (command.WriteAndVerify16 c)) is =
+  by-command (Ok (command.WriteAndVerify16 c)) is has =
       verifying c.byte_check (extent c.extent.lba c.extent.count) is 10
-  by-command _ is = cc
+  by-command (Ok (command.WriteAtomic16 c)) is has =
+      let named = extent c.lba c.count in
+      let whole = its-undivided c.boundary named out is in
+      at-extent named whole.1 (bad_atomic (config_of state) c.boundary c.count)
+      (allowed-atomic c.boundary c.count whole.0 (ap (λ (e : Extent). e.count) whole.1)
+      (has (command.WriteAtomic16 c) refl))
+  by-command _ is has = cc
 
   by-cdb : (first : Option Refusal) → first ≡ None → (parse : Result Command CdbFault)
-      → blocks_to_write parse ≡ Some out
+      → blocks_to_write parse ≡ Some out → Has parse
       → IsItsEffect
       (checked_next (unless_refused first (checked_parse state parse data_out)) (effect_of state i))
-  by-cdb None h parse is = by-command parse is
-  by-cdb (Some refusal) h parse is = cc
+  by-cdb None h parse is has = by-command parse is has
+  by-cdb (Some refusal) h parse is has = cc
 
 -- it is a command of the class that writes
 record IsWrite (parse : Result Command CdbFault) : Type 0 where
@@ -242,6 +269,8 @@ is-write (Ok (command.WriteAndVerify16 c)) out is =
     record { command = command.WriteAndVerify16 c; is = refl; class = refl }
 is-write (Ok (command.Write16 c)) out is =
     record { command = command.Write16 c; is = refl; class = refl }
+is-write (Ok (command.WriteAtomic16 c)) out is =
+    record { command = command.WriteAtomic16 c; is = refl; class = refl }
 is-write _ out is = cc
 
 effect-is : CommandsHaveTheirClass → (state : State) (i : ℕ) (cdb data_out : List ℕ) (out : Extent)
@@ -255,7 +284,7 @@ effect-is classes state i cdb data_out out is free =
     by-cdb state i data_out out free (first_some (cdb_checks state i cdb))
     (cdb-none state i cdb w.command w.is
     (classes (profile_of state) cdb w.command w.is ∙ ap Some w.class) free.attention free.reservation)
-    parse is
+    parse is (is-in (profile_of state) cdb)
 
 pub free-writes : CommandsHaveTheirClass → WritesOverUsedAddressesHaveSpace
     → WritesThatNothingForbidsEndWithGood

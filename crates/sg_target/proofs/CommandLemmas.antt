@@ -44,7 +44,8 @@ use Rattle.sg_target.specs.CommandLaws.{Changes, EndsWithGood, ReadsReturnTheirB
 use Rattle.sg_target.specs.CommandLaws.{UnmapsFollowTheirLists, WriteSameFields}
 use Rattle.sg_target.specs.CommandLaws.{WriteSamesLeaveTheirBlock, WritesLeaveTheirData}
 use Rattle.sg_target.specs.CommandLaws.{blocks_to_read, blocks_to_write, status_of_same}
-use Rattle.sg_target.specs.CommandLaws.{unmapped_status, verified_blocks, write_same_fields}
+use Rattle.sg_target.specs.CommandLaws.{undivided_blocks, unmapped_status, verified_blocks}
+use Rattle.sg_target.specs.CommandLaws.{write_same_fields}
 use Rattle.sg_target.specs.Config.{ConfigFields}
 use Rattle.sg_target.specs.Demands.{need as need_of}
 use Rattle.sg_target.specs.Demands.{bad_comparison, bad_same, demands, extent, same_length}
@@ -150,6 +151,15 @@ its-comparison DataOut named out otherwise h = refl
 its-comparison Reserved named out otherwise h = cc
 its-comparison OneBlock named out otherwise h = cc
 
+-- a WRITE ATOMIC does not divide its blocks
+pub its-undivided : (boundary : ℕ) (named out : Extent) → undivided_blocks boundary named ≡ Some out
+    → ((boundary == 0) ≡ true) × (named ≡ out)
+its-undivided boundary named out h = by (boundary == 0) h
+  where
+    by : (whole : Bool) → cond whole (Some named) None ≡ Some out → (whole ≡ true) × (named ≡ out)
+    by true h = (refl, cc)
+    by false h = cc
+
 write-asked : (config : ConfigFields) (c : Command) (data_out : List ℕ) (o : Operation) (out : Extent)
     → (demands config c data_out).operation ≡ Ok o → blocks_to_write (Ok c) ≡ Some out
     → operation.Write (blocks_out out data_out) ≡ o
@@ -163,6 +173,8 @@ write-asked config (command.WriteAndVerify12 c) data_out o out e h =
     let same : extent c.extent.lba c.extent.count ≡ out = its-blocks c.byte_check _ out h in cc
 write-asked config (command.WriteAndVerify16 c) data_out o out e h =
     let same : extent c.extent.lba c.extent.count ≡ out = its-blocks c.byte_check _ out h in cc
+write-asked config (command.WriteAtomic16 c) data_out o out e h =
+    let same : extent c.lba c.count ≡ out = (its-undivided c.boundary _ out h).1 in cc
 write-asked config _ data_out o out e h = cc
 
 -- a block of the first bytes of data-out is that of data-out

@@ -65,7 +65,7 @@ ReadsReturnTheirBlocks =
     → blocks_to_read (command_of cdb) ≡ Some read → EndsWithGood state initiator cdb data_out
     → ReturnsBlocks state (step state initiator cdb data_out) read
 
--- ---- WRITE and WRITE AND VERIFY (SBC-3, 5.33 to 5.39; WRITE(6) of SBC-2)
+-- ---- WRITE, WRITE AND VERIFY and WRITE ATOMIC (SBC-3, 5.33 to 5.39; WRITE(6) of SBC-2; SBC-4)
 
 -- The blocks of a WRITE AND VERIFY, unless it asks for a comparison that is not supported.
 abbrev pub verified_blocks : ByteCheck → Extent → Option Extent
@@ -73,7 +73,12 @@ verified_blocks Nothing extent = Some extent
 verified_blocks DataOut extent = Some extent
 verified_blocks _ extent = None
 
--- The blocks of a WRITE(6), WRITE(10), WRITE(12) or WRITE(16), and of a WRITE AND VERIFY.
+-- The blocks of a WRITE ATOMIC, unless it divides them at a boundary, which is not supported.
+abbrev pub undivided_blocks : (boundary : ℕ) → Extent → Option Extent
+undivided_blocks boundary extent = if boundary == 0 then Some extent else None
+
+-- The blocks of a WRITE(6), WRITE(10), WRITE(12) or WRITE(16), of a WRITE AND VERIFY, and of a WRITE
+-- ATOMIC.
 abbrev pub blocks_to_write : Result Command CdbFault → Option Extent
 blocks_to_write (Ok (command.Write6 short)) = Some (extent short.0 short.1)
 blocks_to_write (Ok (command.Write10 c)) = Some (extent c.lba c.count)
@@ -85,6 +90,7 @@ blocks_to_write (Ok (command.WriteAndVerify12 c)) =
     verified_blocks c.byte_check (extent c.extent.lba c.extent.count)
 blocks_to_write (Ok (command.WriteAndVerify16 c)) =
     verified_blocks c.byte_check (extent c.extent.lba c.extent.count)
+blocks_to_write (Ok (command.WriteAtomic16 c)) = undivided_blocks c.boundary (extent c.lba c.count)
 blocks_to_write _ = None
 
 -- They are mapped, and each has its bytes of the data-out.
