@@ -63,24 +63,24 @@ arrival-stays state i (arrival.CheckCondition code) = refl
 arrival-stays state i (arrival.DeferredError code) = refl
 
 module _ (state : State) (i : ℕ) (cdb data_out : List ℕ) where
-  abbrev state_by : Result Operation Refusal → State
+  abbrev pub state_by : Result Operation Refusal → State
   state_by result = (step_of_checked state i result).state
 
   -- a fault refuses a command, which changes nothing then
-  record IsDropped (result : Result Operation Refusal) : Type 0 where
-    refusal : Refusal
-    is : result ≡ Err refusal
-    left : state_by result ≡ state
+  pub record IsDropped (result : Result Operation Refusal) : Type 0 where
+    pub refusal : Refusal
+    pub is : result ≡ Err refusal
+    pub left : state_by result ≡ state
 
   -- only the first blocks of an operation that passes the checks are moved
-  record IsCutShort (result : Result Operation Refusal) : Type 0 where
-    operation : Operation
-    passed : checked_cdb state i cdb data_out ≡ Ok operation
-    blocks : ℕ
-    is : result ≡ Ok (first_blocks blocks operation)
+  pub record IsCutShort (result : Result Operation Refusal) : Type 0 where
+    pub operation : Operation
+    pub passed : checked_cdb state i cdb data_out ≡ Ok operation
+    pub blocks : ℕ
+    pub is : result ≡ Ok (first_blocks blocks operation)
 
   -- what becomes of the result of the checks
-  abbrev Tried : Result Operation Refusal → Type 0
+  abbrev pub Tried : Result Operation Refusal → Type 0
   Tried result =
       (result ≡ checked_cdb state i cdb data_out) ⊎ (IsDropped result ⊎ IsCutShort result)
 
@@ -206,7 +206,7 @@ finished-good _ mark command faults done e =
     with-data done.answer _ (append-nil done.answer.data_in)
 
 module _ (disk : Armed) (i : ℕ) (cdb data_out : List ℕ) where
-  abbrev tried_by : Attempt
+  abbrev pub tried_by : Attempt
   tried_by = attempt_of disk i cdb data_out
 
   abbrev done_by : Step
@@ -215,7 +215,7 @@ module _ (disk : Armed) (i : ℕ) (cdb data_out : List ℕ) where
   abbrev seen_by : Seen
   seen_by = seen i cdb tried_by.result
 
-  is-tried : Tried disk.state i cdb data_out tried_by.result
+  pub is-tried : Tried disk.state i cdb data_out tried_by.result
   is-tried =
       let checked = checked_cdb disk.state i cdb data_out in
       let command = seen i cdb checked in

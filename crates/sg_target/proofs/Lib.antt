@@ -16,6 +16,7 @@ mod EachExtentLemmas
 pub mod OrWriteLemmas
 pub mod CommandLemmas
 mod OrWriteLawLemmas
+mod WrittenBlocksLemmas
 mod EmptyingLemmas
 mod JoiningLemmas
 pub mod NeedLemmas
@@ -34,3 +35,4 @@ mod LimitLemmas
 mod ConfigurationLemmas
 -- Armed faults.
 pub mod FaultLawLemmas
+mod HealingLemmas

@@ -2,7 +2,8 @@
 use Rattle.std.specs.FinMap.{len}
 use Rattle.std.specs.Int.{bit_at}
 use Rattle.std.specs.Prelude.{◌≡◌, ◌≢◌, ℕ, ◌-◌, ◌==◌, ◌||◌, Bool, true, false, if◌then◌else◌}
-use Rattle.std.specs.Prelude.{List, length, slice_index_or, Option, Some, None, Result, Ok}
+use Rattle.std.specs.Prelude.{List, [], ◌∷◌, length, slice_index_or}
+use Rattle.std.specs.Prelude.{Option, Some, None, Result, Ok, Err}
 use Rattle.sg_wire.specs.FirstBytes.{first_bytes}
 use Rattle.sg_wire.specs.CdbDecoding.{command_of}
 use Rattle.sg_wire.specs.UnmapList.{unmap_list}
@@ -19,12 +20,14 @@ use Rattle.sg_wire.specs.declared.lba_status.ProvisioningStatus.{ProvisioningSta
 use Rattle.sg_wire.specs.declared.lba_status.ProvisioningStatus.TheVariants.{Mapped, Deallocated}
 use Rattle.sg_wire.specs.declared.lba_status.ProvisioningStatus.TheVariants.{Anchored}
 use Rattle.sg_target.specs.Checks.{checked_effect}
-use Rattle.sg_target.specs.Demands.{extent}
+use Rattle.sg_target.specs.Config.{ConfigFields}
+use Rattle.sg_target.specs.Demands.{extent, extents_out}
 use Rattle.sg_target.specs.Effect.{Effect, with_contents}
 use Rattle.sg_target.specs.Laws.{lies_in_any}
 use Rattle.sg_target.specs.ProvisioningCommands.{same_block, unmaps}
-use Rattle.sg_target.specs.State.{IsWithinLimits, State}
+use Rattle.sg_target.specs.State.{IsWithinLimits, State, config_of}
 use Rattle.sg_target.specs.Step.{Step, step}
+use Rattle.sg_target.specs.declared.refusal.Refusal.{Refusal}
 use Rattle.sg_target.specs.declared.reply.Status.TheVariants.{Good}
 
 -- ---- Words
@@ -223,3 +226,50 @@ FormatsEmptyTheDisk =
     (state : State) (initiator : ℕ) (cdb data_out : List ℕ) → IsWithinLimits state
     → empties_disk (command_of cdb) ≡ true → EndsWithGood state initiator cdb data_out
     → IsEmptied state (step state initiator cdb data_out).state
+
+-- ---- All commands
+
+-- The extents of a list, if it is sound.
+abbrev pub sound_extents : Result (List Extent) Refusal → List Extent
+sound_extents (Ok extents) = extents
+sound_extents (Err refusal) = []
+
+-- The blocks that each command writes if it ends with GOOD, on a disk of a configuration, with its
+-- data-out. FORMAT UNIT and the erases of SANITIZE write all blocks. WRITE LONG marks its block, and leaves
+-- the data.
+abbrev pub blocks_written : ConfigFields → Result Command CdbFault → (data_out : List ℕ) → List Extent
+blocks_written config (Ok (command.CompareAndWrite c)) data_out = extent c.lba c.count ∷ []
+blocks_written config (Ok (command.FormatUnit c)) data_out = extent 0 config.blocks ∷ []
+blocks_written config (Ok (command.OrWrite16 c)) data_out = extent c.lba c.count ∷ []
+blocks_written config (Ok (command.SanitizeBlockErase c)) data_out = extent 0 config.blocks ∷ []
+blocks_written config (Ok (command.SanitizeCryptographicErase c)) data_out =
+    extent 0 config.blocks ∷ []
+blocks_written config (Ok (command.Unmap c)) data_out =
+    sound_extents (extents_out config c.list_length data_out)
+blocks_written config (Ok (command.Write6 short)) data_out = extent short.0 short.1 ∷ []
+blocks_written config (Ok (command.Write10 c)) data_out = extent c.lba c.count ∷ []
+blocks_written config (Ok (command.Write12 c)) data_out = extent c.lba c.count ∷ []
+blocks_written config (Ok (command.Write16 c)) data_out = extent c.lba c.count ∷ []
+blocks_written config (Ok (command.WriteAndVerify10 c)) data_out =
+    extent c.extent.lba c.extent.count ∷ []
+blocks_written config (Ok (command.WriteAndVerify12 c)) data_out =
+    extent c.extent.lba c.extent.count ∷ []
+blocks_written config (Ok (command.WriteAndVerify16 c)) data_out =
+    extent c.extent.lba c.extent.count ∷ []
+blocks_written config (Ok (command.WriteAtomic16 c)) data_out = extent c.lba c.count ∷ []
+blocks_written config (Ok (command.WriteLong10 c)) data_out = extent c.lba 1 ∷ []
+blocks_written config (Ok (command.WriteSame10 c)) data_out = extent c.lba c.count ∷ []
+blocks_written config (Ok (command.WriteSame16 c)) data_out = extent c.lba c.count ∷ []
+blocks_written config _ data_out = []
+
+-- An address has the provisioning status that it had, and is read as before.
+pub record IsUntouched (before after : State) (address : ℕ) : Type 0 where
+  pub status : status_at after.disk.contents address ≡ status_at before.disk.contents address
+  pub block : block after.disk.contents address ≡ block before.disk.contents address
+
+-- Whatever its answer is, a command touches no address outside these blocks.
+abbrev pub CommandsWriteOnlyTheirBlocks : Type 0
+CommandsWriteOnlyTheirBlocks =
+    (state : State) (initiator : ℕ) (cdb data_out : List ℕ) (address : ℕ)
+    → lies_in_any (blocks_written (config_of state) (command_of cdb) data_out) address ≡ false
+    → IsUntouched state (step state initiator cdb data_out).state address

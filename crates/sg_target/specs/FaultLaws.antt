@@ -1,29 +1,37 @@
 -- Laws of armed faults.
-use Rattle.std.specs.Prelude.{◌≡◌, ◌⊎◌, ℕ, Bool, true, false, List, [], not, Some, Result, Ok}
-use Rattle.std.specs.Prelude.{Err}
-use Rattle.std.specs.List.{list_all}
-use Rattle.sg_wire.specs.CdbDecoding.{command_in}
+use Rattle.std.specs.Prelude.{◌≡◌, ◌⊎◌, ℕ, Bool, true, false, List, [], ◌∷◌, not, Some, None}
+use Rattle.std.specs.Prelude.{Result, Ok, Err, if◌then◌else◌, is_none, slice_get}
+use Rattle.std.specs.List.{list_all, list_any}
+use Rattle.sg_wire.specs.CdbDecoding.{command_in, command_of}
 use Rattle.sg_wire.specs.declared.command.CdbFault.{CdbFault}
 use Rattle.sg_wire.specs.declared.command.Command.{Command}
 use Rattle.sg_wire.specs.declared.command.Command.TheVariants as command
+use Rattle.sg_wire.specs.declared.extent.Extent.{Extent}
 use Rattle.sg_wire.specs.declared.profile.Profile.{Profile}
-use Rattle.sg_faults.specs.Faults.{asked, decided, is_armed}
+use Rattle.sg_faults.specs.Faults.{Faults, asked, decided, is_armed}
 use Rattle.sg_faults.specs.Laws.{is_spared, meets_none}
+use Rattle.sg_faults.specs.Meeting.{one_contains}
 use Rattle.sg_faults.specs.Places.{on_arrival}
+use Rattle.sg_faults.specs.declared.fault.ArmedFault.{ArmedFault}
+use Rattle.sg_faults.specs.declared.fault.Fault.{Fault}
 use Rattle.sg_faults.specs.declared.outcome.OnArrival.{OnArrival}
 use Rattle.sg_faults.specs.declared.outcome.Struck.{Struck}
-use Rattle.sg_target.specs.Armed.{Armed, ArmedStep, armed_step, first_blocks, refusal_on_arrival}
-use Rattle.sg_target.specs.Armed.{seen, step_of_checked, whole_answer}
+use Rattle.sg_target.specs.Armed.{Armed, ArmedStep, armed_step, attempt_of, first_blocks}
+use Rattle.sg_target.specs.Armed.{refusal_on_arrival, seen, step_of_checked, whole_answer}
 use Rattle.sg_target.specs.Checks.{checked_cdb}
+use Rattle.sg_target.specs.CommandLaws.{blocks_written}
+use Rattle.sg_target.specs.Demands.{extent}
 use Rattle.sg_target.specs.Runs.{after_events, answers_to, answers_to_events, armed_disk}
 use Rattle.sg_target.specs.Runs.{state_after_events}
-use Rattle.sg_target.specs.State.{State, profile_of}
+use Rattle.sg_target.specs.State.{State, config_of, profile_of}
 use Rattle.sg_target.specs.Step.{refused, step}
 use Rattle.sg_target.specs.declared.event.Event.{Event}
 use Rattle.sg_target.specs.declared.event.Event.TheVariants as event
 use Rattle.sg_target.specs.declared.happening.Happening.TheVariants.{Arm}
 use Rattle.sg_target.specs.declared.operation.Operation.{Operation}
-use Rattle.sg_target.specs.declared.operation.Operation.TheVariants.{Write, Fill}
+use Rattle.sg_target.specs.declared.operation.Operation.TheVariants.{Write, Fill, MarkBad, Unmap}
+use Rattle.sg_target.specs.declared.operation.Operation.TheVariants.{UnmapExtent, UnmapAll, Anchor}
+use Rattle.sg_target.specs.declared.operation.Operation.TheVariants.{AnchorExtent}
 use Rattle.sg_target.specs.declared.refusal.Refusal.{Refusal}
 use Rattle.sg_target.specs.declared.reply.Status.TheVariants.{Good}
 
@@ -155,3 +163,67 @@ ArrivalChangesOnlyCounts =
     decided on_arrival command disk.faults ≡ Some struck
     → (armed_step disk initiator cdb data_out).after
     ≡ record disk { faults = asked on_arrival command disk.faults }
+
+-- ---- What heals a fault
+
+-- The blocks that an operation overwrites: it writes them, and does not read them first.
+abbrev pub overwritten : Operation → List Extent
+overwritten (Write out) = out.extent ∷ []
+overwritten (Fill extent block) = extent ∷ []
+overwritten (MarkBad lba cor_dis) = extent lba 1 ∷ []
+overwritten (Unmap extents) = extents
+overwritten (UnmapExtent extent) = extent ∷ []
+overwritten (UnmapAll blocks) = extent 0 blocks ∷ []
+overwritten (Anchor extents) = extents
+overwritten (AnchorExtent extent) = extent ∷ []
+overwritten _ = []
+
+-- COMPARE AND WRITE and ORWRITE read their blocks first.
+abbrev pub reads_first : Result Command CdbFault → Bool
+reads_first (Ok (command.CompareAndWrite c)) = true
+reads_first (Ok (command.OrWrite16 c)) = true
+reads_first _ = false
+
+-- So each other command that writes blocks overwrites them, and no command overwrites other blocks.
+abbrev pub CommandsOverwriteTheirBlocks : Type 0
+CommandsOverwriteTheirBlocks =
+    (state : State) (initiator : ℕ) (cdb data_out : List ℕ) (operation : Operation)
+    → checked_cdb state initiator cdb data_out ≡ Ok operation
+    → overwritten operation
+    ≡ (if reads_first (command_of cdb) then []
+    else blocks_written (config_of state) (command_of cdb) data_out)
+
+-- A fault is armed under a number. It lies on blocks, and a write of all of them heals it. For some
+-- initiator no number of times spends it.
+pub record HealsByWrites (faults : Faults) (number : ℕ) (fault : Fault) (blocks : Extent) : Type 0 where
+  pub armed : ArmedFault
+  pub at_number : slice_get faults number ≡ Some (Some armed)
+  pub fault_is : armed.fault ≡ fault
+  pub blocks_are : fault.blocks ≡ Some (record { extent = blocks; healed_by_writes = true })
+  pub unlimited : list_any (λ count. is_none count.times) armed.counts ≡ true
+
+-- A command is executed as an operation: neither the checks nor a fault refuses it, and it does not lack
+-- space. The operation has only the first blocks if a fault says so.
+pub record IsExecutedAs (disk : Armed) (initiator : ℕ) (cdb data_out : List ℕ) (operation : Operation)
+    : Type 0 where
+  pub result : (attempt_of disk initiator cdb data_out).result ≡ Ok operation
+  pub good : (step_of_checked disk.state initiator (Ok operation)).answer.status ≡ Good
+
+-- The fault stays unless the command is executed as an operation that overwrites all of its blocks in one
+-- extent. Then it is gone.
+pub record HealsWhatItOverwrites (disk : Armed) (initiator : ℕ) (cdb data_out : List ℕ) (number : ℕ)
+    (fault : Fault) (blocks : Extent) : Type 0 where
+  pub stays : ((operation : Operation) → IsExecutedAs disk initiator cdb data_out operation
+      → one_contains (overwritten operation) blocks ≡ false)
+      → HealsByWrites (armed_step disk initiator cdb data_out).after.faults number fault blocks
+  pub goes : (operation : Operation) → IsExecutedAs disk initiator cdb data_out operation
+      → one_contains (overwritten operation) blocks ≡ true
+      → slice_get (armed_step disk initiator cdb data_out).after.faults number ≡ Some None
+
+-- A WRITE LONG may arm another fault under the number that it has freed.
+abbrev pub OnlyOverwritingHeals : Type 0
+OnlyOverwritingHeals =
+    (disk : Armed) (initiator : ℕ) (cdb data_out : List ℕ) (number : ℕ) (fault : Fault) (blocks : Extent)
+    → HealsByWrites disk.faults number fault blocks
+    → is_write_long (command_in (profile_of disk.state) cdb) ≡ false
+    → HealsWhatItOverwrites disk initiator cdb data_out number fault blocks

@@ -1,12 +1,14 @@
 //! Laws of the definitions: each is the contract of a function that does nothing, and calls those
 //! whose laws it follows from.
-ghost use Rattle.sg_target.specs.CommandLaws.{FormatsEmptyTheDisk, ReadsReturnTheirBlocks};
-ghost use Rattle.sg_target.specs.CommandLaws.{OrWritesSetTheBitsOfTheirData, UnmapsFollowTheirLists};
+ghost use Rattle.sg_target.specs.CommandLaws.{CommandsWriteOnlyTheirBlocks, FormatsEmptyTheDisk};
+ghost use Rattle.sg_target.specs.CommandLaws.{OrWritesSetTheBitsOfTheirData};
+ghost use Rattle.sg_target.specs.CommandLaws.{ReadsReturnTheirBlocks, UnmapsFollowTheirLists};
 ghost use Rattle.sg_target.specs.CommandLaws.{WriteSamesLeaveTheirBlock, WritesLeaveTheirData};
 ghost use Rattle.sg_target.specs.CommandLaws.{WritesOverUsedAddressesHaveSpace};
 ghost use Rattle.sg_target.specs.Laws.{AnchorsEachExtent, ConfigurationStays};
 ghost use Rattle.sg_target.specs.Laws.{FoundRefusalsChangeNothing, HappeningsLeaveTheRest};
-ghost use Rattle.sg_target.specs.FaultLaws.{ArrivalChangesOnlyCounts, FaultsOnlyDropOrShorten};
+ghost use Rattle.sg_target.specs.FaultLaws.{ArrivalChangesOnlyCounts, CommandsOverwriteTheirBlocks};
+ghost use Rattle.sg_target.specs.FaultLaws.{FaultsOnlyDropOrShorten, OnlyOverwritingHeals};
 ghost use Rattle.sg_target.specs.FaultLaws.{OnlyMetCommandsChange, OnlyPassedCommandsEndWithGood};
 ghost use Rattle.sg_target.specs.FaultLaws.{OthersMeetNoFault, RefusedCommandsStayRefused};
 ghost use Rattle.sg_target.specs.FaultLaws.{WithoutFaultsARunIsSound, WithoutFaultsNothingChanges};
@@ -182,3 +184,25 @@ pub fn formats_empty_the_disk()
     sg_store::laws::an_unmap_deallocates_the_addresses_of_its_range();
     sg_store::laws::an_unmap_zeroes_the_blocks_of_its_range();
 }
+
+/// Whatever its answer is, a command leaves each block that it does not write, and the provisioning
+/// status of its address. One table has the blocks that each command writes.
+pub fn commands_write_only_their_blocks()
+    ensures { CommandsWriteOnlyTheirBlocks }
+{
+    sg_store::laws::remapping_takes_what_is_needed();
+    an_unmap_deallocates_each_extent();
+    an_anchoring_anchors_each_extent();
+}
+
+/// A command overwrites the blocks that it writes: all commands but COMPARE AND WRITE and ORWRITE, which
+/// read their blocks first, do not read them. No command overwrites other blocks.
+pub fn commands_overwrite_their_blocks()
+    ensures { CommandsOverwriteTheirBlocks }
+{}
+
+/// A fault that a write heals stays unless a command overwrites all of its blocks in one extent. Then it
+/// is gone. A command that is not executed heals nothing.
+pub fn only_overwriting_heals()
+    ensures { OnlyOverwritingHeals }
+{}
