@@ -220,7 +220,8 @@ module _ (fault : Fault) (blocks : Extent) where
       → Stay n (finished_if_good status None command faults done).after.faults
   finished-stays Good command faults done n e h =
       let left = healed command faults in
-      subst (Stay n) (sym (after-faults (decided afterwards command left) done (asked afterwards command left)))
+      subst (Stay n)
+      (sym (after-faults (decided afterwards command left) done (asked afterwards command left)))
       (asked-stays afterwards command left n (healed-stays command faults n (e refl) h))
   finished-stays _ command faults done n e h = h
 

@@ -101,7 +101,8 @@ module _ (law : RemappingTakesWhatIsNeeded) (contents : Contents) (lba count : �
 
   pub replaced-at : {X : Type 0} (read : Option Mapping → X) (address : ℕ)
       → read (get (replaced contents lba count f) address)
-      ≡ cond (lies_in lba count address) (read (Some (Data (f (address - lba))))) (read (get contents address))
+      ≡ cond (lies_in lba count address) (read (Some (Data (f (address - lba)))))
+      (read (get contents address))
   replaced-at read address =
       ap read (law.found contents lba count (λ index. Data (f index)) address)
       ∙ through read (lies_in lba count address) (Some (Data (f (address - lba)))) (get contents address)

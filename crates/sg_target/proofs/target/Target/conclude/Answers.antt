@@ -53,7 +53,8 @@ returns-in-Ok-clause-charged g c =
     let step =
     taken c.unarmed_faults_do_nothing.ensures bounds i cdb c.in-Ok.operation c.args.checked
     c.args.self.now _ _ c.args.buf.now _ c.requires.unarmed
-    (none-by _ (sym c.if-arms_fault.false ∙ c.arms_fault.ensures)) c.in-Ok.is c.execute_checked-reply.ensures in
+    (none-by _ (sym c.if-arms_fault.false ∙ c.arms_fault.ensures)) c.in-Ok.is
+    c.execute_checked-reply.ensures in
     let within = price-within g.S.Store.price g.met.S.Store.price_within over in
     let few : c.execute_checked-reply.result.counts.visits ≤ visit_bound over =
     omega (arith, within, step.charge.visits) in

@@ -25,8 +25,9 @@ pub returns-clause-executed : goal.returns-clause-executed
 returns-clause-executed g c =
     executed c.limits_are_kept.ensures (cost_bounds g.S.Store.price g.S.Store.least)
     c.args.initiator c.args.cdb.now c.args.data_out.now c.asked_bytes-asked.result
-    c.check_command-checked.result c.args.self.now c.conclude_armed-reply.new.self c.conclude_armed-reply.result
-    c.args.buf.now c.conclude_armed-reply.new.buf c.check_command-checked.ensures.checked _
+    c.check_command-checked.result c.args.self.now c.conclude_armed-reply.new.self
+    c.conclude_armed-reply.result c.args.buf.now c.conclude_armed-reply.new.buf
+    c.check_command-checked.ensures.checked _
     (asked-is c.args.self.now.state c.args.cdb.now c.asked_bytes-asked.ensures
     c.read_in-command.ensures c.profile.ensures)
     c.check_command-checked.ensures.limits c.conclude_armed-reply.ensures
@@ -40,6 +41,7 @@ returns-clause-charged g c =
     omega (arith, within, c.conclude_armed-reply.ensures.charge.visits) in
     charged c.limits_are_kept.ensures (cost_bounds g.S.Store.price g.S.Store.least)
     c.args.initiator c.args.cdb.now c.args.data_out.now c.asked_bytes-asked.result
-    c.check_command-checked.result c.args.self.now c.conclude_armed-reply.new.self c.conclude_armed-reply.result
-    c.args.buf.now c.conclude_armed-reply.new.buf c.check_command-checked.ensures.checked
+    c.check_command-checked.result c.args.self.now c.conclude_armed-reply.new.self
+    c.conclude_armed-reply.result c.args.buf.now c.conclude_armed-reply.new.buf
+    c.check_command-checked.ensures.checked
     c.conclude_armed-reply.ensures.charge few
