@@ -212,6 +212,7 @@ def sanitize(device, _initiator, command, _data_out):
 
 def erase(device):
     all_blocks = [(0, device.provisioning.capacity)]
+    check_ready(device)
     check_write_protection(device, all_blocks)
     device.provisioning.unmap(all_blocks)
     return b""
