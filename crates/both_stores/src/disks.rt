@@ -95,7 +95,7 @@ impl Disks {
 pub(crate) struct Tally {
     pub(crate) equal: u64,
     pub(crate) good: u64,
-    check_condition: u64,
+    pub(crate) check_condition: u64,
     pub(crate) conflict: u64,
     pub(crate) busy: u64,
     pub(crate) full: u64,

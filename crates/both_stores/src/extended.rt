@@ -3,10 +3,13 @@ use crate::LONGEST_LIST;
 use crate::random::Random;
 use sg_store::BLOCK_LENGTH;
 use sg_wire::{
-    ByteCheck, Command, CompareAndWrite, Extent12, Extent16, LogSense, PageCode, ReadDefectData12,
-    ReportLuns, ReportSupportedTaskManagementFunctions, SendDiagnostic, ThreeBits, Verify12,
-    Verify16,
+    ByteCheck, Command, CompareAndWrite, Extent12, Extent16, FormatUnit, FourBits, LogSense,
+    PageCode, ReadDefectData12, ReportLuns, ReportSupportedTaskManagementFunctions, SendDiagnostic,
+    StartStopUnit, ThreeBits, Verify12, Verify16,
 };
+
+/// The bytes of the parameter list of FORMAT UNIT without LONGLIST (SBC-3, 5.3.2).
+const FORMAT_LIST: usize = 4;
 
 /// Makes a command of the next kind, and returns its data-out's length too. COMPARE AND WRITE also
 /// gets blocks to write.
@@ -25,7 +28,7 @@ pub(crate) fn next_extended(
         count: u32::from(count),
     };
     let bytes = BLOCK_LENGTH * usize::from(count);
-    Some(match random.byte() % 17 {
+    Some(match random.byte() % 19 {
         0 | 1 => (Command::Read12(twelve), 0),
         2 | 3 => (Command::Write12(twelve), bytes),
         4 => (write_and_verify(random, twelve), bytes),
@@ -38,6 +41,8 @@ pub(crate) fn next_extended(
         11 => (verify(random, sixteen), bytes),
         12 | 13 => compare_and_write(random, lba, count, data_out),
         14 | 15 => (Command::OrWrite16(sixteen), bytes),
+        16 => format_unit(random),
+        17 => (start_stop_unit(random)?, 0),
         _ => (task_management(random), 0),
     })
 }
@@ -77,6 +82,26 @@ fn write_and_verify(random: &mut Random, extent: Extent12) -> Command {
         _ => ByteCheck::DataOut,
     };
     Command::WriteAndVerify12(Verify12 { byte_check, extent })
+}
+
+/// FORMAT UNIT, sometimes with a parameter list that repeats one byte.
+fn format_unit(random: &mut Random) -> (Command, usize) {
+    let format_data = random.byte() < 64;
+    let command = Command::FormatUnit(FormatUnit {
+        long_list: false,
+        format_data,
+    });
+    (command, if format_data { FORMAT_LIST } else { 0 })
+}
+
+/// START STOP UNIT, which most often starts the unit.
+fn start_stop_unit(random: &mut Random) -> Option<Command> {
+    Some(Command::StartStopUnit(StartStopUnit {
+        power_condition_modifier: FourBits::new(0)?,
+        power_condition: FourBits::new(0)?,
+        loej: random.byte() < 16,
+        start: random.byte() >= 32,
+    }))
 }
 
 fn report_luns(random: &mut Random) -> Command {

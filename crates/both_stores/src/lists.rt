@@ -6,8 +6,8 @@ use sg_units::{Initiators, UnitAttention};
 use sg_wire::{Extent, Initiator};
 use std::alloc::Global;
 
-/// The number of different events: 12 commands, 7 happenings and 13 faults.
-const EVENTS: u64 = 32;
+/// The number of different events: 15 commands, 7 happenings and 13 faults.
+const EVENTS: u64 = 35;
 
 /// The number of events in a list.
 const LENGTH: u64 = 3;
@@ -22,13 +22,31 @@ pub(crate) const LISTS: u64 = EVENTS * EVENTS * EVENTS;
 /// and one event takes all faults away. Such a fault is armed after a list if the last of these
 /// seven events in it arms one:
 ///
-/// - It is the third event of the list: 32 x 32 x 6 lists.
-/// - It is the second, with one of the 25 other events after it: 32 x 6 x 25 lists.
-/// - It is the first, with two of them after it: 6 x 25 x 25 lists.
+/// - It is the third event of the list: 35 x 35 x 6 lists.
+/// - It is the second, with one of the 28 other events after it: 35 x 6 x 28 lists.
+/// - It is the first, with two of them after it: 6 x 28 x 28 lists.
 ///
-/// These are 14,694 lists. The first such fault that is not taken away decides, and each of the six
+/// These are 17,934 lists. The first such fault that is not taken away decides, and each of the six
 /// does so in as many lists as another.
-pub(crate) const EACH_REFUSAL: u64 = 2_449;
+pub(crate) const EACH_REFUSAL: u64 = 2_989;
+
+/// The number of lists that leave the unit stopped, if their faults meet no command.
+///
+/// Initiator 1 stops the unit, and it also starts it. A unit attention that is pending for
+/// initiator 1 takes the place of each of its 8 commands. 5 events establish one for it, and 3 of
+/// these 5, a power cycle and two resets, start the unit. A list leaves the unit stopped in these
+/// cases:
+///
+/// - The third event stops it. Of the first two, none establishes an attention, or the second
+///   reports the attention of the first: 30 x 30 + 5 x 8 lists.
+/// - The second event stops it after one that establishes no attention. Or the first event stops
+///   it, and the second is none of these 5, and neither stops it again nor starts it. These are 30
+///   and 28 pairs. After them comes one of the 30 events that neither stop the unit nor start it:
+///   58 x 30 lists.
+/// - The first event stops it, and the second is one of the 2 that only establish an attention. The
+///   third is no power cycle and no reset, since a command to start the unit would report that
+///   attention: 2 x 32 lists.
+pub(crate) const STOPPED: u64 = 2_744;
 
 /// A command: the number of its initiator, its CDB and its data-out.
 type Step = (u8, &'static [u8], &'static [u8]);
@@ -61,6 +79,14 @@ const COMPARE_AND_WRITE: &[u8] = &[0x89, 0, 0, 0, 0, 0, 0, 0, 0, 0, 0, 0, 0, 2, 
 /// PRE-FETCH(16) of block 1 and all blocks after it.
 const PRE_FETCH: &[u8] = &[0x90, 0, 0, 0, 0, 0, 0, 0, 0, 1, 0, 0, 0, 0, 0, 0];
 
+/// FORMAT UNIT, without a parameter list.
+const FORMAT: &[u8] = &[0x04, 0, 0, 0, 0, 0];
+
+/// START STOP UNIT, with START 0 and with START 1.
+const STOP: &[u8] = &[0x1B, 0, 0, 0, 0, 0];
+
+const START: &[u8] = &[0x1B, 0, 0, 0, 1, 0];
+
 const REPORT_LUNS: &[u8] = &[0xA0, 0, 0, 0, 0, 0, 0, 0, 0, 16, 0, 0];
 
 const DATA: &[u8] = &[0xB2; 1_024];
@@ -72,7 +98,7 @@ const ZEROS: &[u8] = &[0; 2_048];
 /// Before a list no unit attention is pending for initiators 0 and 1, and the blocks are written.
 const BEFORE: [Step; 3] = [(0, READY, &[]), (1, READY, &[]), (0, WRITE, &[0xA1; 1_024])];
 
-const COMMANDS: [Step; 12] = [
+const COMMANDS: [Step; 15] = [
     (0, READ, &[]),
     (1, READ, &[]),
     (0, WRITE, DATA),
@@ -85,19 +111,31 @@ const COMMANDS: [Step; 12] = [
     (0, REPORT_LUNS, &[]),
     (1, VERIFY, DATA),
     (0, COMPARE_AND_WRITE, ZEROS),
+    (0, FORMAT, &[]),
+    (1, STOP, &[]),
+    (1, START, &[]),
 ];
 
-/// After a list at most three unit attentions are pending for each. The last READ reports none.
-const AFTER: [Step; 8] = [
-    (1, READ, &[]),
+/// After a list at most three unit attentions are pending for each. The last READ of each reports
+/// none. The READ of initiator 1 finds the unit as the list leaves it, and then it is started.
+const AFTER: [Step; 7] = [
     (0, READ, &[]),
     (1, READ, &[]),
     (0, READ, &[]),
     (1, READ, &[]),
     (0, READ, &[]),
     (1, READ, &[]),
-    (0, READ, &[]),
+    (1, READ, &[]),
 ];
+
+const LAST: [Step; 2] = [(0, START, &[]), (0, READ, &[])];
+
+/// How the last READ of initiator 1 ends, which may find the unit stopped, and the last one of all.
+#[derive(Clone, Copy, Default)]
+pub(crate) struct Ends {
+    pub(crate) before_start: Tally,
+    pub(crate) last: Tally,
+}
 
 /// Whether the faults of a list meet its commands.
 #[derive(Clone, Copy)]
@@ -211,9 +249,9 @@ impl Disks {
         Some(())
     }
 
-    /// Runs the list with a number on new disks. Returns the status of the last READ after it, if
-    /// all replies are equal.
-    fn run_list(&mut self, alloc: Global, number: u64, faults: Faults) -> Option<Status> {
+    /// Runs the list with a number on new disks. Returns the status of the last READ of initiator 1
+    /// and the status of the last one of all, if all replies are equal.
+    fn run_list(&mut self, alloc: Global, number: u64, faults: Faults) -> Option<(Status, Status)> {
         self.renew(alloc)?;
         self.execute_each(&BEFORE)?;
         let mut events = number;
@@ -221,15 +259,20 @@ impl Disks {
             self.take(events % EVENTS, faults)?;
             events /= EVENTS;
         }
-        self.execute_each(&AFTER)
+        let before_start = self.execute_each(&AFTER)?;
+        let last = self.execute_each(&LAST)?;
+        Some((before_start, last))
     }
 }
 
 /// Runs all lists, and counts the last READs after them.
-pub(crate) fn run_lists(alloc: Global, disks: &mut Disks, faults: Faults) -> Tally {
-    let mut tally = Tally::default();
+pub(crate) fn run_lists(alloc: Global, disks: &mut Disks, faults: Faults) -> Ends {
+    let mut ends = Ends::default();
     for number in 0..LISTS {
-        tally.count(disks.run_list(alloc, number, faults));
+        if let Some((before_start, last)) = disks.run_list(alloc, number, faults) {
+            ends.before_start.count(Some(before_start));
+            ends.last.count(Some(last));
+        }
     }
-    tally
+    ends
 }

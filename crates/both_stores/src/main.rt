@@ -15,7 +15,7 @@ mod random;
 use disks::{BLOCKS, Disks, Tally};
 use extended::next_extended;
 use faults::next_fault;
-use lists::{EACH_REFUSAL, Faults, LISTS, run_lists};
+use lists::{EACH_REFUSAL, Faults, LISTS, STOPPED, run_lists};
 use random::Random;
 use sg_store::BLOCK_LENGTH;
 use sg_target::Happening;
@@ -183,7 +183,7 @@ fn are_equal_at_random(rt: &impl Print, disks: &mut Disks) -> io::Result<bool> {
 /// Runs all lists, and prints a line. Returns whether all replies are equal, and the last READs end
 /// as they have to.
 fn are_equal_in_lists(rt: &HostRuntime, disks: &mut Disks) -> io::Result<bool> {
-    let tally = run_lists(rt.alloc(), disks, Faults::MeetCommands);
+    let tally = run_lists(rt.alloc(), disks, Faults::MeetCommands).last;
     let (equal, busy, full, conflict) = (tally.equal, tally.busy, tally.full, tally.conflict);
     print!(rt; "{LISTS} lists of three events, {equal} with equal replies; the last READs: ")?;
     println!(rt; "{busy} BUSY, {full} TASK SET FULL, {conflict} RESERVATION CONFLICT")?;
@@ -191,13 +191,18 @@ fn are_equal_in_lists(rt: &HostRuntime, disks: &mut Disks) -> io::Result<bool> {
     Ok(equal == LISTS && as_counted)
 }
 
-/// The same with faults that meet no command of the lists: each last READ ends with GOOD.
+/// The same with faults that meet no command of the lists. As many lists as are counted leave the
+/// unit stopped. It is started, and then each last READ ends with GOOD.
 fn are_equal_without_faults(rt: &HostRuntime, disks: &mut Disks) -> io::Result<bool> {
-    let tally = run_lists(rt.alloc(), disks, Faults::MeetNone);
-    let (equal, good) = (tally.equal, tally.good);
+    let ends = run_lists(rt.alloc(), disks, Faults::MeetNone);
+    let (stopped, equal, good) = (
+        ends.before_start.check_condition,
+        ends.last.equal,
+        ends.last.good,
+    );
     print!(rt; "{LISTS} lists whose faults meet no command, {equal} with equal replies; ")?;
-    println!(rt; "the last READs: {good} GOOD")?;
-    Ok(equal == LISTS && good == LISTS)
+    println!(rt; "{stopped} leave the unit stopped; the last READs: {good} GOOD")?;
+    Ok(equal == LISTS && stopped == STOPPED && good == LISTS)
 }
 
 fn run_all(rt: &HostRuntime) -> io::Result<bool> {
