@@ -188,7 +188,7 @@ pub struct mdl_sense {
     pub information: u64,
 }
 
-const _: () = assert!(size_of::<mdl_identity>() == 48 && size_of::<mdl_reply>() == 56);
+const _: () = assert!(size_of::<mdl_identity>() == 48 && size_of::<mdl_reply>() == 64);
 const _: () = assert!(size_of::<mdl_command>() == 32 && size_of::<mdl_sense>() == 16);
 const _: () = assert!(size_of::<mdl_happening>() == 72 && size_of::<mdl_fault>() == 40);
 
