@@ -233,7 +233,7 @@ static void moves_parts(void)
 static void leaves_data_out(void)
 {
     static uint8_t write_3[10] = { 0x2A, 0, 0, 0, 0, 3, 0, 0, 1 };
-    static uint8_t write_nowhere[10] = { 0x2A, 0xFF, 0, 0, 0, 0, 0, 0, 1 };
+    static uint8_t write_nowhere[10] = { 0x2A, 0, 0xFF, 0, 0, 0, 0, 0, 1 };
     static uint8_t reserved_bit[10] = { 0x2A, 0x01, 0, 0, 0, 0, 0, 0, 1 };
     sg_io_hdr_t header = header_of(write_3, 10, SG_DXFER_TO_DEV, 3 * BLOCK);
 
