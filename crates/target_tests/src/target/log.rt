@@ -11,6 +11,7 @@ pub(super) struct Entry {
     pub(super) status: Status,
     pub(super) sense: Vec<u8>,
     pub(super) size: usize,
+    pub(super) asked: u64,
     pub(super) counts: Counts,
     pub(super) data_in: Vec<u8>,
 }
@@ -21,7 +22,13 @@ impl Model for Entry {
     ghost Value = { Exchange };
 
     ghost view = { λ e. record {
-      reply = record { status = e.status; sense = e.sense.items; data_in = e.size; counts = e.counts };
+      reply = record {
+        status = e.status;
+        sense = e.sense.items;
+        data_in = e.size;
+        data_out = e.asked;
+        counts = e.counts;
+      };
       data_in = e.data_in.items;
     } };
 }
@@ -37,6 +44,7 @@ impl Entry {
             status: reply.status,
             sense: reply.sense.as_slice().to_vec(alloc)?,
             size: reply.data_in,
+            asked: reply.data_out,
             counts: reply.counts,
             data_in: data_in.to_vec(alloc)?,
         })
