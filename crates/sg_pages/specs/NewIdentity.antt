@@ -1,6 +1,6 @@
 -- The identity that a disk is made with: which texts are accepted, the default ones, and those of a
 -- seed.
-use Rattle.std.specs.Prelude.{ℕ, ◌^◌, List, Bool, Result, Ok, Err, ◌&&◌, not, nat_lt}
+use Rattle.std.specs.Prelude.{ℕ, ◌^◌, List, Bool, false, Result, Ok, Err, ◌&&◌, not, nat_lt}
 use Rattle.std.specs.Prelude.{if◌then◌else◌, codes}
 use Rattle.std.specs.List.{list_all}
 use Rattle.byteorder.specs.Endian.{big_bytes}
@@ -11,7 +11,7 @@ use Rattle.sg_pages.specs.declared.identity.IdentityFault.{IdentityFault}
 use Rattle.sg_pages.specs.declared.identity.IdentityFault.TheVariants.{Text, Local}
 use Rattle.sg_pages.specs.Identity.{IdentityFields}
 
--- The names of a disk of the base profile.
+-- The names of a disk of the base profile, which refuses a command with too little data-out.
 abbrev pub identity_fields : (vendor product revision serial : List ℕ) (local : ℕ) → IdentityFields
 identity_fields vendor product revision serial local = record {
   vendor = vendor;
@@ -20,6 +20,7 @@ identity_fields vendor product revision serial local = record {
   serial = serial;
   local = local;
   profile = Base;
+  takes_short_data_out = false;
 }
 
 -- The default identity of a disk.
