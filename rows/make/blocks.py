@@ -61,6 +61,15 @@ def need_data_out(device, data_out, length):
     raise CheckCondition(ILLEGAL_REQUEST, INVALID_FIELD_IN_COMMAND_INFORMATION_UNIT)
 
 
+def taken_blocks(device, data_out, address, count):
+    """How many of the named blocks a command goes over, and their bytes. With too little data-out these
+    are the blocks that data-out has in full, if the disk takes that. All named blocks have to exist."""
+    if device.takes_short_data_out and len(data_out) < BLOCK_LENGTH * count:
+        check_range(device, [(address, count)])
+        count = len(data_out) // BLOCK_LENGTH
+    return count, need_data_out(device, data_out, BLOCK_LENGTH * count)
+
+
 def check_ready(device):
     """START STOP UNIT has stopped the unit (SBC-3, 5.25)."""
     if device.stopped:
@@ -68,9 +77,13 @@ def check_ready(device):
 
 
 def check_addresses(device, extents):
-    """A command that names blocks needs a unit that is ready, even if it names none. INFORMATION is the
-    first address past the last block (SPC-4, 4.5.2.2)."""
+    """A command that names blocks needs a unit that is ready, even if it names none."""
     check_ready(device)
+    check_range(device, extents)
+
+
+def check_range(device, extents):
+    """INFORMATION is the first address past the last block (SPC-4, 4.5.2.2)."""
     capacity = device.provisioning.capacity
     for address, count in extents:
         if address + count > capacity:
@@ -101,7 +114,10 @@ def read(device, _initiator, command, _data_out):
 def write(device, _initiator, command, data_out):
     """WRITE (SBC-2, WRITE(6); SBC-3, 5.33 to 5.35)"""
     address, count = command["address"], transfer_length(device, command)
-    data = need_data_out(device, data_out, BLOCK_LENGTH * count)
+    return write_blocks(device, address, *taken_blocks(device, data_out, address, count))
+
+
+def write_blocks(device, address, count, data):
     check_addresses(device, [(address, count)])
     check_write_protection(device, [(address, count)])
     device.provisioning.write(
@@ -109,19 +125,21 @@ def write(device, _initiator, command, data_out):
     return b""
 
 
-def write_atomic(device, initiator, command, data_out):
+def write_atomic(device, _initiator, command, data_out):
     """WRITE ATOMIC(16), of SBC-4: each WRITE is atomic, and no block is divided at a boundary"""
     if command["boundary"]:
         raise command.unsupported("boundary")
     if command["count"] > MAXIMUM_ATOMIC_TRANSFER_LENGTH[device.profile]:
         raise command.unsupported("count")
-    return write(device, initiator, command, data_out)
+    address, count = command["address"], transfer_length(device, command)
+    return write_blocks(
+        device, address, count, need_data_out(device, data_out, BLOCK_LENGTH * count))
 
 
 def orwrite(device, _initiator, command, data_out):
     """ORWRITE(16) (SBC-3, 5.5): a bit is 1 afterwards if it was 1 or is 1 in data-out"""
     address, count = command["address"], transfer_length(device, command)
-    data = need_data_out(device, data_out, BLOCK_LENGTH * count)
+    count, data = taken_blocks(device, data_out, address, count)
     check_addresses(device, [(address, count)])
     check_write_protection(device, [(address, count)])
     device.provisioning.orwrite(address, count, data)
@@ -144,8 +162,11 @@ def verify(device, _initiator, command, data_out):
     if command["bytchk"] not in (NO_COMPARISON, OWN_BLOCKS, ONE_BLOCK):
         raise command.unsupported("bytchk")
     address, count = command["address"], transfer_length(device, command)
-    sent = {NO_COMPARISON: 0, OWN_BLOCKS: count, ONE_BLOCK: min(count, 1)}[command["bytchk"]]
-    data = need_data_out(device, data_out, BLOCK_LENGTH * sent)
+    if command["bytchk"] == OWN_BLOCKS:
+        count, data = taken_blocks(device, data_out, address, count)
+    else:
+        sent = min(count, 1) if command["bytchk"] == ONE_BLOCK else 0
+        data = need_data_out(device, data_out, BLOCK_LENGTH * sent)
     check_addresses(device, [(address, count)])
     device.provisioning.compare(address, count, data)
     return b""

@@ -28,6 +28,14 @@ UNBLOCKED = {
     "extended": (INQUIRY, REQUEST_SENSE, REPORT_LUNS),
 }
 
+# What a disk of each name of `--profile` has: the commands of a profile, and whether it takes too little
+# data-out.
+PROFILES = {
+    "base": ("base", False),
+    "extended": ("extended", False),
+    "extended-cut": ("extended", True),
+}
+
 
 @dataclass
 class Reply:
@@ -40,7 +48,7 @@ class Device:
     """A logical unit that was just powered on."""
 
     def __init__(self, capacity, pool, profile="base", seed=1):
-        self.profile = profile
+        self.profile, self.takes_short_data_out = PROFILES[profile]
         self.seed = seed  # of the names, 60 bits
         self.provisioning = Provisioning(capacity, pool)
         self.stopped = False

@@ -6,6 +6,7 @@ and then a bit is turned. So most states of a small disk come up within some hun
 
 import random
 
+from device import PROFILES
 from layouts import LAYOUTS, OPERATION_CODES
 from modes import CHANGEABLE, DEFAULT
 from random_words import attention_words, fault_words, show_line, tool_line
@@ -51,7 +52,8 @@ HAPPENINGS = ("reset", "reset", "reset target", "nexus", "nexus", "grow", *4 * (
 
 class Script:
     def __init__(self, seed, profile="base"):
-        self.random, self.profile = random.Random(seed), profile
+        self.random, self.disk = random.Random(seed), profile
+        self.profile, self.takes_short_data_out = PROFILES[profile]
         self.blocks = self.random.choice((1, 8, 20, 4096, 2**33))
         self.capacity = self.blocks  # as it is at the next line, if the disk grows
         self.pool = self.random.choice((1, 4, 9))
@@ -59,7 +61,7 @@ class Script:
         self.bad = 0  # where the blocks of the last fault begin, or of the last WRITE LONG
         theme = self.random.choice(THEMES)
         self.layouts = [
-            it for it in LAYOUTS.items() if it[0][0] in OPERATION_CODES[profile]
+            it for it in LAYOUTS.items() if it[0][0] in OPERATION_CODES[self.profile]
             for _ in range(1 + OFTEN * theme.count(it[1].name))]
 
     def text(self, lines):
@@ -162,7 +164,9 @@ class Script:
             layout.fields[name].put(cdb, value)
         if self.is_rare(0.08):
             cdb[self.random.randrange(len(cdb))] ^= 1 << self.random.randrange(8)
-        if self.is_rare(0.05):
+        if self.takes_short_data_out and self.is_rare(0.2):
+            data_out = data_out[:self.random.choice((0, 1, 511, 512, 513, 1023, 1024))]
+        elif self.is_rare(0.05):
             data_out = data_out[:-1]
         elif self.is_rare(0.03):
             data_out += bytes(1)
