@@ -20,19 +20,22 @@ use Rattle.sg_store.specs.Disk.Mapping.{Data, Anchored}
 use Rattle.sg_store.specs.Laws.{DisksStayWellFormed}
 use Rattle.sg_wire.specs.declared.command.verify.ByteCheck.{ByteCheck}
 use Rattle.sg_wire.specs.declared.command.verify.ByteCheck.TheVariants as check
-use Rattle.sg_target.specs.BlockCommands.{blocks_out, bytes_of, exchange_out, ored_block}
+use Rattle.sg_target.specs.BlockCommands.{BlocksOutFields, blocks_out, bytes_of, exchange_out}
+use Rattle.sg_target.specs.BlockCommands.{ored_block, past_capacity}
+use Rattle.sg_target.proofs.MovedLemmas.{long_enough, moved-whole}
 use Rattle.sg_target.proofs.OrWriteLemmas.{length-block, length-or}
 use Rattle.sg_pages.specs.BlockDescriptor.{logical_block_length}
 use Rattle.sg_wire.specs.SupportedOperations.{requested_report}
 use Rattle.sg_pages.specs.Reports.{lists_unit, log_page_with}
 use Rattle.sg_pages.specs.declared.reports.Report.TheVariants as report
 use Rattle.sg_target.specs.Checks.{cdb_checks, checked_cdb, checked_operation}
-use Rattle.sg_target.specs.Checks.{checked_parse, not_ready, out_of_range, past_capacity}
+use Rattle.sg_target.specs.Checks.{checked_parse, not_ready, out_of_range}
 use Rattle.sg_target.specs.Checks.{requested, short_data_out, unsupported_value, write_protection}
 use Rattle.sg_target.specs.Config.{ConfigFields}
-use Rattle.sg_target.specs.Demands.{DataOutNeed, Demands, bad_atomic, bad_comparison, bad_same}
+use Rattle.sg_target.specs.DataOut.{blocks_need, moved, need}
+use Rattle.sg_target.specs.Demands.{Demands, bad_atomic, bad_comparison, bad_same}
 use Rattle.sg_target.specs.Demands.{demands, extent, list_refusal}
-use Rattle.sg_target.specs.Demands.{exchange_need, need, takes, verify, verify_only}
+use Rattle.sg_target.specs.Demands.{exchange_need, takes, takes_blocks, verify, verify_only, write}
 use Rattle.sg_target.specs.Demands.{too_long, same_length, unmap_extent, unmap_extents}
 use Rattle.sg_target.specs.Demands.{unmap_or_fill}
 use Rattle.sg_target.specs.Effect.{Effect}
@@ -70,13 +73,6 @@ unless : (refused : Option Refusal) (asked : Result Operation Refusal) → (refu
 unless None asked h = h refl
 unless (Some refusal) asked h = tt
 
--- data-out that is not refused is long enough
-pub long_enough : (unsupported : Option ℕ) (need : DataOutNeed) (data_out : List ℕ) →
-    first_some (unsupported_value unsupported ∷ short_data_out (Some need) data_out ∷ []) ≡ None
-    → need.bytes ≤ length data_out
-long_enough (Some byte) need data_out e = cc
-long_enough None need data_out e = grind (arith, nat_tests)
-
 requested-sound : (d : Demands) (data_out : List ℕ) → Sound d.operation
     → Sound (requested d data_out)
 requested-sound d data_out h =
@@ -90,26 +86,36 @@ takes-sound : (config : ConfigFields) (n : ℕ) (unsupported : Option ℕ)
 takes-sound config n unsupported asked data_out h =
     unless
     (first_some (unsupported_value unsupported ∷ short_data_out (Some (need config n)) data_out ∷ []))
-    asked (λ e. h (long_enough unsupported (need config n) data_out e))
+    asked (λ e. h (long_enough config n unsupported data_out e))
 
 whole : (n : ℕ) (data_out : List ℕ) → n ≤ length data_out → length (take n data_out) ≡ n
 whole n data_out h = omega (arith, length-take n data_out)
 
+blocks-sound : (config : ConfigFields) (extent : Extent) (unsupported : Option ℕ)
+    (asked : BlocksOutFields → Operation) (data_out : List ℕ)
+    → ((out : BlocksOutFields) → length out.bytes ≡ bytes_of out.extent → IsSound (asked out))
+    → Sound (requested (takes_blocks config extent unsupported asked data_out) data_out)
+blocks-sound config extent unsupported asked data_out h =
+    let out = moved config extent data_out in
+    unless
+    (first_some
+    (unsupported_value unsupported ∷ short_data_out (Some (blocks_need config extent)) data_out ∷ []))
+    (Ok (asked (blocks_out out data_out)))
+    (λ e. h (blocks_out out data_out)
+    (whole (bytes_of out) data_out (moved-whole config extent unsupported data_out e)))
+
 write-sound : (config : ConfigFields) (extent : Extent) (unsupported : Option ℕ) (data_out : List ℕ)
+    → Sound (requested (write config extent unsupported data_out) data_out)
+write-sound config extent unsupported data_out =
+    blocks-sound config extent unsupported operation.Write data_out (λ out h. h)
+
+atomic-sound : (config : ConfigFields) (extent : Extent) (unsupported : Option ℕ) (data_out : List ℕ)
     → Sound (requested (takes config (bytes_of extent) unsupported (Ok
     (operation.Write (blocks_out extent data_out))))
     data_out)
-write-sound config extent unsupported data_out =
+atomic-sound config extent unsupported data_out =
     takes-sound config (bytes_of extent) unsupported
     (Ok (operation.Write (blocks_out extent data_out))) data_out (whole (bytes_of extent) data_out)
-
-or-sound : (config : ConfigFields) (extent : Extent) (unsupported : Option ℕ) (data_out : List ℕ)
-    → Sound (requested (takes config (bytes_of extent) unsupported (Ok
-    (operation.OrWrite (blocks_out extent data_out))))
-    data_out)
-or-sound config extent unsupported data_out =
-    takes-sound config (bytes_of extent) unsupported
-    (Ok (operation.OrWrite (blocks_out extent data_out))) data_out (whole (bytes_of extent) data_out)
 
 fill-or-unmap : (anchor is_unmap : Bool) (extent : Extent) (block : List ℕ)
     → length block ≡ logical_block_length
@@ -205,9 +211,10 @@ command-sound config (command.CompareAndWrite c) data_out =
     let named = extent c.lba c.count in
     exchange-sound named data_out (length data_out == 2 * bytes_of named) refl
 command-sound config (command.OrWrite16 c) data_out =
-    or-sound config (extent c.lba c.count) (too_long config c.count 10) data_out
+    blocks-sound config (extent c.lba c.count) (too_long config c.count 10) operation.OrWrite data_out
+    (λ out h. h)
 command-sound config (command.WriteAtomic16 c) data_out =
-    write-sound config (extent c.lba c.count) (bad_atomic config c.boundary c.count) data_out
+    atomic-sound config (extent c.lba c.count) (bad_atomic config c.boundary c.count) data_out
 command-sound config (command.Verify10 c) data_out =
     verify-sound config c.byte_check (extent c.extent.lba c.extent.count) 7 data_out
 command-sound config (command.Verify12 c) data_out =

@@ -17,9 +17,6 @@ use Rattle.sg_wire.specs.declared.command.CdbFault.{CdbFault}
 use Rattle.sg_wire.specs.declared.command.Command.{Command}
 use Rattle.sg_wire.specs.declared.command.Command.TheVariants as command
 use Rattle.sg_wire.specs.declared.command.provisioning.Unmap.{Unmap}
-use Rattle.sg_wire.specs.declared.command.verify.ByteCheck.{ByteCheck}
-use Rattle.sg_wire.specs.declared.command.verify.ByteCheck.TheVariants.{Nothing, DataOut}
-use Rattle.sg_wire.specs.declared.command.verify.ByteCheck.TheVariants.{Reserved, OneBlock}
 use Rattle.sg_wire.specs.declared.extent.Extent.{Extent}
 use Rattle.sg_wire.specs.declared.unmap_list.UnmapListFault.{UnmapListFault}
 use Rattle.sg_store.specs.Disk.{Contents, block, block_at, lies_in, zero_block, Mapping, need}
@@ -31,6 +28,7 @@ use Rattle.std.proofs.Common.{zero, suc, ap₂, is_some}
 use Rattle.sg_target.specs.Checks.{checked_cdb}
 use Rattle.sg_target.specs.CommandLaws.{WritesOverUsedAddressesHaveSpace}
 use Rattle.sg_target.specs.Refusal.{checked_next, first_some, when_sound}
+use Rattle.sg_target.proofs.MovedLemmas.{long_enough, write-asked}
 use Rattle.sg_target.proofs.NeedLemmas.{inside}
 use Rattle.sg_target.proofs.Space.{space-left}
 use Rattle.sg_store.specs.Laws.{AnchorsEachAddress, AnchorZeroesEachBlock, FillMapsEachAddress}
@@ -44,11 +42,11 @@ use Rattle.sg_target.specs.CommandLaws.{Changes, EndsWithGood, ReadsReturnTheirB
 use Rattle.sg_target.specs.CommandLaws.{UnmapsFollowTheirLists, WriteSameFields}
 use Rattle.sg_target.specs.CommandLaws.{WriteSamesLeaveTheirBlock, WritesLeaveTheirData}
 use Rattle.sg_target.specs.CommandLaws.{blocks_to_read, blocks_to_write, status_of_same}
-use Rattle.sg_target.specs.CommandLaws.{undivided_blocks, unmapped_status, verified_blocks}
+use Rattle.sg_target.specs.CommandLaws.{unmapped_status}
 use Rattle.sg_target.specs.CommandLaws.{write_same_fields}
 use Rattle.sg_target.specs.Config.{ConfigFields}
-use Rattle.sg_target.specs.Demands.{need as need_of}
-use Rattle.sg_target.specs.Demands.{bad_comparison, bad_same, demands, extent, same_length}
+use Rattle.sg_target.specs.DataOut.{moved}
+use Rattle.sg_target.specs.Demands.{bad_same, demands, extent, same_length}
 use Rattle.sg_target.specs.Demands.{unmap_extent}
 use Rattle.sg_target.specs.Demands.{unmap_extents, unmap_or_fill}
 use Rattle.sg_target.specs.Effect.{Effect, with_contents}
@@ -62,7 +60,7 @@ use Rattle.sg_target.specs.declared.operation.Operation.{Operation}
 use Rattle.sg_target.specs.declared.operation.Operation.TheVariants as operation
 use Rattle.sg_target.specs.declared.refusal.Refusal.{Refusal}
 use Rattle.sg_target.specs.declared.reply.Status.TheVariants.{Good}
-use Rattle.sg_target.proofs.BlocksLemmas.{long_enough, same-whole}
+use Rattle.sg_target.proofs.BlocksLemmas.{same-whole}
 use Rattle.sg_target.proofs.LiftLemmas.{Asked, asked, lifted, not_good, outcome-by, request_checks}
 
 -- ---- Any command
@@ -136,47 +134,6 @@ reads-return state i cdb data_out read is good =
 
 -- ---- WRITE
 
--- the comparison of a WRITE AND VERIFY of some blocks is supported
-pub its-blocks : (check : ByteCheck) (named out : Extent) → verified_blocks check named ≡ Some out
-    → named ≡ out
-its-blocks Nothing named out h = cc
-its-blocks DataOut named out h = cc
-its-blocks Reserved named out h = cc
-its-blocks OneBlock named out h = cc
-
-pub its-comparison : (check : ByteCheck) (named out : Extent) (otherwise : Option ℕ)
-    → verified_blocks check named ≡ Some out → bad_comparison check otherwise ≡ otherwise
-its-comparison Nothing named out otherwise h = refl
-its-comparison DataOut named out otherwise h = refl
-its-comparison Reserved named out otherwise h = cc
-its-comparison OneBlock named out otherwise h = cc
-
--- a WRITE ATOMIC does not divide its blocks
-pub its-undivided : (boundary : ℕ) (named out : Extent) → undivided_blocks boundary named ≡ Some out
-    → ((boundary == 0) ≡ true) × (named ≡ out)
-its-undivided boundary named out h = by (boundary == 0) h
-  where
-    by : (whole : Bool) → cond whole (Some named) None ≡ Some out → (whole ≡ true) × (named ≡ out)
-    by true h = (refl, cc)
-    by false h = cc
-
-write-asked : (config : ConfigFields) (c : Command) (data_out : List ℕ) (o : Operation) (out : Extent)
-    → (demands config c data_out).operation ≡ Ok o → blocks_to_write (Ok c) ≡ Some out
-    → operation.Write (blocks_out out data_out) ≡ o
-write-asked config (command.Write6 short) data_out o out e h = cc
-write-asked config (command.Write10 c) data_out o out e h = cc
-write-asked config (command.Write12 c) data_out o out e h = cc
-write-asked config (command.Write16 c) data_out o out e h = cc
-write-asked config (command.WriteAndVerify10 c) data_out o out e h =
-    let same : extent c.extent.lba c.extent.count ≡ out = its-blocks c.byte_check _ out h in cc
-write-asked config (command.WriteAndVerify12 c) data_out o out e h =
-    let same : extent c.extent.lba c.extent.count ≡ out = its-blocks c.byte_check _ out h in cc
-write-asked config (command.WriteAndVerify16 c) data_out o out e h =
-    let same : extent c.extent.lba c.extent.count ≡ out = its-blocks c.byte_check _ out h in cc
-write-asked config (command.WriteAtomic16 c) data_out o out e h =
-    let same : extent c.lba c.count ≡ out = (its-undivided c.boundary _ out h).1 in cc
-write-asked config _ data_out o out e h = cc
-
 -- a block of the first bytes of data-out is that of data-out
 pub first-block : (data_out : List ℕ) (count index : ℕ) → index < count
     → block_at (take (512 * count) data_out) index ≡ block_at data_out index
@@ -201,12 +158,13 @@ given-first true out data_out address old h =
 given-first false out data_out address old h = refl
 
 pub writes-leave : MapsEachAddress → WritesEachBlock → WritesLeaveTheirData
-writes-leave maps puts state i cdb data_out out is good =
+writes-leave maps puts state i cdb data_out named is good =
     let d = done-well state i cdb data_out good in
     let contents = state.disk.contents in
+    let out = moved (config_of state) named data_out in
     let fields = blocks_out out data_out in
-    let known = write-asked (config_of state) d.asked.command data_out d.operation out
-    d.asked.operation_is (ap blocks_to_write (sym d.asked.command_is) ∙ is) in
+    let known = write-asked (config_of state) data_out d.operation named d.asked.command
+    d.asked.accepted d.asked.operation_is (ap blocks_to_write (sym d.asked.command_is) ∙ is) in
     by-operation
     (λ (done : Step). Changes state done.state (lies_in out.lba out.count) Mapped
     (λ address. block_at data_out (address - out.lba)))
@@ -254,12 +212,14 @@ module _ (state : State) (i : ℕ) (cdb data_out : List ℕ) (effect : Effect) w
   passed (Err refusal) e f = cc
 
 pub used-have-space : RemappingTakesWhatIsNeeded → WritesOverUsedAddressesHaveSpace
-used-have-space law state i cdb data_out out effect w is used e =
+used-have-space law state i cdb data_out named effect w is used e =
     let p = passed state i cdb data_out effect (checked_cdb state i cdb data_out) refl e in
     let contents = state.disk.contents in
+    let out = moved (config_of state) named data_out in
     let fields = blocks_out out data_out in
-    let known = write-asked (config_of state) p.asked_is.command data_out p.operation out
-    p.asked_is.operation_is (ap blocks_to_write (sym p.asked_is.command_is) ∙ is) in
+    let known = write-asked (config_of state) data_out p.operation named p.asked_is.command
+    p.asked_is.accepted p.asked_is.operation_is
+    (ap blocks_to_write (sym p.asked_is.command_is) ∙ is) in
     let its : writing state fields ≡ effect =
     same-effect (effect_of state i (operation.Write fields)) (writing state fields) effect refl
     (ap (effect_of state i) known ∙ p.effect_is) in
@@ -401,12 +361,12 @@ same-long : (config : ConfigFields) (k : Command) (data_out : List ℕ) (c : Wri
 same-long config (command.WriteSame10 w) data_out c e h =
     let same : same_fields w.anchor w.unmap false (extent w.lba w.count) ≡ c = cc in
     subst (λ (f : WriteSameFields). same_length f.ndob ≤ length data_out) same
-    (long_enough (bad_same config w.anchor w.unmap false w.count 7 data_out) (need_of config 512) data_out e)
+    (long_enough config 512 (bad_same config w.anchor w.unmap false w.count 7 data_out) data_out e)
 same-long config (command.WriteSame16 w) data_out c e h =
     let same : same_fields w.anchor w.unmap w.ndob (extent w.lba w.count) ≡ c = cc in
     subst (λ (f : WriteSameFields). same_length f.ndob ≤ length data_out) same
-    (long_enough (bad_same config w.anchor w.unmap w.ndob w.count 10 data_out)
-    (need_of config (same_length w.ndob)) data_out e)
+    (long_enough config (same_length w.ndob)
+    (bad_same config w.anchor w.unmap w.ndob w.count 10 data_out) data_out e)
 same-long config _ data_out c e h = cc
 
 -- a block of zeros is the block of zeros

@@ -3,7 +3,7 @@ use Rattle.std.proofs.Common.{◌≡◌, ◌≤◌, ◌<◌, ℕ, zero, suc, ◌
 use Rattle.std.proofs.Common.{drop, map, get_or, Option, Some, None, refl, arith}
 use Rattle.std.proofs.lemmas.List.{drop_more, drop_all, take_more}
 use Rattle.sg_wire.specs.declared.extent.Extent.{Extent}
-use Rattle.sg_target.specs.Checks.{past_capacity}
+use Rattle.sg_target.specs.BlockCommands.{past_capacity}
 use Rattle.sg_target.specs.Refusal.{first_some}
 use Rattle.sg_target.specs.Extents.{AreOnDisk}
 use Rattle.sg_target.specs.declared.refusal.Refusal.{Refusal}

@@ -13,6 +13,7 @@ pub mod ExtentLemmas
 pub mod UnmapLemmas
 mod InTurnLemmas
 mod EachExtentLemmas
+pub mod MovedLemmas
 pub mod OrWriteLemmas
 pub mod CommandLemmas
 mod OrWriteLawLemmas

@@ -22,33 +22,35 @@ use Rattle.sg_target.specs.BlockCommands.{ored_block}
 use Rattle.sg_target.specs.CommandLaws.{OrWritesSetTheBitsOfTheirData, SetsBits, SetsTheBitsOfItsBlocks}
 use Rattle.sg_target.specs.CommandLaws.{blocks_to_or, is_set}
 use Rattle.sg_target.specs.Config.{ConfigFields}
+use Rattle.sg_target.specs.DataOut.{moved}
 use Rattle.sg_target.specs.Demands.{demands, extent, too_long}
-use Rattle.sg_target.specs.Demands.{need as need_of}
 use Rattle.sg_target.specs.Refusal.{first_some}
 use Rattle.sg_target.specs.State.{config_of}
 use Rattle.sg_target.specs.Step.{Step, step}
 use Rattle.sg_target.specs.declared.operation.Operation.{Operation}
 use Rattle.sg_target.specs.declared.operation.Operation.TheVariants as operation
-use Rattle.sg_target.proofs.BlocksLemmas.{long_enough}
 use Rattle.sg_target.proofs.CommandLemmas.{below, by-operation, done-well, first-block}
 use Rattle.sg_target.proofs.LiftLemmas.{request_checks}
+use Rattle.sg_target.proofs.MovedLemmas.{its-moved, moved-whole}
 use Rattle.sg_target.proofs.OrWriteLemmas.{get_or-or, length-block, length-or}
 
 -- ---- what it asks for
 
 or-asked : (config : ConfigFields) (c : Command) (data_out : List ℕ) (o : Operation) (out : Extent)
     → (demands config c data_out).operation ≡ Ok o → blocks_to_or (Ok c) ≡ Some out
-    → operation.OrWrite (blocks_out out data_out) ≡ o
-or-asked config (command.OrWrite16 c) data_out o out e h = cc
+    → operation.OrWrite (blocks_out (moved config out data_out) data_out) ≡ o
+or-asked config (command.OrWrite16 c) data_out o out e h =
+    let same : extent c.lba c.count ≡ out = cc in
+    its-moved config data_out operation.OrWrite (extent c.lba c.count) out o same e
 or-asked config _ data_out o out e h = cc
 
 or-long : (config : ConfigFields) (c : Command) (data_out : List ℕ) (out : Extent)
     → first_some (request_checks (demands config c data_out) data_out) ≡ None
-    → blocks_to_or (Ok c) ≡ Some out → bytes_of out ≤ length data_out
+    → blocks_to_or (Ok c) ≡ Some out → bytes_of (moved config out data_out) ≤ length data_out
 or-long config (command.OrWrite16 c) data_out out e h =
     let same : extent c.lba c.count ≡ out = cc in
-    subst (λ (x : Extent). bytes_of x ≤ length data_out) same
-    (long_enough (too_long config c.count 10) (need_of config (bytes_of (extent c.lba c.count))) data_out e)
+    subst (λ (x : Extent). bytes_of (moved config x data_out) ≤ length data_out) same
+    (moved-whole config (extent c.lba c.count) (too_long config c.count 10) data_out e)
 or-long config _ data_out out e h = cc
 
 -- ---- bits
@@ -134,16 +136,17 @@ if-inside true now given old h e = e
 if-inside false now given old h e = cc
 
 pub or-writes-set : RemappingTakesWhatIsNeeded → OrWritesSetTheBitsOfTheirData
-or-writes-set law state i cdb data_out out limits is good =
+or-writes-set law state i cdb data_out named limits is good =
     let d = done-well state i cdb data_out good in
     let contents = state.disk.contents in
+    let out = moved (config_of state) named data_out in
     let fields = blocks_out out data_out in
     let f = ored_block contents fields in
-    let named : blocks_to_or (Ok d.asked.command) ≡ Some out =
+    let names : blocks_to_or (Ok d.asked.command) ≡ Some named =
     ap blocks_to_or (sym d.asked.command_is) ∙ is in
-    let known = or-asked (config_of state) d.asked.command data_out d.operation out
-    d.asked.operation_is named in
-    let long = or-long (config_of state) d.asked.command data_out out d.asked.accepted named in
+    let known = or-asked (config_of state) d.asked.command data_out d.operation named
+    d.asked.operation_is names in
+    let long = or-long (config_of state) d.asked.command data_out named d.asked.accepted names in
     by-operation
     (λ (done : Step). SetsTheBitsOfItsBlocks state done.state out data_out)
     state i d.operation d.effect (step state i cdb data_out) (operation.OrWrite fields)

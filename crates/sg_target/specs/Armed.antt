@@ -1,6 +1,6 @@
 -- A disk on which faults are armed: what it answers, and what it becomes. `step` defines what a disk
 -- without faults answers.
-use Rattle.std.specs.Prelude.{ℕ, min, List, Option, Some, None, Result, Ok, Err}
+use Rattle.std.specs.Prelude.{ℕ, List, Option, Some, None, Result, Ok, Err}
 use Rattle.std.specs.Prelude.{[], Bool, ◌&&◌, ◌||◌, not, if◌then◌else◌, slice_get}
 use Rattle.std.specs.Prelude.{◌++◌, drop, is_some}
 use Rattle.std.specs.Option.{option_map_or}
@@ -22,7 +22,7 @@ use Rattle.sg_faults.specs.declared.outcome.OnArrival.TheVariants as arrival
 use Rattle.sg_faults.specs.declared.outcome.Struck.{Struck}
 use Rattle.sg_faults.specs.declared.sense_code.SenseCode.{SenseCode}
 use Rattle.sg_faults.specs.declared.sense_code.SenseKey.TheVariants.{MediumError}
-use Rattle.sg_target.specs.BlockCommands.{blocks_out}
+use Rattle.sg_target.specs.BlockCommands.{blocks_out, first_of}
 use Rattle.sg_target.specs.Checks.{checked_cdb}
 use Rattle.sg_target.specs.Refusal.{checked_next, fault_sense}
 use Rattle.sg_target.specs.Semantics.{MediumUse, effect_of, medium_use, uses_no_block}
@@ -75,9 +75,6 @@ refusal_on_arrival (arrival.CheckCondition code) = refusal.CheckCondition (reaso
 refusal_on_arrival (arrival.DeferredError code) = refusal.DeferredError code
 
 -- Only the first blocks of a READ, a WRITE or a WRITE SAME.
-abbrev pub first_of : (blocks : ℕ) → Extent → Extent
-first_of blocks extent = record extent { count = min blocks extent.count }
-
 abbrev pub first_blocks : (blocks : ℕ) → Operation → Operation
 first_blocks n (Read extent) = Read (first_of n extent)
 first_blocks n (Write out) = Write (blocks_out (first_of n out.extent) out.bytes)

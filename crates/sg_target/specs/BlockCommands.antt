@@ -1,5 +1,6 @@
 -- The effects of the block commands (SBC-3, 5).
-use Rattle.std.specs.Prelude.{ℕ, ◌+◌, ◌*◌, ◌%◌, List, [], ◌∷◌, drop, map, zip, bit_or, Option}
+use Rattle.std.specs.Prelude.{ℕ, ◌+◌, ◌*◌, ◌/◌, ◌%◌, min, max, List, [], ◌∷◌, length, drop, map}
+use Rattle.std.specs.Prelude.{zip, bit_or, nat_lt, Option, Some, None, if◌then◌else◌}
 use Rattle.std.specs.Option.{option_map}
 use Rattle.sg_wire.specs.FirstBytes.{first_bytes}
 use Rattle.sg_wire.specs.declared.extent.Extent.{Extent}
@@ -9,7 +10,7 @@ use Rattle.sg_pages.specs.BlockDescriptor.{logical_block_length}
 use Rattle.sg_target.specs.Effect.{Effect, no_effect, returning, storing}
 use Rattle.sg_target.specs.Refusal.{first_some}
 use Rattle.sg_target.specs.State.{State}
-use Rattle.sg_target.specs.declared.refusal.Reason.TheVariants.{Miscompare}
+use Rattle.sg_target.specs.declared.refusal.Reason.TheVariants.{LbaOutOfRange, Miscompare}
 use Rattle.sg_target.specs.declared.refusal.Refusal.{Refusal}
 use Rattle.sg_target.specs.declared.refusal.Refusal.TheVariants.{CheckCondition}
 
@@ -20,6 +21,23 @@ reading state extent = returning state (blocks state.disk.contents extent.lba ex
 -- The number of bytes of an extent's blocks.
 abbrev pub bytes_of : Extent → ℕ
 bytes_of extent = logical_block_length * extent.count
+
+-- An address is past the last one; the first such address is reported.
+-- Choice (SBC-3, 5.11): a range of no block at the capacity may be refused.
+abbrev pub past_capacity : (capacity : ℕ) → Extent → Option Refusal
+past_capacity capacity extent =
+    if nat_lt capacity (extent.lba + extent.count)
+    then Some (CheckCondition (LbaOutOfRange (max extent.lba capacity)))
+    else None
+
+-- Only the first blocks of an extent, at most this many.
+abbrev pub first_of : (blocks : ℕ) → Extent → Extent
+first_of blocks extent = record extent { count = min blocks extent.count }
+
+-- The first blocks of an extent, as many as data-out has in full.
+-- Choice (SAM-5, data-out): a block of which bytes are missing is neither written nor compared.
+abbrev pub whole_blocks : Extent → (data_out : List ℕ) → Extent
+whole_blocks extent data_out = first_of (length data_out / logical_block_length) extent
 
 -- Blocks, and as many bytes as they have.
 pub record BlocksOutFields : Type 0 where

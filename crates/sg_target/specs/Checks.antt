@@ -1,7 +1,7 @@
 -- The checks that a command passes before it is executed, in their order. They know commands by
 -- their demands, and operations by their use of the medium.
 use Rattle.std.specs.Prelude.{Bool, ◌&&◌, ◌||◌, not}
-use Rattle.std.specs.Prelude.{ℕ, ◌+◌, max, List, [], ◌∷◌, length, map, Option, Some, None, Result}
+use Rattle.std.specs.Prelude.{ℕ, List, [], ◌∷◌, length, map, Option, Some, None, Result}
 use Rattle.std.specs.Prelude.{Ok, Err, nat_lt, if◌then◌else◌}
 use Rattle.std.specs.Option.{option_map}
 use Rattle.std.specs.Prelude.{option_and_then}
@@ -17,8 +17,10 @@ use Rattle.sg_units.specs.Access.{allows}
 use Rattle.sg_units.specs.Attentions.{oldest}
 use Rattle.sg_units.specs.UnitAttention.{outranks_conflict}
 use Rattle.sg_units.specs.declared.unit_attention.UnitAttention.{UnitAttention}
+use Rattle.sg_target.specs.BlockCommands.{past_capacity}
+use Rattle.sg_target.specs.DataOut.{DataOutNeed}
 use Rattle.sg_target.specs.Effect.{Effect}
-use Rattle.sg_target.specs.Demands.{DataOutNeed, Demands, demands}
+use Rattle.sg_target.specs.Demands.{Demands, demands}
 use Rattle.sg_target.specs.Refusal.{checked_next, first_some, refusal_for, unless_refused}
 use Rattle.sg_target.specs.Semantics.{MediumUse, effect_of, medium_use, names_some_block}
 use Rattle.sg_target.specs.State.{State, config_of, profile_of}
@@ -26,8 +28,8 @@ use Rattle.sg_target.specs.declared.operation.Operation.{Operation}
 use Rattle.sg_target.specs.declared.refusal.Reason.TheVariants.{InvalidFieldInCdb}
 use Rattle.sg_target.specs.declared.refusal.Reason.TheVariants.{UnitAttention as Attention}
 use Rattle.sg_target.specs.declared.refusal.Reason.{Reason}
-use Rattle.sg_target.specs.declared.refusal.Reason.TheVariants.{LbaOutOfRange, WriteProtected}
 use Rattle.sg_target.specs.declared.refusal.Reason.TheVariants.{NotReady, SoftwareWriteProtected}
+use Rattle.sg_target.specs.declared.refusal.Reason.TheVariants.{WriteProtected}
 use Rattle.sg_target.specs.declared.refusal.Refusal.{Refusal}
 use Rattle.sg_target.specs.declared.refusal.Refusal.TheVariants.{Conflict, CheckCondition}
 
@@ -108,13 +110,13 @@ abbrev pub unsupported_value : Option ℕ → Option Refusal
 unsupported_value unsupported =
     option_map (λ byte. CheckCondition (InvalidFieldInCdb byte)) unsupported
 
--- There is less data-out than the command needs. More is ignored.
+-- There is less data-out than the command needs, and that refuses it. More is ignored.
 -- Choice (SAM-5, data-out): data-out of another length has no answer there.
 -- Departure (SAM-5, 5.3.3): a conflict of PERSISTENT RESERVE OUT comes first there.
 abbrev pub short_data_out : Option DataOutNeed → List ℕ → Option Refusal
 short_data_out None data_out = None
 short_data_out (Some need) data_out =
-    if nat_lt (length data_out) need.bytes then Some (CheckCondition need.if_short) else None
+    if nat_lt (length data_out) need.bytes then need.if_short else None
 
 -- The operation that a command asks for, or the first refusal. A value, too little data-out, or the
 -- named page or parameter list can be the reason.
@@ -131,14 +133,6 @@ requested d data_out =
 abbrev pub not_ready : State → MediumUse → Option Refusal
 not_ready state medium =
     if state.stopped && medium.needs_ready then Some (CheckCondition NotReady) else None
-
--- An address is past the last one; the first such address is reported.
--- Choice (SBC-3, 5.11): a range of no block at the capacity may be refused.
-abbrev pub past_capacity : (capacity : ℕ) → Extent → Option Refusal
-past_capacity capacity extent =
-    if nat_lt capacity (extent.lba + extent.count)
-    then Some (CheckCondition (LbaOutOfRange (max extent.lba capacity)))
-    else None
 
 -- Choice (SBC-3, 5.28): the extents before the bad one may be unmapped.
 unfoldable pub out_of_range : (capacity : ℕ) → List Extent → Option Refusal

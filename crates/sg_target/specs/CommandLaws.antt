@@ -21,6 +21,7 @@ use Rattle.sg_wire.specs.declared.lba_status.ProvisioningStatus.TheVariants.{Map
 use Rattle.sg_wire.specs.declared.lba_status.ProvisioningStatus.TheVariants.{Anchored}
 use Rattle.sg_target.specs.Checks.{checked_effect}
 use Rattle.sg_target.specs.Config.{ConfigFields}
+use Rattle.sg_target.specs.DataOut.{moved}
 use Rattle.sg_target.specs.Demands.{extent, extents_out}
 use Rattle.sg_target.specs.Effect.{Effect, with_contents}
 use Rattle.sg_target.specs.Laws.{lies_in_any}
@@ -96,12 +97,14 @@ blocks_to_write (Ok (command.WriteAndVerify16 c)) =
 blocks_to_write (Ok (command.WriteAtomic16 c)) = undivided_blocks c.boundary (extent c.lba c.count)
 blocks_to_write _ = None
 
--- They are mapped, and each has its bytes of the data-out.
+-- They are mapped, and each has its bytes of the data-out. On a disk that takes too little data-out that
+-- holds for the blocks that data-out has in full, and every other block is as it was.
 abbrev pub WritesLeaveTheirData : Type 0
 WritesLeaveTheirData =
-    (state : State) (initiator : ℕ) (cdb data_out : List ℕ) (out : Extent)
-    → blocks_to_write (command_of cdb) ≡ Some out → EndsWithGood state initiator cdb data_out
-    → Changes state (step state initiator cdb data_out).state (lies_in out.lba out.count) Mapped
+    (state : State) (initiator : ℕ) (cdb data_out : List ℕ) (named : Extent)
+    → blocks_to_write (command_of cdb) ≡ Some named → EndsWithGood state initiator cdb data_out
+    → let out = moved (config_of state) named data_out in
+    Changes state (step state initiator cdb data_out).state (lies_in out.lba out.count) Mapped
     (λ address. block_at data_out (address - out.lba))
 
 -- Each address of an extent has a block of the pool: it is mapped or anchored.
@@ -114,8 +117,9 @@ AreUsed state extent =
 -- passes the checks.
 abbrev pub WritesOverUsedAddressesHaveSpace : Type 0
 WritesOverUsedAddressesHaveSpace =
-    (state : State) (initiator : ℕ) (cdb data_out : List ℕ) (out : Extent) (effect : Effect)
-    → IsWithinLimits state → blocks_to_write (command_of cdb) ≡ Some out → AreUsed state out
+    (state : State) (initiator : ℕ) (cdb data_out : List ℕ) (named : Extent) (effect : Effect)
+    → IsWithinLimits state → blocks_to_write (command_of cdb) ≡ Some named
+    → AreUsed state (moved (config_of state) named data_out)
     → checked_effect state initiator cdb data_out ≡ Ok effect
     → EndsWithGood state initiator cdb data_out
 
@@ -137,7 +141,7 @@ pub record SetsBits (old given left : List ℕ) : Type 0 where
   pub bits : (byte bit : ℕ) → is_set left byte bit ≡ (is_set old byte bit || is_set given byte bit)
   pub none_cleared : (byte bit : ℕ) → is_set old byte bit ≡ true → is_set left byte bit ≡ true
 
--- Each block of the command has the bits of the data-out set, too, and is mapped. Nothing more has changed.
+-- Each of these blocks has the bits of the data-out set, too, and is mapped. Nothing more has changed.
 pub record SetsTheBitsOfItsBlocks (before after : State) (out : Extent) (data_out : List ℕ)
     : Type 0 where
   pub its_blocks : (address : ℕ) → lies_in out.lba out.count address ≡ true
@@ -147,9 +151,10 @@ pub record SetsTheBitsOfItsBlocks (before after : State) (out : Extent) (data_ou
 
 abbrev pub OrWritesSetTheBitsOfTheirData : Type 0
 OrWritesSetTheBitsOfTheirData =
-    (state : State) (initiator : ℕ) (cdb data_out : List ℕ) (out : Extent) → IsWithinLimits state
-    → blocks_to_or (command_of cdb) ≡ Some out → EndsWithGood state initiator cdb data_out
-    → SetsTheBitsOfItsBlocks state (step state initiator cdb data_out).state out data_out
+    (state : State) (initiator : ℕ) (cdb data_out : List ℕ) (named : Extent) → IsWithinLimits state
+    → blocks_to_or (command_of cdb) ≡ Some named → EndsWithGood state initiator cdb data_out
+    → SetsTheBitsOfItsBlocks state (step state initiator cdb data_out).state
+    (moved (config_of state) named data_out) data_out
 
 -- ---- UNMAP (SBC-3, 5.28)
 
@@ -236,26 +241,31 @@ sound_extents (Err refusal) = []
 
 -- The blocks that each command writes if it ends with GOOD, on a disk of a configuration, with its
 -- data-out. FORMAT UNIT and the erases of SANITIZE write all blocks. WRITE LONG marks its block, and leaves
--- the data.
+-- the data. `moved` says what becomes of a WRITE and an ORWRITE with too little data-out.
 abbrev pub blocks_written : ConfigFields → Result Command CdbFault → (data_out : List ℕ) → List Extent
 blocks_written config (Ok (command.CompareAndWrite c)) data_out = extent c.lba c.count ∷ []
 blocks_written config (Ok (command.FormatUnit c)) data_out = extent 0 config.blocks ∷ []
-blocks_written config (Ok (command.OrWrite16 c)) data_out = extent c.lba c.count ∷ []
+blocks_written config (Ok (command.OrWrite16 c)) data_out =
+    moved config (extent c.lba c.count) data_out ∷ []
 blocks_written config (Ok (command.SanitizeBlockErase c)) data_out = extent 0 config.blocks ∷ []
 blocks_written config (Ok (command.SanitizeCryptographicErase c)) data_out =
     extent 0 config.blocks ∷ []
 blocks_written config (Ok (command.Unmap c)) data_out =
     sound_extents (extents_out config c.list_length data_out)
-blocks_written config (Ok (command.Write6 short)) data_out = extent short.0 short.1 ∷ []
-blocks_written config (Ok (command.Write10 c)) data_out = extent c.lba c.count ∷ []
-blocks_written config (Ok (command.Write12 c)) data_out = extent c.lba c.count ∷ []
-blocks_written config (Ok (command.Write16 c)) data_out = extent c.lba c.count ∷ []
+blocks_written config (Ok (command.Write6 short)) data_out =
+    moved config (extent short.0 short.1) data_out ∷ []
+blocks_written config (Ok (command.Write10 c)) data_out =
+    moved config (extent c.lba c.count) data_out ∷ []
+blocks_written config (Ok (command.Write12 c)) data_out =
+    moved config (extent c.lba c.count) data_out ∷ []
+blocks_written config (Ok (command.Write16 c)) data_out =
+    moved config (extent c.lba c.count) data_out ∷ []
 blocks_written config (Ok (command.WriteAndVerify10 c)) data_out =
-    extent c.extent.lba c.extent.count ∷ []
+    moved config (extent c.extent.lba c.extent.count) data_out ∷ []
 blocks_written config (Ok (command.WriteAndVerify12 c)) data_out =
-    extent c.extent.lba c.extent.count ∷ []
+    moved config (extent c.extent.lba c.extent.count) data_out ∷ []
 blocks_written config (Ok (command.WriteAndVerify16 c)) data_out =
-    extent c.extent.lba c.extent.count ∷ []
+    moved config (extent c.extent.lba c.extent.count) data_out ∷ []
 blocks_written config (Ok (command.WriteAtomic16 c)) data_out = extent c.lba c.count ∷ []
 blocks_written config (Ok (command.WriteLong10 c)) data_out = extent c.lba 1 ∷ []
 blocks_written config (Ok (command.WriteSame10 c)) data_out = extent c.lba c.count ∷ []

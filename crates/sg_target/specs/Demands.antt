@@ -1,6 +1,6 @@
 -- Each command's demands on its fields and its data-out, and the operation that it asks for. The
 -- demands depend on the disk only by its configuration, which never changes.
-use Rattle.std.specs.Prelude.{ℕ, ◌+◌, ◌*◌, ◌==◌, length, List, Bool, true, false, ◌&&◌, not}
+use Rattle.std.specs.Prelude.{ℕ, ◌+◌, ◌*◌, ◌==◌, length, List, Bool, false, ◌&&◌, not}
 use Rattle.std.specs.Prelude.{Option, Some, None, Result, Ok, Err, nat_le, nat_lt, if◌then◌else◌, ok_or, []}
 use Rattle.std.specs.Option.{option_map_or}
 use Rattle.sg_wire.specs.CdbDecoding.{command_in}
@@ -30,12 +30,13 @@ use Rattle.sg_wire.specs.declared.command.verify.ByteCheck.TheVariants.{Nothing,
 use Rattle.sg_wire.specs.declared.command.verify.ByteCheck.TheVariants.{Reserved, OneBlock}
 use Rattle.sg_wire.specs.FirstBytes.{first_bytes}
 use Rattle.sg_wire.specs.declared.extent.Extent.{Extent}
-use Rattle.sg_target.specs.BlockCommands.{blocks_out, bytes_of, exchange_out}
+use Rattle.sg_target.specs.BlockCommands.{BlocksOutFields, blocks_out, bytes_of, exchange_out}
 use Rattle.sg_pages.specs.BlockDescriptor.{logical_block_length}
 use Rattle.sg_pages.specs.Reports.{lists_unit, log_page_with}
 use Rattle.sg_pages.specs.declared.reports.Report.{Report}
 use Rattle.sg_pages.specs.declared.reports.Report.TheVariants as report
 use Rattle.sg_target.specs.Config.{ConfigFields, limits_for}
+use Rattle.sg_target.specs.DataOut.{DataOutNeed, blocks_need, moved, need}
 use Rattle.sg_target.specs.FormatList.{header_length, header_refusal}
 use Rattle.sg_target.specs.ModeCommands.{bad_page_format}
 use Rattle.sg_target.specs.PrimaryCommands.{format_of, inquiry_page}
@@ -44,22 +45,9 @@ use Rattle.sg_target.specs.Refusal.{or_refused, unless_refused, when_sound}
 use Rattle.sg_target.specs.ReservationCommands.{fields_out, bad_type}
 use Rattle.sg_target.specs.declared.operation.Operation.{Operation}
 use Rattle.sg_target.specs.declared.operation.Operation.TheVariants as operation
-use Rattle.sg_target.specs.declared.refusal.Reason.{Reason}
-use Rattle.sg_target.specs.declared.refusal.Reason.TheVariants.{DataPhaseError, InvalidFieldInCdb}
-use Rattle.sg_target.specs.declared.refusal.Reason.TheVariants.{InvalidInformationUnit}
+use Rattle.sg_target.specs.declared.refusal.Reason.TheVariants.{InvalidFieldInCdb}
 use Rattle.sg_target.specs.declared.refusal.Refusal.{Refusal}
 use Rattle.sg_target.specs.declared.refusal.Refusal.TheVariants.{CheckCondition}
-
--- The number of bytes of data-out that a command needs, and why it is refused if there are fewer.
-pub record DataOutNeed : Type 0 where
-  pub bytes : ℕ
-  pub if_short : Reason
-
--- INVALID FIELD IN COMMAND INFORMATION UNIT, or DATA PHASE ERROR on a base disk.
-abbrev pub short_reason : ConfigFields → Reason
-short_reason config =
-    if (rules_of config.identity.profile).short_data_out_is_illegal then InvalidInformationUnit
-    else DataPhaseError
 
 -- One row.
 pub record Demands : Type 0 where
@@ -75,9 +63,6 @@ pub record Demands : Type 0 where
 abbrev pub takes_no_data : (unsupported : Option ℕ) → Result Operation Refusal → Demands
 takes_no_data unsupported operation =
     record { unsupported = unsupported; data_out = None; operation = operation }
-
-abbrev pub need : ConfigFields → (bytes : ℕ) → DataOutNeed
-need config bytes = record { bytes = bytes; if_short = short_reason config }
 
 abbrev pub takes : ConfigFields → (bytes : ℕ) → (unsupported : Option ℕ) → Result Operation Refusal
     → Demands
@@ -169,14 +154,22 @@ too_long config transfer_length byte =
 abbrev pub read : Extent → (unsupported : Option ℕ) → Demands
 read extent unsupported = takes_no_data unsupported (Ok (operation.Read extent))
 
--- WRITE takes the bytes of its blocks.
+-- A WRITE, an ORWRITE or a VERIFY with data-out moves blocks.
+abbrev pub takes_blocks : ConfigFields → Extent → (unsupported : Option ℕ)
+    → (BlocksOutFields → Operation) → (data_out : List ℕ) → Demands
+takes_blocks config extent unsupported asked data_out = record {
+  unsupported = unsupported;
+  data_out = Some (blocks_need config extent);
+  operation = Ok (asked (blocks_out (moved config extent data_out) data_out));
+}
+
 abbrev pub write : ConfigFields → Extent → (unsupported : Option ℕ) → (data_out : List ℕ) → Demands
 write config extent unsupported data_out =
-    takes config (bytes_of extent) unsupported (Ok (operation.Write (blocks_out extent data_out)))
+    takes_blocks config extent unsupported operation.Write data_out
 
--- WRITE ATOMIC writes all of its blocks or none, as each WRITE does, and no more blocks than the page
--- Block Limits says for it: TRANSFER LENGTH begins at byte 12. ATOMIC BOUNDARY, from byte 10 on, is 0,
--- because no blocks are divided at a boundary.
+-- WRITE ATOMIC writes all of its blocks or none, so it always needs all of their bytes. It writes no more
+-- blocks than the page Block Limits says for it: TRANSFER LENGTH begins at byte 12. ATOMIC BOUNDARY, from
+-- byte 10 on, is 0, because no blocks are divided at a boundary.
 -- Choice (SBC-4, WRITE ATOMIC): ATOMIC BOUNDARY may be supported.
 abbrev pub bad_atomic : ConfigFields → (boundary count : ℕ) → Option ℕ
 bad_atomic config boundary count =
@@ -186,13 +179,15 @@ bad_atomic config boundary count =
 
 abbrev pub write_atomic : ConfigFields → WriteAtomic16 → (data_out : List ℕ) → Demands
 write_atomic config c data_out =
-    write config (extent c.lba c.count) (bad_atomic config c.boundary c.count) data_out
+    let extent = extent c.lba c.count in
+    takes config (bytes_of extent) (bad_atomic config c.boundary c.count)
+    (Ok (operation.Write (blocks_out extent data_out)))
 
 -- ORWRITE takes the bytes of its blocks, as WRITE does.
 abbrev pub or_write : ConfigFields → Extent → (unsupported : Option ℕ) → (data_out : List ℕ)
     → Demands
 or_write config extent unsupported data_out =
-    takes config (bytes_of extent) unsupported (Ok (operation.OrWrite (blocks_out extent data_out)))
+    takes_blocks config extent unsupported operation.OrWrite data_out
 
 -- WRITE AND VERIFY compares its blocks with their own data-out, or with nothing, so the verification
 -- passes: BYTCHK, in byte 1, asks for no other comparison.
@@ -222,15 +217,17 @@ verify_each config extent byte data_out =
 abbrev pub verify : ConfigFields → ByteCheck → Extent → (byte : ℕ) → (data_out : List ℕ) → Demands
 verify config Nothing extent byte data_out = verify_only config extent byte
 verify config DataOut extent byte data_out =
-    takes config (bytes_of extent) (too_long config extent.count byte)
-    (Ok (operation.Compare (blocks_out extent data_out)))
+    takes_blocks config extent (too_long config extent.count byte) operation.Compare data_out
 verify config Reserved extent byte data_out = takes_no_data (Some 1) (Ok (operation.Verify extent))
 verify config OneBlock extent byte data_out = verify_each config extent byte data_out
 
 -- COMPARE AND WRITE takes the blocks to compare, then as many to write, and no other number of bytes.
 -- The byte is where NUMBER OF LOGICAL BLOCKS is.
 abbrev pub exchange_need : Extent → DataOutNeed
-exchange_need extent = record { bytes = 2 * bytes_of extent; if_short = InvalidFieldInCdb 13 }
+exchange_need extent = record {
+  bytes = 2 * bytes_of extent;
+  if_short = Some (CheckCondition (InvalidFieldInCdb 13));
+}
 
 -- Choice (SBC-3, 5.2): data-out of another length may be answered otherwise.
 abbrev pub wrong_length : Extent → (data_out : List ℕ) → Option ℕ

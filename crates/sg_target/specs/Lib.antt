@@ -11,6 +11,7 @@ pub mod ModeCommands
 pub mod ReservationCommands
 pub mod FormatList
 pub mod StartStop
+pub mod DataOut
 pub mod Demands
 pub mod Semantics
 pub mod Checks

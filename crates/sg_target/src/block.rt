@@ -6,10 +6,10 @@ ghost use Rattle.sg_pages.specs.CapacityData.{capacity_10, capacity_16};
 ghost use Rattle.sg_store.specs.Disk.{block_at};
 ghost use Rattle.sg_wire.specs.Profile.{maximum_transfer_length};
 ghost use Rattle.sg_wire.specs.FirstBytes.{first_bytes};
-ghost use Rattle.sg_target.specs.Armed.{first_of};
-ghost use Rattle.sg_target.specs.BlockCommands.{blocks_out, bytes_of, reading, writing};
+ghost use Rattle.sg_target.specs.BlockCommands.{blocks_out, bytes_of, first_of, reading, writing};
 ghost use Rattle.sg_target.specs.Checks.{requested, short_data_out, unsupported_value};
-ghost use Rattle.sg_target.specs.Demands.{need, reached, read, too_long, write, write_atomic};
+ghost use Rattle.sg_target.specs.DataOut.{blocks_need, moved, need};
+ghost use Rattle.sg_target.specs.Demands.{reached, read, too_long, write, write_atomic};
 ghost use Rattle.sg_target.specs.Charge.{TakesStep, cost_bounds};
 ghost use Rattle.sg_target.specs.Ranges.{range};
 ghost use Rattle.sg_target.specs.MadeReplies.{ReturnsData, executed_reply, refused_reply};
@@ -18,8 +18,8 @@ ghost use Rattle.sg_target.specs.Step.{executed, outcome, sense_format};
 use crate::armed::first_of;
 use crate::config::Config;
 use crate::data_in::DataIn;
-use crate::data_out::needed_data_out;
-use crate::extent::{byte_length, one_block};
+use crate::data_out::{needed_data_out, short_reason};
+use crate::extent::{byte_length, one_block, past_capacity};
 use crate::operation::Operation;
 use crate::refusal::{Reason, Refusal};
 use crate::reply::Reply;
@@ -175,8 +175,63 @@ impl BlocksOut<'_> {
 }
 
 impl<'a> BlocksOut<'a> {
-    /// Takes the bytes of blocks from data-out.
+    /// Takes the bytes of blocks from data-out. If data-out is too short, a disk that takes too little
+    /// data-out has only the blocks that are in it in full.
     pub(crate) fn take(
+        config: &Config,
+        extent: Extent,
+        data_out: &'a [u8],
+    ) -> Result<BlocksOut<'a>, Refusal>
+        requires { extent.count ≤ maximum_transfer_length }
+        ensures refused { IfErr result (λ refusal.
+            short_data_out (Some (blocks_need config.now extent)) data_out.now ≡ Some refusal) }
+        ensures passed { IfOk result (λ _.
+            short_data_out (Some (blocks_need config.now extent)) data_out.now ≡ None) }
+        ensures blocks { IfOk result (λ blocks.
+            blocks ≡ blocks_out (moved config.now extent data_out.now) data_out.now) }
+    {
+        let len = byte_length(extent) as usize;
+        if data_out.len() < len {
+            return BlocksOut::take_short(config, extent, data_out);
+        }
+        Ok(BlocksOut {
+            extent,
+            bytes: &data_out[..len],
+        })
+    }
+
+    /// Takes the blocks that are in data-out in full, if the disk takes too little data-out and has all
+    /// the blocks that the command names.
+    // Not inlined: only a command with too little data-out asks.
+    #[inline(never)]
+    fn take_short(
+        config: &Config,
+        extent: Extent,
+        data_out: &'a [u8],
+    ) -> Result<BlocksOut<'a>, Refusal>
+        requires at_most { extent.count ≤ maximum_transfer_length }
+        requires short { length data_out.now < bytes_of extent }
+        ensures refused { IfErr result (λ refusal.
+            (blocks_need config.now extent).if_short ≡ Some refusal) }
+        ensures passed { IfOk result (λ _. (blocks_need config.now extent).if_short ≡ None) }
+        ensures blocks { IfOk result (λ blocks.
+            blocks ≡ blocks_out (moved config.now extent data_out.now) data_out.now) }
+    {
+        if !config.identity().takes_short_data_out() {
+            return Err(Refusal::CheckCondition(short_reason(config)));
+        }
+        if let Some(refusal) = past_capacity(extent, config.blocks()) {
+            return Err(refusal);
+        }
+        let extent = first_of((data_out.len() / BLOCK_LENGTH) as u32, extent);
+        Ok(BlocksOut {
+            extent,
+            bytes: &data_out[..byte_length(extent) as usize],
+        })
+    }
+
+    /// Takes the bytes of all blocks from data-out.
+    fn take_all(
         config: &Config,
         extent: Extent,
         data_out: &'a [u8],
@@ -220,7 +275,7 @@ pub(crate) fn check_write<'a>(
     Ok(Operation::Write(BlocksOut::take(config, extent, data_out)?))
 }
 
-/// WRITE ATOMIC: a WRITE is atomic as it is.
+/// WRITE ATOMIC: a WRITE of all blocks is atomic as it is.
 pub(crate) fn check_write_atomic_16<'a>(
     config: &Config,
     fields: WriteAtomic16,
@@ -242,7 +297,7 @@ pub(crate) fn check_write_atomic_16<'a>(
             byte: ATOMIC_LENGTH_BYTE,
         }));
     }
-    Ok(Operation::Write(BlocksOut::take(config, extent, data_out)?))
+    Ok(Operation::Write(BlocksOut::take_all(config, extent, data_out)?))
 }
 
 // ---- SYNCHRONIZE CACHE and PRE-FETCH

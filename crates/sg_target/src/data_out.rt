@@ -4,8 +4,9 @@ ghost use Rattle.std.specs.Prelude.{◌≡◌, ℕ, [], length, Some, None, IfOk
 ghost use Rattle.sg_wire.specs.FirstBytes.{first_bytes};
 ghost use Rattle.sg_target.specs.Checks.{short_data_out};
 ghost use Rattle.sg_target.specs.Config.{ConfigFields};
-ghost use Rattle.sg_target.specs.Demands.{asked_bytes, format_unit, need, needed_by, needed_bytes};
-ghost use Rattle.sg_target.specs.Demands.{extent, short_reason, verify};
+ghost use Rattle.sg_target.specs.DataOut.{need, short_reason};
+ghost use Rattle.sg_target.specs.Demands.{asked_bytes, extent, format_unit, needed_by, needed_bytes};
+ghost use Rattle.sg_target.specs.Demands.{verify};
 
 use crate::config::Config;
 use crate::extent::byte_length;
@@ -34,7 +35,7 @@ pub(crate) fn needed_data_out<'a>(
 }
 
 /// Why a command with less data-out than it needs is refused.
-fn short_reason(config: &Config) -> Reason
+pub(crate) fn short_reason(config: &Config) -> Reason
     ensures { result ≡ short_reason config.now }
 {
     if config.rules().short_data_out_is_illegal {

@@ -1,7 +1,7 @@
 // The check that the disk has the logical blocks that a command names.
 ghost use Rattle.std.specs.Prelude.{◌≡◌, ◌≤◌, ◌+◌, IfNone};
-ghost use Rattle.sg_target.specs.BlockCommands.{bytes_of};
-ghost use Rattle.sg_target.specs.Checks.{out_of_range, past_capacity};
+ghost use Rattle.sg_target.specs.BlockCommands.{bytes_of, past_capacity};
+ghost use Rattle.sg_target.specs.Checks.{out_of_range};
 ghost use Rattle.sg_target.specs.Demands.{extent};
 ghost use Rattle.sg_target.specs.Extents.{AreOnDisk};
 

@@ -1,5 +1,5 @@
 use Rattle.std.proofs.Common.{◌≡◌, drop, take, map}
-use Rattle.sg_target.specs.Checks.{past_capacity}
+use Rattle.sg_target.specs.BlockCommands.{past_capacity}
 use Rattle.sg_target.specs.Refusal.{first_some}
 use Rattle.sg_target.specs.Extents.{AreOnDisk}
 use Rattle.sg_target.proofs.extent.first_past_capacity.Given as goal
