@@ -35,7 +35,6 @@ use Rattle.sg_target.specs.Step.{executed, outcome, refused}
 use Rattle.sg_target.specs.declared.operation.Operation.{Operation}
 use Rattle.sg_target.specs.declared.operation.Operation.TheVariants as operation
 use Rattle.sg_target.specs.declared.refusal.Refusal.{Refusal}
-use Rattle.sg_target.specs.declared.refusal.Refusal.TheVariants.{CheckCondition}
 use Rattle.sg_target.proofs.CommandLemmas.{has-slot, none-needed}
 use Rattle.sg_target.proofs.NeedLemmas.{inside}
 use Rattle.sg_target.proofs.Space.{space-left}
@@ -97,7 +96,7 @@ module _ (state : State) (i : ℕ) (data_out : List ℕ) (named : Extent)
 
   none-short : short_data_out (Some (exchange_need named)) data_out ≡ None
   none-short =
-      ap (λ b. cond b (Some (CheckCondition (exchange_need named).if_short)) None)
+      ap (λ b. cond b (exchange_need named).if_short None)
       (le-ltb (length data_out) (2 * bytes_of named) (omega (arith, free.two_halves)))
 
   of-named : OfExtent named

@@ -20,18 +20,19 @@ use Rattle.sg_wire.specs.declared.profile.Rules.{Rules}
 use Rattle.sg_pages.specs.ModePage.{ModeState, write_protected}
 use Rattle.sg_units.specs.Access.{allows}
 use Rattle.sg_units.specs.declared.unit_attention.UnitAttention.{UnitAttention}
-use Rattle.sg_target.specs.BlockCommands.{blocks_out, bytes_of}
+use Rattle.sg_target.specs.BlockCommands.{blocks_out, bytes_of, past_capacity}
 use Rattle.sg_wire.proofs.ProfileLemmas.{read-any}
 use Rattle.sg_target.specs.Checks.{attention_refusal, bad_field, blocking_attention, cdb_checks}
 use Rattle.sg_target.specs.Checks.{checked_cdb, checked_effect, if_it_outranks, outranking_attention}
 use Rattle.sg_target.specs.Checks.{outranks}
 use Rattle.sg_target.specs.Checks.{checked_operation, checked_parse, empty_cdb, medium_checks, not_ready}
-use Rattle.sg_target.specs.Checks.{out_of_range, past_capacity, pending_attention, requested}
+use Rattle.sg_target.specs.Checks.{out_of_range, pending_attention, requested}
 use Rattle.sg_target.specs.Checks.{reservation_conflict, short_cdb, short_data_out, unknown_opcode}
 use Rattle.sg_target.specs.Checks.{unsupported_value, write_protection, writes_some}
 use Rattle.sg_target.specs.Config.{ConfigFields}
 use Rattle.sg_target.specs.CommandLaws.{WritesOverUsedAddressesHaveSpace, blocks_to_write}
-use Rattle.sg_target.specs.Demands.{bad_atomic, bad_comparison, extent, need, too_long, write}
+use Rattle.sg_target.specs.DataOut.{blocks_need, moved, need, short_reason}
+use Rattle.sg_target.specs.Demands.{bad_atomic, bad_comparison, extent, takes, too_long, write}
 use Rattle.sg_target.specs.Effect.{Effect}
 use Rattle.sg_target.specs.Refusal.{checked_next, first_some, refusal_for, sense_of, unless_refused}
 use Rattle.sg_target.specs.Semantics.{MediumUse, effect_of, medium_use}
@@ -208,13 +209,29 @@ data-other config n data_out =
     if-other (nat_lt (length data_out) n) _
     (reason-other config (rules_of config.identity.profile).short_data_out_is_illegal)
 
+past-other : (capacity : ℕ) (e : Extent) → IsOtherIfAny (past_capacity capacity e)
+past-other capacity e = if-other (nat_lt capacity (e.lba + e.count)) _ refl
+
+short-other-by : (config : ConfigFields) (e : Extent) (takes_short : Bool)
+    → IsOtherIfAny
+    (cond takes_short (past_capacity config.blocks e) (Some (CheckCondition (short_reason config))))
+short-other-by config e true = past-other config.blocks e
+short-other-by config e false =
+    reason-other config (rules_of config.identity.profile).short_data_out_is_illegal
+
+blocks-other : (config : ConfigFields) (e : Extent) (data_out : List ℕ)
+    → IsOtherIfAny (short_data_out (Some (blocks_need config e)) data_out)
+blocks-other config e data_out =
+    if-other (nat_lt (length data_out) (bytes_of e)) _
+    (short-other-by config e config.identity.takes_short_data_out)
+
 ready-other : (state : State) (medium : MediumUse) → IsOtherIfAny (not_ready state medium)
 ready-other state medium = if-other (state.stopped && medium.needs_ready) _ refl
 
 range-other : (capacity : ℕ) (e : Extent) → IsOtherIfAny (out_of_range capacity (e ∷ []))
 unfolding out_of_range
 range-other capacity e =
-    first-other (past_capacity capacity e) [] (if-other (nat_lt capacity (e.lba + e.count)) _ refl) tt
+    first-other (past_capacity capacity e) [] (past-other capacity e) tt
 
 protected-other : (only_writes : Bool)
     → IsOther (CheckCondition (cond only_writes WriteProtected SoftwareWriteProtected))
@@ -281,12 +298,28 @@ module _ (state : State) (i : ℕ) (data_out : List ℕ) where
       (checked_operation state))
       (effect_of state i))
   write-other out unsupported =
-      let d = write (config_of state) out unsupported data_out in
-      by-request out
-      (first_some (unsupported_value unsupported ∷ short_data_out d.data_out data_out ∷ []))
+      let need = blocks_need (config_of state) out in
+      by-request (moved (config_of state) out data_out)
+      (first_some (unsupported_value unsupported ∷ short_data_out (Some need) data_out ∷ []))
       (first-other (unsupported_value unsupported) _
       (mapped-other unsupported _ (λ byte. refl))
-      (first-other (short_data_out d.data_out data_out) []
+      (first-other (short_data_out (Some need) data_out) []
+      (blocks-other (config_of state) out data_out) tt))
+
+  atomic-other : (out : Extent) (unsupported : Option ℕ)
+      → IsOtherIfRefused
+      (checked_next
+      (checked_next (requested (takes (config_of state) (bytes_of out) unsupported
+      (Ok (operation.Write (blocks_out out data_out)))) data_out)
+      (checked_operation state))
+      (effect_of state i))
+  atomic-other out unsupported =
+      let all = need (config_of state) (bytes_of out) in
+      by-request out
+      (first_some (unsupported_value unsupported ∷ short_data_out (Some all) data_out ∷ []))
+      (first-other (unsupported_value unsupported) _
+      (mapped-other unsupported _ (λ byte. refl))
+      (first-other (short_data_out (Some all) data_out) []
       (data-other (config_of state) (bytes_of out) data_out) tt))
 
   by-cdb : (first : Option Refusal) (parse : Result Command CdbFault) (out : Extent)
@@ -312,7 +345,7 @@ module _ (state : State) (i : ℕ) (data_out : List ℕ) where
   by-cdb None (Ok (command.Write16 c)) out h is =
       write-other (extent c.lba c.count) (too_long (config_of state) c.count 10)
   by-cdb None (Ok (command.WriteAtomic16 c)) out h is =
-      write-other (extent c.lba c.count) (bad_atomic (config_of state) c.boundary c.count)
+      atomic-other (extent c.lba c.count) (bad_atomic (config_of state) c.boundary c.count)
   by-cdb None (Err fault) out h is = fault-other fault
   by-cdb None (Ok c) out h is = let none : blocks_to_write (Ok c) ≡ Some out = is c refl in cc
 

@@ -15,24 +15,26 @@ use Rattle.sg_wire.specs.declared.command.Command.{Command}
 use Rattle.sg_wire.specs.declared.command.Command.TheVariants as command
 use Rattle.sg_wire.specs.declared.command.verify.ByteCheck.{ByteCheck}
 use Rattle.sg_wire.specs.declared.extent.Extent.{Extent}
-use Rattle.sg_target.proofs.CommandLemmas.{its-blocks, its-comparison, its-undivided}
+use Rattle.sg_target.proofs.MovedLemmas.{its-blocks, its-comparison, its-undivided, moved-all}
 use Rattle.sg_wire.specs.declared.profile.Profile.{Profile}
 use Rattle.sg_wire.specs.declared.profile.Profile.TheVariants.{Base, Extended}
 use Rattle.sg_wire.specs.declared.profile.Rules.{Rules}
 use Rattle.sg_pages.specs.ModePage.{ModeState, write_protected}
 use Rattle.sg_units.specs.Access.{allows}
 use Rattle.sg_units.specs.Attentions.{oldest}
-use Rattle.sg_target.specs.BlockCommands.{blocks_out, bytes_of, writing}
+use Rattle.sg_target.specs.BlockCommands.{blocks_out, bytes_of, past_capacity, writing}
 use Rattle.sg_wire.proofs.ProfileLemmas.{is-in, read-any}
 use Rattle.sg_target.specs.Checks.{attention_refusal, bad_field, cdb_checks, checked_cdb}
 use Rattle.sg_target.specs.Checks.{checked_effect, if_it_outranks, outranking_attention}
 use Rattle.sg_target.specs.Checks.{checked_operation, checked_parse, empty_cdb, medium_checks, not_ready}
-use Rattle.sg_target.specs.Checks.{out_of_range, past_capacity, pending_attention, requested}
+use Rattle.sg_target.specs.Checks.{out_of_range, pending_attention, requested}
 use Rattle.sg_target.specs.Checks.{reservation_conflict, short_cdb, short_data_out, unknown_opcode}
 use Rattle.sg_target.specs.Checks.{unsupported_value, write_protection, writes_some}
-use Rattle.sg_target.specs.CommandLaws.{WritesOverUsedAddressesHaveSpace, blocks_to_write}
+use Rattle.sg_target.specs.CommandLaws.{AreUsed, WritesOverUsedAddressesHaveSpace, blocks_to_write}
 use Rattle.sg_target.specs.CommandLaws.{verified_blocks}
-use Rattle.sg_target.specs.Demands.{bad_atomic, bad_comparison, extent, need, too_long, write}
+use Rattle.sg_target.specs.DataOut.{DataOutNeed, blocks_need, moved, need}
+use Rattle.sg_target.specs.Demands.{Demands, bad_atomic, bad_comparison, extent, takes, too_long}
+use Rattle.sg_target.specs.Demands.{write}
 use Rattle.sg_target.specs.Effect.{Effect}
 use Rattle.sg_target.specs.Refusal.{checked_next, first_some, unless_refused}
 use Rattle.sg_target.specs.Semantics.{MediumUse, effect_of, medium_use}
@@ -139,21 +141,46 @@ module _ (state : State) (i : ℕ) (data_out : List ℕ) (out : Extent)
       (protection-none _ state.modes (medium_use asked) free.unprotected) refl)))
   by-request (Some refusal) h = cc
 
-  write-effect : (unsupported : Option ℕ) → unsupported ≡ None
-      → IsItsEffect
-      (checked_next
-      (checked_next (requested (write (config_of state) out unsupported data_out) data_out)
-      (checked_operation state))
-      (effect_of state i))
-  write-effect unsupported h =
-      by-request
-      (first_some
-      (unsupported_value unsupported
-      ∷ short_data_out (Some (need (config_of state) (bytes_of out))) data_out ∷ []))
+  -- a command with these demands passes its checks
+  abbrev Passes : Demands → Type 0
+  Passes d = IsItsEffect
+      (checked_next (checked_next (requested d data_out) (checked_operation state)) (effect_of state i))
+
+  -- one that needs the bytes of the blocks, and goes over all of them
+  blocks-effect : (need : DataOutNeed) → need.bytes ≡ bytes_of out → (its : Extent) → its ≡ out
+      → (unsupported : Option ℕ) → unsupported ≡ None
+      → Passes (record {
+        unsupported = unsupported;
+        data_out = Some need;
+        operation = Ok (operation.Write (blocks_out its data_out));
+      })
+  blocks-effect need bytes its all unsupported h =
+      subst
+      (λ (e : Extent). Passes (record {
+        unsupported = unsupported;
+        data_out = Some need;
+        operation = Ok (operation.Write (blocks_out e data_out));
+      }))
+      (sym all)
+      (by-request
+      (first_some (unsupported_value unsupported ∷ short_data_out (Some need) data_out ∷ []))
       (first-none (unsupported_value unsupported) _ (ap unsupported_value h)
-      (first-none (short_data_out (Some (need (config_of state) (bytes_of out))) data_out) []
-      (if-none (nat_lt (length data_out) (bytes_of out)) _
-      (at-most (bytes_of out) (length data_out) free.has_data)) refl))
+      (first-none (short_data_out (Some need) data_out) []
+      (if-none (nat_lt (length data_out) need.bytes) _
+      (at-most need.bytes (length data_out) (omega (arith, bytes, free.has_data)))) refl)))
+
+  write-effect : (unsupported : Option ℕ) → unsupported ≡ None
+      → Passes (write (config_of state) out unsupported data_out)
+  write-effect =
+      blocks-effect (blocks_need (config_of state) out) refl (moved (config_of state) out data_out)
+      (moved-all (config_of state) out data_out free.has_data)
+
+  abbrev write_all : Extent → (unsupported : Option ℕ) → Demands
+  write_all e unsupported =
+      takes (config_of state) (bytes_of e) unsupported (Ok (operation.Write (blocks_out e data_out)))
+
+  all-effect : (unsupported : Option ℕ) → unsupported ≡ None → Passes (write_all out unsupported)
+  all-effect = blocks-effect (need (config_of state) (bytes_of out)) refl out refl
 
   allowed-length : (byte : ℕ) → too_long (config_of state) out.count byte ≡ None
   allowed-length byte =
@@ -161,29 +188,16 @@ module _ (state : State) (i : ℕ) (data_out : List ℕ) (out : Extent)
       if-none (nat_lt most out.count) _ (at-most out.count most free.not_too_long)
 
   at-extent : (named : Extent) → named ≡ out → (unsupported : Option ℕ) → unsupported ≡ None
-      → IsItsEffect
-      (checked_next
-      (checked_next (requested (write (config_of state) named unsupported data_out) data_out)
-      (checked_operation state))
-      (effect_of state i))
+      → Passes (write (config_of state) named unsupported data_out)
   at-extent named is unsupported h =
-      subst
-      (λ (e : Extent). IsItsEffect
-      (checked_next
-      (checked_next (requested (write (config_of state) e unsupported data_out) data_out)
-      (checked_operation state))
-      (effect_of state i)))
-      (sym is) (write-effect unsupported h)
+      subst (λ (e : Extent). Passes (write (config_of state) e unsupported data_out)) (sym is)
+      (write-effect unsupported h)
 
   verifying : (check : ByteCheck) (named : Extent) → verified_blocks check named ≡ Some out
       → (byte : ℕ)
-      → IsItsEffect
-      (checked_next
-      (checked_next
-      (requested (write (config_of state) named
-      (bad_comparison check (too_long (config_of state) named.count byte)) data_out) data_out)
-      (checked_operation state))
-      (effect_of state i))
+      → Passes
+      (write (config_of state) named
+      (bad_comparison check (too_long (config_of state) named.count byte)) data_out)
   verifying check named is byte =
       let e = its-blocks check named out is in
       let length = too_long (config_of state) named.count byte in
@@ -235,9 +249,11 @@ module _ (state : State) (i : ℕ) (data_out : List ℕ) (out : Extent)
   by-command (Ok (command.WriteAtomic16 c)) is has =
       let named = extent c.lba c.count in
       let whole = its-undivided c.boundary named out is in
-      at-extent named whole.1 (bad_atomic (config_of state) c.boundary c.count)
+      let unsupported = bad_atomic (config_of state) c.boundary c.count in
+      subst (λ (e : Extent). Passes (write_all e unsupported)) (sym whole.1)
+      (all-effect unsupported
       (allowed-atomic c.boundary c.count whole.0 (ap (λ (e : Extent). e.count) whole.1)
-      (has (command.WriteAtomic16 c) refl))
+      (has (command.WriteAtomic16 c) refl)))
   by-command _ is has = cc
 
   by-cdb : (first : Option Refusal) → first ≡ None → (parse : Result Command CdbFault)
@@ -293,5 +309,7 @@ free-writes classes law state i cdb data_out out w is free =
     let same : blocks_to_write (command_of cdb) ≡ Some out =
     ap blocks_to_write (read-any (profile_of state) cdb written.command written.is ∙ sym written.is)
     ∙ is in
-    law state i cdb data_out out (writing state (blocks_out out data_out)) w same free.used
+    let used = subst (AreUsed state) (sym (moved-all (config_of state) out data_out free.has_data))
+    free.used in
+    law state i cdb data_out out (writing state (blocks_out out data_out)) w same used
     (effect-is classes state i cdb data_out out is free)

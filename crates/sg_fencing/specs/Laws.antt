@@ -18,9 +18,10 @@ use Rattle.sg_units.specs.Attentions.{oldest, without_oldest}
 use Rattle.sg_target.specs.BlockCommands.{bytes_of}
 use Rattle.sg_target.specs.Checks.{outranking_attention}
 use Rattle.sg_target.specs.CommandLaws.{AreUsed, blocks_to_write}
+use Rattle.sg_target.specs.DataOut.{moved}
 use Rattle.sg_target.specs.Effect.{Effect, with_contents}
 use Rattle.sg_target.specs.Semantics.{effect_of, medium_use}
-use Rattle.sg_target.specs.State.{IsWithinLimits, State, profile_of}
+use Rattle.sg_target.specs.State.{IsWithinLimits, State, config_of, profile_of}
 use Rattle.sg_target.specs.Step.{outcome, refusal_answer, step}
 use Rattle.sg_target.specs.declared.operation.Operation.{Operation}
 use Rattle.sg_target.specs.declared.refusal.Reason.TheVariants.{SpaceAllocationFailed}
@@ -90,8 +91,9 @@ OtherCommandsLeaveTheDisk =
 -- either format of sense data.
 abbrev pub WritesOverUsedAddressesAreNeverRefusedForSpace : Type 0
 WritesOverUsedAddressesAreNeverRefusedForSpace =
-    (state : State) (initiator : ℕ) (cdb data_out : List ℕ) (out : Extent) (format : Format)
-    → IsWithinLimits state → blocks_to_write (command_of cdb) ≡ Some out → AreUsed state out
+    (state : State) (initiator : ℕ) (cdb data_out : List ℕ) (named : Extent) (format : Format)
+    → IsWithinLimits state → blocks_to_write (command_of cdb) ≡ Some named
+    → AreUsed state (moved (config_of state) named data_out)
     → (step state initiator cdb data_out).answer
     ≢ refusal_answer format (CheckCondition SpaceAllocationFailed)
 
