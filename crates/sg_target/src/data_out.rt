@@ -1,5 +1,5 @@
 // How much data-out a command asks for. A command without all of it is refused before any address is
-// checked.
+// checked, unless the disk takes too little data-out of it.
 ghost use Rattle.std.specs.Prelude.{◌≡◌, ℕ, [], length, Some, None, IfOk, IfErr};
 ghost use Rattle.sg_wire.specs.FirstBytes.{first_bytes};
 ghost use Rattle.sg_target.specs.Checks.{short_data_out};

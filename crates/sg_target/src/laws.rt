@@ -128,7 +128,8 @@ pub fn reads_return_their_blocks()
 {}
 
 /// After a WRITE that ends with GOOD each of its blocks has its bytes of the data-out and is
-/// mapped. Nothing more has changed.
+/// mapped. Nothing more has changed. A disk that takes too little data-out writes only the blocks
+/// that data-out has in full.
 pub fn writes_leave_their_data()
     ensures { WritesLeaveTheirData }
 {
@@ -136,8 +137,8 @@ pub fn writes_leave_their_data()
     sg_store::laws::a_write_replaces_the_blocks_of_its_range();
 }
 
-/// A WRITE whose addresses are all mapped or anchored ends with GOOD if it passes the checks. So the
-/// disk never refuses it for space.
+/// A WRITE ends with GOOD if it passes the checks and each address that it writes is mapped or
+/// anchored. So the disk never refuses it for space.
 pub fn writes_over_used_addresses_have_space()
     ensures { WritesOverUsedAddressesHaveSpace }
 {
@@ -145,7 +146,8 @@ pub fn writes_over_used_addresses_have_space()
 }
 
 /// After an ORWRITE that ends with GOOD a bit of its blocks is 1 exactly if it was 1 or is 1 in the
-/// data-out. So no bit goes from 1 to 0. The blocks are mapped, and nothing more has changed.
+/// data-out. So no bit goes from 1 to 0. The blocks are mapped, and nothing more has changed. With
+/// too little data-out they are the blocks that data-out has in full.
 pub fn or_writes_set_the_bits_of_their_data()
     ensures { OrWritesSetTheBitsOfTheirData }
 {
