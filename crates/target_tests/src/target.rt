@@ -7,6 +7,7 @@ mod configuration;
 mod data_in;
 mod log;
 mod runs;
+mod short_data_out;
 
 use sg_pages::Identity;
 use sg_plain_map::PlainMap;
@@ -78,7 +79,12 @@ fn buffer(alloc: Global, len: usize) -> Result<Vec<u8>, AllocError>
 
 impl Disk {
     fn new(alloc: Global) -> Result<Disk, Fail> {
-        let config = Config::new(4_096, 4, Identity::standard()).or(Err("no configuration"))?;
+        Disk::of(alloc, Identity::standard())
+    }
+
+    /// The same, with an identity.
+    fn of(alloc: Global, identity: Identity) -> Result<Disk, Fail> {
+        let config = Config::new(4_096, 4, identity).or(Err("no configuration"))?;
         Ok(Disk {
             target: Target::new(alloc, config)?,
             buf: buffer(alloc, BUFFER_LENGTH)?,
