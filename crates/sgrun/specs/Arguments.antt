@@ -3,10 +3,11 @@
 -- order of a disk's checks.
 use Rattle.std.specs.Prelude.{◌≡◌, ◌⊎◌, ℕ, ◌^◌, ◌-◌, List, codes, Option, Some, None, Result, Ok}
 use Rattle.std.specs.Prelude.{Err, [], ◌∷◌, bytes_eq, find, Bool, true, false, not, ◌&&◌, is_some}
-use Rattle.std.specs.Prelude.{if◌then◌else◌}
+use Rattle.std.specs.Prelude.{if◌then◌else◌, option_map}
 use Rattle.clap.specs.Words.{Row, Text}
 use Rattle.sg_wire.specs.declared.profile.Profile.{Profile}
 use Rattle.sg_wire.specs.declared.profile.Profile.TheVariants.{Base, Extended}
+use Rattle.sg_wire.specs.Profile.{is_in}
 use Rattle.sg_pages.specs.Identity.{IdentityFields}
 use Rattle.sg_pages.specs.NewIdentity.{identity_of_seed}
 use Rattle.sg_pages.specs.declared.identity.IdentityFault.{IdentityFault}
@@ -16,6 +17,7 @@ use Rattle.sg_tools.specs.GivenOptions.{given_options, text_of}
 use Rattle.sg_tools.specs.OptionTexts.{number_or}
 use Rattle.sg_tools.specs.declared.tool_fault.ToolFault.{ToolFault}
 use Rattle.sgrun.specs.Options.{command_line}
+use Rattle.sgrun.specs.declared.named_profile.NamedProfile.{NamedProfile}
 use Rattle.sgrun.specs.Stops.{stop_of_config, stop_of_identity, stop_of_options}
 use Rattle.sgrun.specs.declared.stop.Stop.{Stop}
 use Rattle.sgrun.specs.declared.stop.Stop.TheVariants.{Usage, Number, OutOfMemory}
@@ -33,28 +35,56 @@ default_pool = 4
 abbrev pub default_seed : ℕ
 default_seed = 1
 
--- The name of a profile.
-abbrev pub name_of : Profile → List ℕ
-name_of Base = codes "base"
-name_of Extended = codes "extended"
+-- A name of `--profile`, and what a disk of it has: its profile, and whether it takes less data-out
+-- than a command needs.
+pub record ProfileRow : Type 0 where
+  pub name : List ℕ
+  pub named : NamedProfile
 
--- The profile with a name. Without a name it is the base profile.
-abbrev pub profile_named : Option Text → Option Profile
-profile_named None = Some Base
+abbrev pub named_profile : Profile → (takes_short_data_out : Bool) → NamedProfile
+named_profile profile takes_short_data_out = record {
+  profile = profile;
+  takes_short_data_out = takes_short_data_out;
+}
+
+abbrev pub profile_row : List ℕ → Profile → (takes_short_data_out : Bool) → ProfileRow
+profile_row name profile takes_short_data_out = record {
+  name = name;
+  named = named_profile profile takes_short_data_out;
+}
+
+-- One row for each name.
+abbrev pub profiles : List ProfileRow
+profiles =
+    profile_row (codes "base") Base false
+    ∷ profile_row (codes "extended") Extended false
+    ∷ profile_row (codes "extended-cut") Extended true
+    ∷ []
+
+-- What a name says of a disk. Without a name it is a disk of the base profile.
+abbrev pub profile_named : Option Text → Option NamedProfile
+profile_named None = Some (named_profile Base false)
 profile_named (Some name) =
-    find (λ profile. bytes_eq name (name_of profile)) (Base ∷ Extended ∷ [])
+    option_map (λ row. row.named) (find (λ row. bytes_eq name row.name) profiles)
 
--- Only `--profile extended` takes a seed.
-abbrev pub takes_seed : Option Profile → Bool
-takes_seed (Some Extended) = true
-takes_seed profile = false
+-- Only a disk of the extended profile takes a seed.
+abbrev pub takes_seed : Option NamedProfile → Bool
+takes_seed None = false
+takes_seed (Some named) = is_in Extended named.profile
+
+-- The names of a disk, with what a name of `--profile` says of it.
+abbrev pub identity_of : NamedProfile → IdentityFields → IdentityFields
+identity_of named names =
+    let with_profile = record names { profile = named.profile } in
+    if named.takes_short_data_out then record with_profile { takes_short_data_out = true }
+    else with_profile
 
 -- A disk with the names of a seed.
-abbrev pub disk_with : (blocks pool : ℕ) → Profile → IdentityFields → ConfigFields
-disk_with blocks pool profile names = record {
+abbrev pub disk_with : (blocks pool : ℕ) → NamedProfile → IdentityFields → ConfigFields
+disk_with blocks pool named names = record {
   blocks = blocks;
   pool = pool;
-  identity = record names { profile = profile };
+  identity = identity_of named names;
 }
 
 abbrev pub by_config : Result ConfigFields ConfigFault → Result ConfigFields Stop
@@ -62,11 +92,11 @@ by_config (Ok disk) = Ok disk
 by_config (Err fault) = Err (stop_of_config fault)
 
 -- Its numbers have to be in range.
-abbrev pub checked_disk : (blocks pool : ℕ) → Profile → Result IdentityFields IdentityFault
+abbrev pub checked_disk : (blocks pool : ℕ) → NamedProfile → Result IdentityFields IdentityFault
     → Result ConfigFields Stop
-checked_disk blocks pool profile (Err fault) = Err (stop_of_identity fault)
-checked_disk blocks pool profile (Ok names) =
-    by_config (checked_config (disk_with blocks pool profile names))
+checked_disk blocks pool named (Err fault) = Err (stop_of_identity fault)
+checked_disk blocks pool named (Ok names) =
+    by_config (checked_config (disk_with blocks pool named names))
 
 -- The number of an option's text, or the default if the option is not given.
 abbrev pub number_of_option : (default : ℕ) → Option Text → Option ℕ
@@ -76,26 +106,26 @@ abbrev pub with_number : Option ℕ → (ℕ → Result ConfigFields Stop) → R
 with_number None disk = Err Number
 with_number (Some number) disk = disk number
 
-abbrev pub with_profile : Option Profile → (Profile → Result ConfigFields Stop)
+abbrev pub with_profile : Option NamedProfile → (NamedProfile → Result ConfigFields Stop)
     → Result ConfigFields Stop
 with_profile None disk = Err BadProfile
-with_profile (Some profile) disk = disk profile
+with_profile (Some named) disk = disk named
 
 -- The numbers and the profile are read before a number is checked.
-abbrev pub disk_by : (profile : Option Profile) → List Row → Result ConfigFields Stop
-disk_by named rows =
+abbrev pub disk_by : Option NamedProfile → List Row → Result ConfigFields Stop
+disk_by profile rows =
     with_number (number_of_option default_blocks (text_of (codes "blocks") rows)) (λ blocks.
     with_number (number_of_option default_pool (text_of (codes "pool") rows)) (λ pool.
     with_number (number_of_option default_seed (text_of (codes "seed") rows)) (λ seed.
-    with_profile named (λ profile.
-    checked_disk blocks pool profile (identity_of_seed seed)))))
+    with_profile profile (λ named.
+    checked_disk blocks pool named (identity_of_seed seed)))))
 
 -- A seed that the profile does not take is refused first, as an option that does not exist is.
 abbrev pub disk_of : List Row → Result ConfigFields Stop
 disk_of rows =
-    let named = profile_named (text_of (codes "profile") rows) in
-    if is_some (text_of (codes "seed") rows) && not (takes_seed named) then Err Usage
-    else disk_by named rows
+    let profile = profile_named (text_of (codes "profile") rows) in
+    if is_some (text_of (codes "seed") rows) && not (takes_seed profile) then Err Usage
+    else disk_by profile rows
 
 -- ---- Every option
 

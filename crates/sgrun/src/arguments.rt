@@ -28,15 +28,14 @@ ghost use Rattle.std.specs.String.{string_bytes};
 ghost use Rattle.clap.specs.Words.{app_of, rule_of};
 ghost use Rattle.sg_tools.specs.Options.{rule};
 ghost use Rattle.sgrun.specs.Arguments.{IsUnlessOutOfMemory, arguments, arguments_of, checked_disk};
-ghost use Rattle.sgrun.specs.Arguments.{disk_by, disk_of, number_of_option, profile_named};
-ghost use Rattle.sgrun.specs.Arguments.{takes_seed};
+ghost use Rattle.sgrun.specs.Arguments.{disk_by, disk_of, number_of_option};
 ghost use Rattle.sgrun.specs.Options.{command_line, text_option};
 
+use crate::named_profile::{NamedProfile, profile_named, takes_seed};
 use crate::stop::Stop;
 use clap::{Arg, ArgAction, Command};
 use sg_pages::{Identity, IdentityFault};
 use sg_tools::{GivenOptions, number_or};
-use sg_wire::Profile;
 use std::alloc::{AllocError, Global};
 
 // The disk's logical blocks, the number of them that can be mapped at once, and the seed of its names,
@@ -53,7 +52,7 @@ impl<'a> Arguments<'a> {
     /// # Errors
     /// The first of these that applies:
     /// - `Usage` if clap does not accept the words, or if they ask for help, or if they have `--seed`
-    ///   without `--profile extended`.
+    ///   without a profile that takes it.
     /// - `Number` if the text of `--blocks`, `--pool` or `--seed` is no number.
     /// - `Profile` if no profile has the name of `--profile`.
     /// - `Seed` if the seed has more than 60 bits.
@@ -90,14 +89,14 @@ fn disk<'a>(options: &GivenOptions) -> Result<Config, Stop<'a>>
 }
 
 /// The disk of a profile that options ask for. None is no profile.
-fn disk_by<'a>(profile: Option<Profile>, options: &GivenOptions) -> Result<Config, Stop<'a>>
+fn disk_by<'a>(profile: Option<NamedProfile>, options: &GivenOptions) -> Result<Config, Stop<'a>>
     ensures { result ≡ disk_by profile options.now }
 {
     let blocks = number_of_option(DEFAULT_BLOCKS, options.text("blocks")).ok_or(Stop::Number)?;
     let pool = number_of_option(DEFAULT_POOL, options.text("pool")).ok_or(Stop::Number)?;
     let seed = number_of_option(DEFAULT_SEED, options.text("seed")).ok_or(Stop::Number)?;
-    let profile = profile.ok_or(Stop::Profile)?;
-    checked_disk(blocks, pool, profile, Identity::from_seed(seed))
+    let named = profile.ok_or(Stop::Profile)?;
+    checked_disk(blocks, pool, named, Identity::from_seed(seed))
 }
 
 /// The number of a text, or the default if there is no text.
@@ -107,36 +106,18 @@ fn number_of_option(default: u64, text: Option<&str>) -> Option<u64>
     number_or(default, u64::MAX, text)
 }
 
-/// The profile with a name. Without a name it is the base profile.
-fn profile_named(name: Option<&str>) -> Option<Profile>
-    ensures { result ≡ profile_named (option_map (λ n. n.now) name.entry) }
-{
-    match name {
-        None | Some("base") => Some(Profile::Base),
-        Some("extended") => Some(Profile::Extended),
-        Some(_) => None,
-    }
-}
-
-/// Whether a profile takes the option `--seed`.
-fn takes_seed(profile: Option<Profile>) -> bool
-    ensures { result ≡ takes_seed profile }
-{
-    matches!(profile, Some(Profile::Extended))
-}
-
 /// A disk of a size and a profile, with the names of an identity, if there can be one.
 fn checked_disk<'a>(
     blocks: u64,
     pool: u64,
-    profile: Profile,
+    named: NamedProfile,
     names: Result<Identity, IdentityFault>,
 ) -> Result<Config, Stop<'a>>
-    ensures { result ≡ checked_disk blocks pool profile names }
+    ensures { result ≡ checked_disk blocks pool named names }
 {
     // A number that is no u32 is too large for any pool. So it is refused as 0 is.
     let pool = u32::try_from(pool).unwrap_or(0);
-    let identity = names?.with_profile(profile);
+    let identity = named.identity(names?);
     Ok(Config::new(blocks, pool, identity)?)
 }
 

@@ -3,6 +3,7 @@
 #![tactic(auto)]
 
 mod arguments;
+mod named_profile;
 mod new_disk;
 mod stop;
 #[cfg(test)]

@@ -5,7 +5,7 @@ use std::alloc::{AllocError, Global};
 use std::test::Fail;
 
 /// The words after the program's name, the disk's blocks, pool and profile, and the script's file.
-const ASKED: [(&str, u64, u32, Profile, Option<&str>); 15] = [
+const ASKED: [(&str, u64, u32, Profile, Option<&str>); 17] = [
     ("", 4_096, 4, Profile::Base, None),
     ("--blocks 1", 1, 4, Profile::Base, None),
     ("--blocks=0x1f --pool 5", 31, 5, Profile::Base, None),
@@ -45,10 +45,18 @@ const ASKED: [(&str, u64, u32, Profile, Option<&str>); 15] = [
         Profile::Extended,
         None,
     ),
+    ("--profile extended-cut", 4_096, 4, Profile::Extended, None),
+    (
+        "--profile=extended-cut --blocks 2 --pool 4294967295",
+        2,
+        4_294_967_295,
+        Profile::Extended,
+        None,
+    ),
 ];
 
 /// The words after the program's name, and the message of the stop.
-const REFUSED: [(&str, &str); 36] = [
+const REFUSED: [(&str, &str); 42] = [
     ("FILE", "usage"),
     ("-h", "usage"),
     ("--help", "usage"),
@@ -88,10 +96,16 @@ const REFUSED: [(&str, &str); 36] = [
         "--profile extended --blocks 0 --seed 0x1000000000000000",
         "seed",
     ),
+    ("--profile extended-cu", "profile"),
+    ("--profile extended-cut-", "profile"),
+    ("--profile base-cut", "profile"),
+    ("--profile base-cut --seed 1", "usage"),
+    ("--profile extended-cut --pool 4294967296", "pool"),
+    ("--profile extended-cut --seed 0x1000000000000000", "seed"),
 ];
 
 /// The words after the program's name, and the disk's serial number and locally assigned identifier.
-const NAMED: [(&str, &[u8; 8], u64); 5] = [
+const NAMED: [(&str, &[u8; 8], u64); 7] = [
     ("", b"00000001", 1),
     ("--profile extended", b"00000001", 1),
     ("--profile extended --seed 0", b"00000000", 0),
@@ -105,6 +119,17 @@ const NAMED: [(&str, &[u8; 8], u64); 5] = [
         b"ffffffff",
         (1 << 60) - 1,
     ),
+    ("--profile extended-cut", b"00000001", 1),
+    ("--seed 0x12 --profile extended-cut", b"00000012", 0x12),
+];
+
+/// The words after the program's name, and whether the disk takes less data-out than a command needs.
+const TAKING: [(&str, bool); 5] = [
+    ("", false),
+    ("--profile base", false),
+    ("--profile extended", false),
+    ("--profile extended-cut", true),
+    ("--seed 2 --profile=extended-cut", true),
 ];
 
 /// A command line: the program's name, and words with blanks between them.
@@ -141,6 +166,18 @@ fn a_seed_names_the_disk(rt: HostRuntime) -> Result<(), Fail> {
         };
         let identity = arguments.disk.identity();
         assert!(rt; identity.serial() == serial && identity.local() == local);
+    }
+    Ok(())
+}
+
+#[test]
+fn a_profile_says_whether_too_little_data_out_is_taken(rt: HostRuntime) -> Result<(), Fail> {
+    for (line, takes) in TAKING {
+        let words = words(rt.alloc(), line)?;
+        let Ok(arguments) = Arguments::parse(rt.alloc(), words.as_slice()) else {
+            return Err(Fail::from(line));
+        };
+        assert_eq!(rt; arguments.disk.identity().takes_short_data_out(), takes);
     }
     Ok(())
 }
