@@ -115,8 +115,11 @@ typedef struct mdl_identity {
 
 /* The commands that a disk has. docs/PROFILE.md of the source lists them. */
 typedef enum mdl_profile {
-    MDL_PROFILE_BASE = 0,    /* the commands that every disk has */
-    MDL_PROFILE_EXTENDED = 1 /* these and more, and a far larger pool */
+    MDL_PROFILE_BASE = 0,        /* the commands that every disk has */
+    MDL_PROFILE_EXTENDED = 1,    /* these and more, and a far larger pool */
+    MDL_PROFILE_EXTENDED_CUT = 2 /* the same; but a WRITE, a WRITE AND VERIFY, an ORWRITE or a VERIFY
+                                    with too little data-out is executed, and not refused. It goes
+                                    over its first blocks, as many as data-out has in full. */
 } mdl_profile;
 
 #define MDL_GOOD 0x00
@@ -152,8 +155,8 @@ typedef struct mdl_reply {
  * MDL_POOL or MDL_OUT_OF_MEMORY. The first that applies is returned, and `disk` stays as it was. */
 mdl_error mdl_make(mdl_disk *disk, uint64_t blocks, uint32_t pool, const mdl_identity *identity);
 
-/* Makes a disk as mdl_make does, but of any profile: `profile` is one of mdl_profile. The pool of an
- * extended disk has up to 4,294,967,295 blocks, each of which takes some 630 bytes.
+/* Makes a disk as mdl_make does, but of any profile: `profile` is one of mdl_profile. The pool of a
+ * disk of an extended profile has up to 4,294,967,295 blocks, each of which takes some 630 bytes.
  * Errors: MDL_NULL_POINTER, MDL_UNKNOWN_PROFILE, or an error of mdl_make. The first that applies is
  * returned, and `disk` stays as it was. */
 mdl_error mdl_make_with_profile(mdl_disk *disk, uint32_t profile, uint64_t blocks, uint32_t pool,

@@ -1,5 +1,5 @@
 /* How many bytes of data-out each CDB asks for: by SPC-4 and SBC-3, executed or refused, on disks of
- * both profiles, with any data-out, and while a fault is armed. */
+ * each profile, with any data-out, and while a fault is armed. */
 #include <stdio.h>
 #include <string.h>
 
@@ -102,14 +102,18 @@ static void ask_while_busy(mdl_disk *disk)
 
 int main(void)
 {
-    mdl_disk base = MDL_NONE, extended = MDL_NONE;
+    mdl_disk base = MDL_NONE, extended = MDL_NONE, cut = MDL_NONE;
 
     WANT(mdl_make(&base, BLOCKS, POOL, NULL) == MDL_OK, -1);
     WANT(mdl_make_with_profile(&extended, MDL_PROFILE_EXTENDED, BLOCKS, POOL, NULL) == MDL_OK, -1);
+    WANT(mdl_make_with_profile(&cut, MDL_PROFILE_EXTENDED_CUT, BLOCKS, POOL, NULL) == MDL_OK, -1);
     ask_for_each(&base, 0);
     ask_for_each(&extended, 1);
+    ask_for_each(&cut, 1);
     ask_while_busy(&extended);
+    ask_while_busy(&cut);
     mdl_free(&base);
     mdl_free(&extended);
+    mdl_free(&cut);
     return failures > 0;
 }

@@ -152,9 +152,10 @@ assert refusal(Disk, 64, 4, identity("\x7f")) == Error.IDENTITY_TEXT
 assert bytes(identity_of_seed(0xF00D)) == bytes(identity(serial="0000f00d", local=0xF00D))
 assert refusal(identity_of_seed, 1 << 60) == Error.IDENTITY_LOCAL
 assert refusal(identity_of_seed, 1 << 64) is ValueError
-with Disk(64, 4, identity_of_seed(1), Profile.EXTENDED) as disk:
-    assert disk.execute(0, INQUIRY).status == GOOD
-assert refusal(Disk, 64, 4, None, 2) == Error.UNKNOWN_PROFILE
+for profile in Profile:
+    with Disk(64, 4, identity_of_seed(1), profile) as disk:
+        assert disk.execute(0, INQUIRY).status == GOOD
+assert refusal(Disk, 64, 4, None, max(Profile) + 1) == Error.UNKNOWN_PROFILE
 assert refusal(Disk, 64, 4, None, 1 << 32) is ValueError
 assert refusal(identity, "NINE BYTE") is ValueError and refusal(identity, "\xe9") is ValueError
 assert refusal(decode, max(Kind) + 1, b"") is ValueError

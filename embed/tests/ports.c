@@ -58,16 +58,18 @@ static void refuse_profiles(void)
 
     WANT(mdl_make_with_profile(NULL, MDL_PROFILE_BASE, 64, 4, NULL) == MDL_NULL_POINTER);
     own.vendor[0] = 0x1F;
-    WANT(mdl_make_with_profile(&disk, 2, 0, 4, &own) == MDL_UNKNOWN_PROFILE && !disk.target);
+    WANT(mdl_make_with_profile(&disk, 3, 0, 4, &own) == MDL_UNKNOWN_PROFILE && !disk.target);
     WANT(mdl_make_with_profile(&disk, 256, 0, 4, NULL) == MDL_UNKNOWN_PROFILE && !disk.target);
     WANT(mdl_make_with_profile(&disk, UINT32_MAX, 64, 4, NULL) == MDL_UNKNOWN_PROFILE);
     WANT(mdl_make_with_profile(&disk, MDL_PROFILE_EXTENDED, 0, 4, &own) == MDL_IDENTITY_TEXT);
     WANT(mdl_make_with_profile(&disk, MDL_PROFILE_EXTENDED, 0, 4, NULL) == MDL_BLOCKS);
+    WANT(mdl_make_with_profile(&disk, MDL_PROFILE_EXTENDED_CUT, 0, 4, &own) == MDL_IDENTITY_TEXT);
+    WANT(mdl_make_with_profile(&disk, MDL_PROFILE_EXTENDED_CUT, 0, 4, NULL) == MDL_BLOCKS);
     WANT(mdl_make_with_profile(&disk, MDL_PROFILE_BASE, 64, 0, NULL) == MDL_POOL && !disk.target);
     WANT(mdl_make_with_profile(&disk, MDL_PROFILE_EXTENDED, 64, 4, NULL) == MDL_OK);
     target = disk.target;
     WANT(mdl_make_with_profile(&disk, MDL_PROFILE_BASE, 0, 4, NULL) == MDL_DISK_EXISTS);
-    WANT(mdl_make_with_profile(&disk, 2, 64, 4, NULL) == MDL_UNKNOWN_PROFILE);
+    WANT(mdl_make_with_profile(&disk, 3, 64, 4, NULL) == MDL_UNKNOWN_PROFILE);
     WANT(target && disk.target == target);
     mdl_free(&disk);
 }
@@ -80,7 +82,7 @@ static void show_identities(void)
     uint32_t profile;
 
     own.vendor[7] = 'A';
-    for (profile = MDL_PROFILE_BASE; profile <= MDL_PROFILE_EXTENDED; profile++) {
+    for (profile = MDL_PROFILE_BASE; profile <= MDL_PROFILE_EXTENDED_CUT; profile++) {
         WANT(mdl_make_with_profile(&disk, profile, 64, 4, &own) == MDL_OK);
         WANT(status_of(0, inquiry, 6, NULL, 0) == MDL_GOOD && !memcmp(data_in + 8, own.vendor, 8));
         mdl_free(&disk);

@@ -6,7 +6,8 @@
  *                                    and prints into DIR/SEED.
  *     random events SEED COUNT       prints them as a script for a disk of the extended profile, with
  *                                    all that can happen between two commands.
- *     random extended SEED COUNT     executes them on such a disk, and prints what sgrun prints. */
+ *     random extended SEED COUNT     executes them on such a disk, and prints what sgrun prints.
+ *     random extended-cut SEED COUNT does so on a disk that takes too little data-out. */
 #include <inttypes.h>
 #include <pthread.h>
 #include <stdio.h>
@@ -296,8 +297,17 @@ static int run_threads(uint64_t seed, unsigned long count, const char *folder)
     return status;
 }
 
+/* The words that run commands on a disk, by its profile. */
+static const char *const runs[] = {
+    [MDL_PROFILE_BASE] = "run",
+    [MDL_PROFILE_EXTENDED] = "extended",
+    [MDL_PROFILE_EXTENDED_CUT] = "extended-cut",
+};
+
 int main(int count, char **words)
 {
+    uint32_t profile;
+
     if (count < 4)
         return 2;
     if (strcmp(words[1], "script") == 0 || strcmp(words[1], "events") == 0) {
@@ -305,9 +315,10 @@ int main(int count, char **words)
                      strtoull(words[2], NULL, 10), strtoul(words[3], NULL, 10));
         return 0;
     }
-    if (strcmp(words[1], "run") == 0 || strcmp(words[1], "extended") == 0)
-        return run(words[1][0] == 'r' ? MDL_PROFILE_BASE : MDL_PROFILE_EXTENDED,
-                   strtoull(words[2], NULL, 10), strtoul(words[3], NULL, 10), stdout);
+    for (profile = MDL_PROFILE_BASE; profile <= MDL_PROFILE_EXTENDED_CUT; profile++)
+        if (strcmp(words[1], runs[profile]) == 0)
+            return run((mdl_profile)profile, strtoull(words[2], NULL, 10),
+                       strtoul(words[3], NULL, 10), stdout);
     if (strcmp(words[1], "shared") == 0)
         return run_shared(strtoull(words[2], NULL, 10), strtoul(words[3], NULL, 10));
     return count > 4 ? run_threads(strtoull(words[2], NULL, 10), strtoul(words[3], NULL, 10), words[4]) : 2;

@@ -264,5 +264,6 @@ int main(void)
     refuse();
     let_happen(MDL_PROFILE_BASE);
     let_happen(MDL_PROFILE_EXTENDED);
+    let_happen(MDL_PROFILE_EXTENDED_CUT);
     return failures != 0;
 }

@@ -1,5 +1,6 @@
 -- The profile of a new disk: its number in the header, and the identity that a disk of it has.
-use Rattle.std.specs.Prelude.{ℕ, List, [], ◌∷◌, Option, Some, None, Result, Ok, Err, slice_get}
+use Rattle.std.specs.Prelude.{ℕ, Bool, true, false, List, [], ◌∷◌, Option, Some, None, Result, Ok}
+use Rattle.std.specs.Prelude.{Err, slice_get, if◌then◌else◌}
 use Rattle.sg_wire.specs.declared.profile.Profile.{Profile}
 use Rattle.sg_wire.specs.declared.profile.Profile.TheVariants.{Base, Extended}
 use Rattle.sg_pages.specs.Identity.{IdentityFields}
@@ -7,23 +8,43 @@ use Rattle.sg_pages.specs.declared.identity.IdentityFault.{IdentityFault}
 use Rattle.sg_embed.specs.Outcome.{identity_outcome}
 use Rattle.sg_embed.specs.declared.outcome.Outcome.{Outcome}
 use Rattle.sg_embed.specs.declared.outcome.Outcome.TheVariants.{UnknownProfile}
+use Rattle.sg_embed.specs.declared.profiles.NumberedProfile.{NumberedProfile}
 
--- The profiles, in the order of their numbers in the header, from 0 on.
-abbrev pub profiles : List Profile
-profiles = Base ∷ Extended ∷ []
+-- What a number of the header says of a disk: its profile, and whether it takes less data-out than a
+-- command needs.
+abbrev pub numbered : Profile → (takes_short_data_out : Bool) → NumberedProfile
+numbered profile takes_short_data_out = record {
+  profile = profile;
+  takes_short_data_out = takes_short_data_out;
+}
 
-abbrev pub profile_numbered : ℕ → Option Profile
+-- In the order of their numbers in the header, from 0 on.
+abbrev pub profiles : List NumberedProfile
+profiles =
+    numbered Base false
+    ∷ numbered Extended false
+    ∷ numbered Extended true
+    ∷ []
+
+abbrev pub profile_numbered : ℕ → Option NumberedProfile
 profile_numbered number = slice_get profiles number
 
--- The names of an identity, with a profile.
-abbrev pub with_profile : Profile → Result IdentityFields IdentityFault → Result IdentityFields Outcome
-with_profile profile (Ok names) = Ok (record names { profile = profile })
-with_profile profile (Err fault) = Err (identity_outcome fault)
+-- The names of an identity, with what a number says of the disk.
+abbrev pub identity_of : NumberedProfile → IdentityFields → IdentityFields
+identity_of numbered names =
+    let with_profile = record names { profile = numbered.profile } in
+    if numbered.takes_short_data_out then record with_profile { takes_short_data_out = true }
+    else with_profile
 
-abbrev pub with_known_profile : Option Profile → Result IdentityFields IdentityFault
+abbrev pub with_profile : NumberedProfile → Result IdentityFields IdentityFault
+    → Result IdentityFields Outcome
+with_profile numbered (Ok names) = Ok (identity_of numbered names)
+with_profile numbered (Err fault) = Err (identity_outcome fault)
+
+abbrev pub with_known_profile : Option NumberedProfile → Result IdentityFields IdentityFault
     → Result IdentityFields Outcome
 with_known_profile None identity = Err UnknownProfile
-with_known_profile (Some profile) identity = with_profile profile identity
+with_known_profile (Some numbered) identity = with_profile numbered identity
 
 -- An identity with the profile that has a number, or why it is refused. The profile is checked
 -- first.

@@ -1,12 +1,34 @@
 // The profiles of a disk, by the numbers that the header has for C.
 ghost use Rattle.std.specs.Prelude.{◌≡◌, ◌≢◌, IfErr};
-ghost use Rattle.sg_embed.specs.Profiles.{identity_with_profile, profile_numbered};
+ghost use Rattle.sg_embed.specs.Profiles.{identity_of, identity_with_profile, profile_numbered};
 
 use crate::outcome::Outcome;
 use sg_pages::{Identity, IdentityFault};
 use sg_wire::Profile;
 
-const PROFILES: [Profile; 2] = [Profile::Base, Profile::Extended];
+/// What a number of the header says of a disk.
+#[derive(Clone, Copy)]
+pub(crate) struct NumberedProfile {
+    /// Which commands it has.
+    profile: Profile,
+    /// Whether it takes less data-out than a command needs.
+    takes_short_data_out: bool,
+}
+
+const PROFILES: [NumberedProfile; 3] = [
+    NumberedProfile {
+        profile: Profile::Base,
+        takes_short_data_out: false,
+    },
+    NumberedProfile {
+        profile: Profile::Extended,
+        takes_short_data_out: false,
+    },
+    NumberedProfile {
+        profile: Profile::Extended,
+        takes_short_data_out: true,
+    },
+];
 
 /// An identity with the profile that has a number of the header.
 ///
@@ -20,18 +42,32 @@ pub fn identity_with_profile(
     ensures value { result ≡ identity_with_profile number identity }
     ensures refused { IfErr result (λ outcome. outcome ≢ Outcome.Done) }
 {
-    let Some(profile) = profile_numbered(number) else {
+    let Some(numbered) = profile_numbered(number) else {
         return Err(Outcome::UnknownProfile);
     };
     match identity {
-        Ok(names) => Ok(names.with_profile(profile)),
+        Ok(names) => Ok(numbered.identity(names)),
         Err(fault) => Err(Outcome::of_identity(fault)),
     }
 }
 
 /// The profile with a number of the header.
-fn profile_numbered(number: u32) -> Option<Profile>
+fn profile_numbered(number: u32) -> Option<NumberedProfile>
     ensures { result ≡ profile_numbered number }
 {
     PROFILES.get(number as usize).copied()
+}
+
+impl NumberedProfile {
+    /// The identity of a disk of this number: the same texts.
+    fn identity(self, names: Identity) -> Identity
+        ensures { result ≡ identity_of self names }
+    {
+        let identity = names.with_profile(self.profile);
+        if self.takes_short_data_out {
+            identity.taking_short_data_out()
+        } else {
+            identity
+        }
+    }
 }

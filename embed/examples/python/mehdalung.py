@@ -50,9 +50,10 @@ class Error(IntEnum):
 
 
 class Profile(IntEnum):
-    """mdl_profile: the commands that a disk has."""
+    """mdl_profile: the commands that a disk has, and what it does with too little data-out."""
     BASE = 0
     EXTENDED = 1
+    EXTENDED_CUT = 2
 
 
 class FaultOutcome(IntEnum):

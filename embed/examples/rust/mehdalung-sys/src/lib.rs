@@ -49,6 +49,7 @@ pub mod error {
 pub mod profile {
     pub const BASE: u32 = 0;
     pub const EXTENDED: u32 = 1;
+    pub const EXTENDED_CUT: u32 = 2;
 }
 
 /// `mdl_fault_outcome`.

@@ -150,9 +150,11 @@ fn calls_are_refused() -> Result<(), Error> {
     assert_eq!(Disk::new(0, 4, None).err(), Some(Error::Blocks));
     assert_eq!(Disk::new(64, 65_537, None).err(), Some(Error::Pool));
     assert_eq!(disk.forget(8), Err(Error::NoInitiator));
-    assert_eq!(Disk::with_profile(2, 64, 4, None).err(), Some(Error::UnknownProfile));
+    assert_eq!(Disk::with_profile(3, 64, 4, None).err(), Some(Error::UnknownProfile));
     let mut extended = Disk::with_profile(profile::EXTENDED, 64, 4, None)?;
     assert_eq!(extended.execute(0, &INQUIRY, &[])?.status(), GOOD);
+    let mut cut = Disk::with_profile(profile::EXTENDED_CUT, 64, 4, None)?;
+    assert_eq!(cut.execute(0, &INQUIRY, &[])?.status(), GOOD);
     assert_eq!(decode(kind::DEFECTS_12 + 1, &[]), None);
     assert!(version().unwrap().starts_with("mehdalung "));
     Ok(())
