@@ -271,7 +271,7 @@ past-none : (capacity end : ℕ) (refusal : Refusal) (checks : List (Option Refu
 past-none capacity end refusal checks true past e = cc
 past-none capacity end refusal checks false past e = (grind (arith, nat_tests), e)
 
-on_disk : (capacity : ℕ) (extents : List Extent) → out_of_range capacity extents ≡ None
+pub on_disk : (capacity : ℕ) (extents : List Extent) → out_of_range capacity extents ≡ None
     → AreOnDisk capacity extents
 unfolding out_of_range
 on_disk capacity [] e = tt

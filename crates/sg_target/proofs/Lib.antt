@@ -16,6 +16,7 @@ mod EachExtentLemmas
 pub mod MovedLemmas
 pub mod OrWriteLemmas
 pub mod CommandLemmas
+mod NamedBlocksLemmas
 mod OrWriteLawLemmas
 mod WrittenBlocksLemmas
 mod EmptyingLemmas

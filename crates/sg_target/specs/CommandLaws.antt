@@ -1,7 +1,8 @@
 -- Laws of the commands on blocks: what `step` returns and leaves if one of them ends with GOOD.
 use Rattle.std.specs.FinMap.{len}
 use Rattle.std.specs.Int.{bit_at}
-use Rattle.std.specs.Prelude.{◌≡◌, ◌≢◌, ℕ, ◌-◌, ◌==◌, ◌||◌, Bool, true, false, if◌then◌else◌}
+use Rattle.std.specs.Prelude.{◌≡◌, ◌≢◌, ◌≤◌, ℕ, ◌+◌, ◌-◌, ◌==◌, ◌||◌, Bool, true, false}
+use Rattle.std.specs.Prelude.{if◌then◌else◌}
 use Rattle.std.specs.Prelude.{List, [], ◌∷◌, length, slice_index_or}
 use Rattle.std.specs.Prelude.{Option, Some, None, Result, Ok, Err}
 use Rattle.sg_wire.specs.FirstBytes.{first_bytes}
@@ -106,6 +107,13 @@ WritesLeaveTheirData =
     → let out = moved (config_of state) named data_out in
     Changes state (step state initiator cdb data_out).state (lies_in out.lba out.count) Mapped
     (λ address. block_at data_out (address - out.lba))
+
+-- Each block that the CDB names is on the disk, even if data-out has too few bytes for it.
+abbrev pub WritesNameBlocksOfTheDisk : Type 0
+WritesNameBlocksOfTheDisk =
+    (state : State) (initiator : ℕ) (cdb data_out : List ℕ) (named : Extent)
+    → blocks_to_write (command_of cdb) ≡ Some named → EndsWithGood state initiator cdb data_out
+    → named.lba + named.count ≤ state.disk.capacity
 
 -- Each address of an extent has a block of the pool: it is mapped or anchored.
 abbrev pub AreUsed : State → Extent → Type 0

@@ -27,8 +27,7 @@ need config bytes =
     record { bytes = bytes; if_short = Some (CheckCondition (short_reason config)) }
 
 -- A disk can take too little data-out of a WRITE, an ORWRITE or a VERIFY. Then the command goes over the
--- blocks that data-out has in full. It is still refused if one of all the blocks that its CDB names is not
--- on the disk.
+-- blocks that data-out has in full. Each block that its CDB names has to be on the disk even then.
 abbrev pub blocks_need : ConfigFields → Extent → DataOutNeed
 blocks_need config extent = record {
   bytes = bytes_of extent;

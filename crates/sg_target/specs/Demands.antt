@@ -154,7 +154,7 @@ too_long config transfer_length byte =
 abbrev pub read : Extent → (unsupported : Option ℕ) → Demands
 read extent unsupported = takes_no_data unsupported (Ok (operation.Read extent))
 
--- A WRITE, an ORWRITE or a VERIFY with data-out moves blocks.
+-- A WRITE, an ORWRITE or a VERIFY takes the bytes of its blocks.
 abbrev pub takes_blocks : ConfigFields → Extent → (unsupported : Option ℕ)
     → (BlocksOutFields → Operation) → (data_out : List ℕ) → Demands
 takes_blocks config extent unsupported asked data_out = record {

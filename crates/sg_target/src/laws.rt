@@ -4,6 +4,7 @@ ghost use Rattle.sg_target.specs.CommandLaws.{CommandsWriteOnlyTheirBlocks, Form
 ghost use Rattle.sg_target.specs.CommandLaws.{OrWritesSetTheBitsOfTheirData};
 ghost use Rattle.sg_target.specs.CommandLaws.{ReadsReturnTheirBlocks, UnmapsFollowTheirLists};
 ghost use Rattle.sg_target.specs.CommandLaws.{WriteSamesLeaveTheirBlock, WritesLeaveTheirData};
+ghost use Rattle.sg_target.specs.CommandLaws.{WritesNameBlocksOfTheDisk};
 ghost use Rattle.sg_target.specs.CommandLaws.{WritesOverUsedAddressesHaveSpace};
 ghost use Rattle.sg_target.specs.Laws.{AnchorsEachExtent, ConfigurationStays};
 ghost use Rattle.sg_target.specs.Laws.{FoundRefusalsChangeNothing, HappeningsLeaveTheRest};
@@ -136,6 +137,12 @@ pub fn writes_leave_their_data()
     sg_store::laws::a_write_maps_the_addresses_of_its_range();
     sg_store::laws::a_write_replaces_the_blocks_of_its_range();
 }
+
+/// A WRITE that ends with GOOD names no block past the last one. So a disk that takes too little
+/// data-out writes nothing if the WRITE reaches past its end.
+pub fn writes_name_blocks_of_the_disk()
+    ensures { WritesNameBlocksOfTheDisk }
+{}
 
 /// A WRITE ends with GOOD if it passes the checks and each address that it writes is mapped or
 /// anchored. So the disk never refuses it for space.
