@@ -2,7 +2,7 @@
 use Rattle.std.proofs.Common.{◌≡◌, ◌≤◌, ℕ, ◌+◌, List, [], ◌∷◌, length, Bool, true, false, cond}
 use Rattle.std.proofs.Common.{Option, Some, None, Ok, refl, sym, ap, ◌∙◌, subst, arith}
 use Rattle.std.proofs.lemmas.Bool.Decides.{nat_tests}
-use Rattle.std.specs.Prelude.{max, nat_lt}
+use Rattle.std.specs.Prelude.{nat_lt}
 use Rattle.sg_wire.specs.declared.command.Command.{Command}
 use Rattle.sg_wire.specs.declared.command.Command.TheVariants as command
 use Rattle.sg_wire.specs.declared.extent.Extent.{Extent}
@@ -39,17 +39,11 @@ module _ (config : ConfigFields) (named : Extent) (data_out : List ℕ)
   all-on : bytes_of named ≤ length data_out → IsOnDisk config.blocks named
   all-on long = subst (IsOnDisk config.blocks) (moved-all config named data_out long) on
 
-  not-past : (is_past : Bool) (refusal : Refusal)
-      → nat_lt config.blocks (named.lba + named.count) ≡ is_past
-      → cond is_past (Some refusal) None ≡ None → IsOnDisk config.blocks named
-  not-past true refusal past e = cc
-  not-past false refusal past e = grind (arith, nat_tests)
-
   short-on : (takes_short : Bool)
       → cond takes_short (past_capacity config.blocks named) (Some (CheckCondition (short_reason config)))
       ≡ None
       → IsOnDisk config.blocks named
-  short-on true e = not-past (nat_lt config.blocks (named.lba + named.count)) _ refl e
+  short-on true e = grind (arith, nat_tests)
   short-on false e = cc
 
   either-on : (is_short : Bool) → nat_lt (length data_out) (bytes_of named) ≡ is_short
