@@ -35,6 +35,20 @@ static int read_text(const char *text, uint8_t *field, size_t length)
     return 1;
 }
 
+static int read_profile(const char *text, uint32_t *profile)
+{
+    static const char *const names[] = {
+        [MDL_PROFILE_BASE] = "base",
+        [MDL_PROFILE_EXTENDED] = "extended",
+        [MDL_PROFILE_EXTENDED_CUT] = "extended-cut",
+    };
+
+    for (*profile = MDL_PROFILE_BASE; *profile <= MDL_PROFILE_EXTENDED_CUT; ++*profile)
+        if (strcmp(text, names[*profile]) == 0)
+            return 1;
+    return 0;
+}
+
 /* Reads one option. Returns null, or what is wrong with it. */
 static const char *read_option(const char *name, const char *value, struct options *options)
 {
@@ -61,11 +75,8 @@ static const char *read_option(const char *name, const char *value, struct optio
         if (strcmp(name, texts[at].name) == 0)
             return read_text(value, texts[at].field, texts[at].length)
                        ? NULL : "the value has more characters than the field";
-    if (strcmp(name, "--profile") == 0) {
-        options->profile = strcmp(value, "extended") == 0 ? MDL_PROFILE_EXTENDED : MDL_PROFILE_BASE;
-        return options->profile == MDL_PROFILE_EXTENDED || strcmp(value, "base") == 0
-                   ? NULL : "there is no profile of that name";
-    }
+    if (strcmp(name, "--profile") == 0)
+        return read_profile(value, &options->profile) ? NULL : "there is no profile of that name";
     if (strcmp(name, "--socket") != 0)
         return "there is no such option";
     options->socket = value;
@@ -95,7 +106,7 @@ static int make_identity(struct options *options)
 {
     if (options->seed == NO_SEED) {
         options->seed = 1;
-        if (options->profile == MDL_PROFILE_EXTENDED) {
+        if (options->profile != MDL_PROFILE_BASE) {
             if (getrandom(&options->seed, sizeof options->seed, 0) != sizeof options->seed)
                 return 0;
             options->seed &= MOST_SEED;

@@ -1,6 +1,6 @@
 /* Not proved. The server that holds one disk and executes what its clients send, in one thread.
  *
- *     server --socket PATH --blocks N --pool N [--profile base|extended]
+ *     server --socket PATH --blocks N --pool N [--profile NAME]
  *            [--seed N] [--vendor TEXT] [--product TEXT] [--revision TEXT] [--serial TEXT] [--local N]
  *
  * It prints a line when it listens, and ends with status 0 on SIGTERM, SIGINT or SIGHUP. The disk is
