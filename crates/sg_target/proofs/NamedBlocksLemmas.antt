@@ -6,11 +6,11 @@ use Rattle.std.specs.Prelude.{nat_lt}
 use Rattle.sg_wire.specs.declared.command.Command.{Command}
 use Rattle.sg_wire.specs.declared.command.Command.TheVariants as command
 use Rattle.sg_wire.specs.declared.extent.Extent.{Extent}
-use Rattle.sg_target.specs.BlockCommands.{blocks_out, bytes_of, past_capacity}
+use Rattle.sg_target.specs.BlockCommands.{blocks_out, bytes_of}
 use Rattle.sg_target.specs.Checks.{medium_checks, short_data_out, unsupported_value}
 use Rattle.sg_target.specs.CommandLaws.{WritesNameBlocksOfTheDisk, blocks_to_write}
 use Rattle.sg_target.specs.Config.{ConfigFields}
-use Rattle.sg_target.specs.DataOut.{blocks_need, moved, short_reason}
+use Rattle.sg_target.specs.DataOut.{blocks_need, moved}
 use Rattle.sg_target.specs.Demands.{bad_atomic, bad_comparison, demands, extent, too_long}
 use Rattle.sg_target.specs.Refusal.{first_some}
 use Rattle.sg_target.specs.Semantics.{medium_use}
@@ -18,7 +18,6 @@ use Rattle.sg_target.specs.State.{State, config_of}
 use Rattle.sg_target.specs.declared.operation.Operation.{Operation}
 use Rattle.sg_target.specs.declared.operation.Operation.TheVariants as operation
 use Rattle.sg_target.specs.declared.refusal.Refusal.{Refusal}
-use Rattle.sg_target.specs.declared.refusal.Refusal.TheVariants.{CheckCondition}
 use Rattle.sg_target.proofs.BlocksLemmas.{on_disk}
 use Rattle.sg_target.proofs.CommandLemmas.{done-well}
 use Rattle.sg_target.proofs.LiftLemmas.{request_checks}
@@ -39,16 +38,14 @@ module _ (config : ConfigFields) (named : Extent) (data_out : List ℕ)
   all-on : bytes_of named ≤ length data_out → IsOnDisk config.blocks named
   all-on long = subst (IsOnDisk config.blocks) (moved-all config named data_out long) on
 
-  short-on : (takes_short : Bool)
-      → cond takes_short (past_capacity config.blocks named) (Some (CheckCondition (short_reason config)))
-      ≡ None
-      → IsOnDisk config.blocks named
-  short-on true e = grind (arith, nat_tests)
-  short-on false e = cc
+  short-on : (takes_short : Bool) → config.identity.takes_short_data_out ≡ takes_short
+      → (blocks_need config named).if_short ≡ None → IsOnDisk config.blocks named
+  short-on true is e = grind (arith, nat_tests)
+  short-on false is e = cc
 
   either-on : (is_short : Bool) → nat_lt (length data_out) (bytes_of named) ≡ is_short
       → cond is_short (blocks_need config named).if_short None ≡ None → IsOnDisk config.blocks named
-  either-on true short e = short-on config.identity.takes_short_data_out e
+  either-on true short e = short-on config.identity.takes_short_data_out refl e
   either-on false short e = all-on (grind (arith, nat_tests))
 
   last-none : (unsupported : Option ℕ) (short : Option Refusal)
