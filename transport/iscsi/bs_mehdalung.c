@@ -250,14 +250,28 @@ struct asked {
     int has_seed;
 };
 
+/* Reads a profile after its name, if there is one. Otherwise it is the base profile. */
+static uint32_t read_profile(const char **text)
+{
+    static const struct { const char *word; uint32_t profile; } profiles[] = {
+        { ":profile=base", MDL_PROFILE_BASE },
+        { ":profile=extended-cut", MDL_PROFILE_EXTENDED_CUT }, /* before the name that begins it */
+        { ":profile=extended", MDL_PROFILE_EXTENDED },
+    };
+    size_t at;
+
+    for (at = 0; at < sizeof profiles / sizeof profiles[0]; at++)
+        if (read_word(text, profiles[at].word))
+            return profiles[at].profile;
+    return MDL_PROFILE_BASE;
+}
+
 /* Reads blocks=N:pool=N, and after it a profile and a seed, if it has them. */
 static int read_path(const char *text, struct asked *asked)
 {
     if (!read_number(&text, "blocks=", &asked->blocks) || !read_number(&text, ":pool=", &asked->pool))
         return 0;
-    asked->profile = read_word(&text, ":profile=extended") ? MDL_PROFILE_EXTENDED : MDL_PROFILE_BASE;
-    if (asked->profile == MDL_PROFILE_BASE)
-        read_word(&text, ":profile=base");
+    asked->profile = read_profile(&text);
     asked->has_seed = *text != '\0';
     return !asked->has_seed || (read_number(&text, ":seed=", &asked->seed) && *text == '\0');
 }
@@ -286,7 +300,7 @@ static int open_disk(struct scsi_lu *lu, char *path, int *fd, uint64_t *size)
     mdl_error error;
 
     if (!read_path(path, &asked)) {
-        eprintf("%s is not blocks=N:pool=N[:profile=extended][:seed=N]\n", path);
+        eprintf("%s is not blocks=N:pool=N[:profile=NAME][:seed=N]\n", path);
         return -EINVAL;
     }
     if (!choose_seed(lu, &asked)) {
