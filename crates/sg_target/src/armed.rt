@@ -263,7 +263,7 @@ impl<S: Store> Target<S> {
         limits_are_kept();
         let command = Command::read_in(self.profile(), cdb);
         let asked = asked_bytes(&command);
-        let checked = self.check_command(initiator, cdb, command, data_out);
+        let checked = self.check_command(initiator, cdb, &command, data_out);
         // Its contract says that no data-in is longer than the longest.
         let _ = data_in_bound(&checked);
         let mut reply = self.conclude_armed(initiator, cdb, checked, buf);
@@ -321,7 +321,7 @@ impl<S: Store> Target<S> {
             self.old self.new result buf.old buf.new }
     {
         match checked {
-            Ok(operation) => self.execute_checked(initiator, operation, buf),
+            Ok(operation) => self.execute_checked(initiator, &operation, buf),
             Err(refusal) => self.refuse(initiator, refusal, Counts::default()),
         }
     }

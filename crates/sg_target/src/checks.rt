@@ -4,7 +4,7 @@ ghost use Rattle.std.specs.Prelude.{option_and_then};
 ghost use Rattle.sg_wire.specs.CdbDecoding.{command_in};
 ghost use Rattle.sg_wire.specs.Profile.{rules_of};
 ghost use Rattle.sg_target.specs.Checks.{blocking_attention, cdb_checks, checked_cdb};
-ghost use Rattle.sg_target.specs.Checks.{checked_operation, if_it_outranks, not_ready, outranks};
+ghost use Rattle.sg_target.specs.Checks.{if_it_outranks, medium_checks, not_ready, outranks};
 ghost use Rattle.sg_pages.specs.ModePage.{write_protected};
 ghost use Rattle.sg_target.specs.Checks.{reservation_conflict, write_protection};
 ghost use Rattle.sg_target.specs.Extents.{AreOnDisk};
@@ -32,10 +32,10 @@ impl<S: Store> Target<S> {
         &self,
         initiator: Initiator,
         cdb: &[u8],
-        command: Result<Command, CdbFault>,
+        command: &Result<Command, CdbFault>,
         data_out: &'a [u8],
     ) -> Result<Operation<'a>, Refusal>
-        requires { command ≡ command_in (profile_of self.now.state) cdb.now }
+        requires { command.now ≡ command_in (profile_of self.now.state) cdb.now }
         ensures checked { result ≡ checked_cdb self.now.state initiator cdb.now data_out.now }
         ensures on_disk { IfOk result (λ operation.
             AreOnDisk self.now.state.disk.capacity (medium_use operation).extents) }
@@ -44,25 +44,28 @@ impl<S: Store> Target<S> {
         // Its contract says that the blocks are well formed.
         let _ = self.store.used();
         let command = self.check_cdb(initiator, cdb, command)?;
-        let operation = operation_of(self.config(), &command, data_out)?;
-        self.check_operation(operation)
+        let requested = operation_of(self.config(), command, data_out);
+        if let Ok(operation) = &requested {
+            self.check_operation(operation)?;
+        }
+        requested
     }
 
     /// Makes the checks of a CDB, in which the disk reads `command`. Returns the command.
     #[inline(always)]
-    fn check_cdb(
+    fn check_cdb<'a>(
         &self,
         initiator: Initiator,
         cdb: &[u8],
-        command: Result<Command, CdbFault>,
-    ) -> Result<Command, Refusal>
-        requires { command ≡ command_in (profile_of self.now.state) cdb.now }
+        command: &'a Result<Command, CdbFault>,
+    ) -> Result<&'a Command, Refusal>
+        requires { command.now ≡ command_in (profile_of self.now.state) cdb.now }
         ensures refused { IfErr result (λ refusal.
             first_some (cdb_checks self.now.state initiator cdb.now) ≡ Some refusal) }
         ensures passed { IfOk result (λ _.
             first_some (cdb_checks self.now.state initiator cdb.now) ≡ None) }
         ensures command { IfOk result (λ command.
-            command_in (profile_of self.now.state) cdb.now ≡ Ok command) }
+            command_in (profile_of self.now.state) cdb.now ≡ Ok command.now) }
     {
         if let Err(CdbFault::Empty) = command {
             return Err(Refusal::from(CdbFault::Empty));
@@ -77,7 +80,10 @@ impl<S: Store> Target<S> {
         if let Some(condition) = attention {
             return Err(Refusal::CheckCondition(Reason::UnitAttention(condition)));
         }
-        Ok(command?)
+        match command {
+            Ok(command) => Ok(command),
+            Err(fault) => Err(Refusal::from(*fault)),
+        }
     }
 
     /// The refusal of a command that a unit attention blocks, if the attention comes before a
@@ -144,20 +150,23 @@ impl<S: Store> Target<S> {
     /// has its blocks, and whether it writes while SWP is set.
     #[inline(always)]
     #[tactic(auto, unfolding(crate::specs::Checks::write_protection))]
-    fn check_operation<'a>(&self, operation: Operation<'a>) -> Result<Operation<'a>, Refusal>
-        ensures checked { result ≡ checked_operation self.now.state operation.entry }
-        ensures on_disk { IfOk result (λ operation.
-            AreOnDisk self.now.state.disk.capacity (medium_use operation).extents) }
+    fn check_operation(&self, operation: &Operation<'_>) -> Result<(), Refusal>
+        ensures refused { IfErr result (λ refusal.
+            first_some (medium_checks self.now.state (medium_use operation.now)) ≡ Some refusal) }
+        ensures passed { IfOk result (λ _.
+            first_some (medium_checks self.now.state (medium_use operation.now)) ≡ None) }
+        ensures on_disk { IfOk result (λ _.
+            AreOnDisk self.now.state.disk.capacity (medium_use operation.now).extents) }
     {
-        self.check_ready(&operation)?;
+        self.check_ready(operation)?;
         let medium = operation.medium_use(self.config.blocks());
         if let Some(refusal) = medium.out_of_range {
             return Err(refusal);
         }
         if medium.writes && self.modes.write_protected() {
-            self.check_protected(&operation)?;
+            self.check_protected(operation)?;
         }
-        Ok(operation)
+        Ok(())
     }
 
     /// Refuses an operation that needs a unit that is ready, while the unit is stopped.

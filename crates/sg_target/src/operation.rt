@@ -352,15 +352,15 @@ impl<S: Store> Target<S> {
     pub(crate) fn execute_checked(
         &mut self,
         initiator: Initiator,
-        operation: Operation<'_>,
+        operation: &Operation<'_>,
         buf: &mut [u8],
     ) -> Reply
-        requires on_disk { AreOnDisk self.old.state.disk.capacity (medium_use operation).extents }
+        requires on_disk { AreOnDisk self.old.state.disk.capacity (medium_use operation.now).extents }
         requires limits { IsWithinLimits self.old.state }
-        requires room { data_in_bound operation ≤ length buf.old }
+        requires room { data_in_bound operation.now ≤ length buf.old }
         ensures { TakesStep (cost_bounds S.price S.least)
-            (step_by self.old.state initiator operation.entry)
-            (ranges_of self.old.state operation.entry)
+            (step_by self.old.state initiator operation.now)
+            (ranges_of self.old.state operation.now)
             self.old self.new result buf.old buf.new }
     {
         match operation {
@@ -371,30 +371,30 @@ impl<S: Store> Target<S> {
             | Operation::PreFetch(_)
             | Operation::Synchronize(_)
             | Operation::MarkBad { .. } => Reply::without_blocks(0),
-            Operation::StartStop { start } => self.start_or_stop(start),
+            Operation::StartStop { start } => self.start_or_stop(*start),
             Operation::ChangeModes { width, sp, list } => {
-                self.change_modes(initiator, width, sp, &list, buf)
+                self.change_modes(initiator, *width, *sp, list, buf)
             }
-            Operation::Write(blocks) => self.write(initiator, &blocks, buf),
-            Operation::Compare(blocks) => self.compare(initiator, &blocks, buf),
+            Operation::Write(blocks) => self.write(initiator, blocks, buf),
+            Operation::Compare(blocks) => self.compare(initiator, blocks, buf),
             Operation::CompareEach { extent, block } => {
-                self.compare_each(initiator, extent, &block, buf)
+                self.compare_each(initiator, *extent, block, buf)
             }
-            Operation::CompareAndWrite(blocks) => self.compare_and_write(initiator, &blocks, buf),
-            Operation::OrWrite(blocks) => self.or_write(initiator, &blocks, buf),
-            Operation::Fill { extent, block } => self.fill(initiator, extent, &block, buf),
-            Operation::Unmap(extents) => self.unmap_listed(&extents, buf),
-            Operation::UnmapExtent(extent) => self.unmap(&[extent], buf),
-            Operation::UnmapAll(blocks) => self.unmap_all(blocks, buf),
-            Operation::Anchor(extents) => self.anchor_listed(initiator, &extents, buf),
-            Operation::AnchorExtent(extent) => self.anchor(initiator, &[extent], buf),
+            Operation::CompareAndWrite(blocks) => self.compare_and_write(initiator, blocks, buf),
+            Operation::OrWrite(blocks) => self.or_write(initiator, blocks, buf),
+            Operation::Fill { extent, block } => self.fill(initiator, *extent, block, buf),
+            Operation::Unmap(extents) => self.unmap_listed(extents, buf),
+            Operation::UnmapExtent(extent) => self.unmap(&[*extent], buf),
+            Operation::UnmapAll(blocks) => self.unmap_all(*blocks, buf),
+            Operation::Anchor(extents) => self.anchor_listed(initiator, extents, buf),
+            Operation::AnchorExtent(extent) => self.anchor(initiator, &[*extent], buf),
             Operation::ChangeReservations {
                 action,
                 scope_type,
                 list,
-            } => self.change_reservations(initiator, action, scope_type, &list, buf),
+            } => self.change_reservations(initiator, *action, *scope_type, list, buf),
             // The others return data.
-            _ => self.return_asked(initiator, &operation, buf),
+            _ => self.return_asked(initiator, operation, buf),
         }
     }
 

@@ -115,7 +115,7 @@ impl<S: Store> Target<S> {
     {
         let command = Command::read_in(self.profile(), cdb);
         let asked = asked_bytes(&command);
-        let checked = self.check_command(initiator, cdb, command, data_out);
+        let checked = self.check_command(initiator, cdb, &command, data_out);
         if buf.len() < data_in_bound(&checked) {
             return None;
         }
@@ -127,7 +127,7 @@ impl<S: Store> Target<S> {
             cdb,
             data_out,
         };
-        Some(self.conclude(call, asked, checked, buf))
+        Some(self.conclude(call, asked, &checked, buf))
     }
 
     /// Executes a command that the checks have passed, or refuses it, while no fault is armed. Its CDB
@@ -137,17 +137,17 @@ impl<S: Store> Target<S> {
         &mut self,
         call: Call<'_>,
         asked: u64,
-        checked: Result<Operation<'_>, Refusal>,
+        checked: &Result<Operation<'_>, Refusal>,
         buf: &mut [u8],
     ) -> Reply
         requires unarmed { is_armed self.old.faults ≡ false }
         requires asked { asked ≡ data_out_length (config_of self.old.state) call.cdb.now }
-        requires checked { checked
+        requires checked { checked.now
             ≡ checked_cdb self.old.state call.initiator call.cdb.now call.data_out.now }
-        requires on_disk { IfOk checked (λ operation.
+        requires on_disk { IfOk checked.now (λ operation.
             AreOnDisk self.old.state.disk.capacity (medium_use operation).extents) }
         requires limits { IsWithinLimits self.old.state }
-        requires room { checked_bound checked ≤ length buf.old }
+        requires room { checked_bound checked.now ≤ length buf.old }
         ensures executed { let sent = call.entry in
             IsExecuted sent.initiator sent.cdb.now sent.data_out.now
             (disk_of self.old) (disk_of self.new) result buf.old buf.new }
@@ -157,12 +157,12 @@ impl<S: Store> Target<S> {
     {
         limits_are_kept();
         sg_faults::laws::unarmed_faults_do_nothing();
-        if arms_fault(&checked) {
+        if arms_fault(checked) {
             return self.execute_armed(call.initiator, call.cdb, call.data_out, buf);
         }
         let mut reply = match checked {
             Ok(operation) => self.execute_checked(call.initiator, operation, buf),
-            Err(refusal) => self.refuse(call.initiator, refusal, Counts::default()),
+            Err(refusal) => self.refuse(call.initiator, *refusal, Counts::default()),
         };
         reply.data_out = asked;
         reply

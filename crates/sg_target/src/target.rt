@@ -130,7 +130,7 @@ impl<S: Store> Target<S> {
         }
         let command = Command::read_in(self.profile(), cdb);
         let asked = asked_bytes(&command);
-        let checked = self.check_command(initiator, cdb, command, data_out);
+        let checked = self.check_command(initiator, cdb, &command, data_out);
         // Its contract says that the buffer is long enough.
         let _ = data_in_bound(&checked);
         let call = Call {
@@ -138,7 +138,7 @@ impl<S: Store> Target<S> {
             cdb,
             data_out,
         };
-        self.conclude(call, asked, checked, buf)
+        self.conclude(call, asked, &checked, buf)
     }
 
     /// Lets something happen to the disk, between two commands.

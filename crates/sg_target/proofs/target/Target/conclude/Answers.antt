@@ -39,7 +39,7 @@ none-by (Some fault) e = cc
 pub returns-in-Ok-clause-executed : goal.returns-in-Ok-clause-executed
 returns-in-Ok-clause-executed g c =
     executed c.limits_are_kept.ensures (cost_bounds g.S.Store.price g.S.Store.least) _ _ _ c.args.asked
-    c.args.checked c.args.self.now _ _ _ _ c.requires.checked _ c.requires.asked c.requires.limits
+    c.args.checked.now c.args.self.now _ _ _ _ c.requires.checked _ c.requires.asked c.requires.limits
     (taken c.unarmed_faults_do_nothing.ensures _ _ _ _ _ _ _ _ _ _ c.requires.unarmed
     (none-by _ (sym c.if-arms_fault.false ∙ c.arms_fault.ensures)) c.in-Ok.is
     c.execute_checked-reply.ensures)
@@ -49,14 +49,14 @@ returns-in-Ok-clause-charged g c =
     let bounds = cost_bounds g.S.Store.price g.S.Store.least in
     let i = c.args.call.initiator in
     let cdb = c.args.call.cdb.now in
-    let over = armed_ranges (disk_of c.args.self.now) i cdb c.args.checked in
+    let over = armed_ranges (disk_of c.args.self.now) i cdb c.args.checked.now in
     let step =
-    taken c.unarmed_faults_do_nothing.ensures bounds i cdb c.in-Ok.operation c.args.checked
+    taken c.unarmed_faults_do_nothing.ensures bounds i cdb c.in-Ok.operation c.args.checked.now
     c.args.self.now _ _ c.args.buf.now _ c.requires.unarmed
     (none-by _ (sym c.if-arms_fault.false ∙ c.arms_fault.ensures)) c.in-Ok.is
     c.execute_checked-reply.ensures in
     let within = price-within g.S.Store.price g.met.S.Store.price_within over in
     let few : c.execute_checked-reply.result.counts.visits ≤ visit_bound over =
     omega (arith, within, step.charge.visits) in
-    charged c.limits_are_kept.ensures bounds i cdb _ c.args.asked c.args.checked c.args.self.now _ _
+    charged c.limits_are_kept.ensures bounds i cdb _ c.args.asked c.args.checked.now c.args.self.now _ _
     c.args.buf.now c.execute_checked-reply.new.buf c.requires.checked step.charge few
