@@ -1,6 +1,6 @@
 -- The profile of a new disk: its number in the header, and the identity that a disk of it has.
 use Rattle.std.specs.Prelude.{ℕ, Bool, true, false, List, [], ◌∷◌, Option, Some, None, Result, Ok}
-use Rattle.std.specs.Prelude.{Err, slice_get, if◌then◌else◌}
+use Rattle.std.specs.Prelude.{Err, slice_get}
 use Rattle.sg_wire.specs.declared.profile.Profile.{Profile}
 use Rattle.sg_wire.specs.declared.profile.Profile.TheVariants.{Base, Extended}
 use Rattle.sg_pages.specs.Identity.{IdentityFields}
@@ -30,15 +30,12 @@ abbrev pub profile_numbered : ℕ → Option NumberedProfile
 profile_numbered number = slice_get profiles number
 
 -- The names of an identity, with what a number says of the disk.
-abbrev pub identity_of : NumberedProfile → IdentityFields → IdentityFields
-identity_of numbered names =
-    let with_profile = record names { profile = numbered.profile } in
-    if numbered.takes_short_data_out then record with_profile { takes_short_data_out = true }
-    else with_profile
-
 abbrev pub with_profile : NumberedProfile → Result IdentityFields IdentityFault
     → Result IdentityFields Outcome
-with_profile numbered (Ok names) = Ok (identity_of numbered names)
+with_profile numbered (Ok names) = Ok (record names {
+  profile = numbered.profile;
+  takes_short_data_out = numbered.takes_short_data_out;
+})
 with_profile numbered (Err fault) = Err (identity_outcome fault)
 
 abbrev pub with_known_profile : Option NumberedProfile → Result IdentityFields IdentityFault

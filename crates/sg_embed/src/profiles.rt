@@ -1,6 +1,6 @@
 // The profiles of a disk, by the numbers that the header has for C.
 ghost use Rattle.std.specs.Prelude.{◌≡◌, ◌≢◌, IfErr};
-ghost use Rattle.sg_embed.specs.Profiles.{identity_of, identity_with_profile, profile_numbered};
+ghost use Rattle.sg_embed.specs.Profiles.{identity_with_profile, profile_numbered};
 
 use crate::outcome::Outcome;
 use sg_pages::{Identity, IdentityFault};
@@ -46,7 +46,11 @@ pub fn identity_with_profile(
         return Err(Outcome::UnknownProfile);
     };
     match identity {
-        Ok(names) => Ok(numbered.identity(names)),
+        Ok(names) => Ok(
+            names
+                .with_profile(numbered.profile)
+                .with_short_data_out(numbered.takes_short_data_out),
+        ),
         Err(fault) => Err(Outcome::of_identity(fault)),
     }
 }
@@ -56,18 +60,4 @@ fn profile_numbered(number: u32) -> Option<NumberedProfile>
     ensures { result ≡ profile_numbered number }
 {
     PROFILES.get(number as usize).copied()
-}
-
-impl NumberedProfile {
-    /// The identity of a disk of this number: the same texts.
-    fn identity(self, names: Identity) -> Identity
-        ensures { result ≡ identity_of self names }
-    {
-        let identity = names.with_profile(self.profile);
-        if self.takes_short_data_out {
-            identity.taking_short_data_out()
-        } else {
-            identity
-        }
-    }
 }

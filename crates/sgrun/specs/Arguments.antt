@@ -72,19 +72,15 @@ abbrev pub takes_seed : Option NamedProfile → Bool
 takes_seed None = false
 takes_seed (Some named) = is_in Extended named.profile
 
--- The names of a disk, with what a name of `--profile` says of it.
-abbrev pub identity_of : NamedProfile → IdentityFields → IdentityFields
-identity_of named names =
-    let with_profile = record names { profile = named.profile } in
-    if named.takes_short_data_out then record with_profile { takes_short_data_out = true }
-    else with_profile
-
--- A disk with the names of a seed.
+-- A disk with the names of a seed, and with what a name of `--profile` says of it.
 abbrev pub disk_with : (blocks pool : ℕ) → NamedProfile → IdentityFields → ConfigFields
 disk_with blocks pool named names = record {
   blocks = blocks;
   pool = pool;
-  identity = identity_of named names;
+  identity = record names {
+    profile = named.profile;
+    takes_short_data_out = named.takes_short_data_out;
+  };
 }
 
 abbrev pub by_config : Result ConfigFields ConfigFault → Result ConfigFields Stop

@@ -117,7 +117,9 @@ fn checked_disk<'a>(
 {
     // A number that is no u32 is too large for any pool. So it is refused as 0 is.
     let pool = u32::try_from(pool).unwrap_or(0);
-    let identity = named.identity(names?);
+    let identity = names?
+        .with_profile(named.profile)
+        .with_short_data_out(named.takes_short_data_out);
     Ok(Config::new(blocks, pool, identity)?)
 }
 

@@ -1,8 +1,7 @@
 // The names of `--profile`, and what each says of a disk.
 ghost use Rattle.std.specs.Prelude.{◌≡◌, option_map};
-ghost use Rattle.sgrun.specs.Arguments.{identity_of, profile_named, takes_seed};
+ghost use Rattle.sgrun.specs.Arguments.{profile_named, takes_seed};
 
-use sg_pages::Identity;
 use sg_wire::Profile;
 
 /// What a name of `--profile` says of a disk.
@@ -48,19 +47,5 @@ pub(crate) fn takes_seed(profile: Option<NamedProfile>) -> bool
     match profile {
         Some(named) => named.profile.has(Profile::Extended),
         None => false,
-    }
-}
-
-impl NamedProfile {
-    /// The identity of a disk that this profile names: the same texts.
-    pub(crate) fn identity(self, names: Identity) -> Identity
-        ensures { result ≡ identity_of self names }
-    {
-        let identity = names.with_profile(self.profile);
-        if self.takes_short_data_out {
-            identity.taking_short_data_out()
-        } else {
-            identity
-        }
     }
 }

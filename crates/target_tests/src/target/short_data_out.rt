@@ -239,14 +239,14 @@ fn count_answered(alloc: Global, identity: Identity, rows: &[Row]) -> Result<usi
 fn too_little_data_out_is_taken_only_by_a_disk_that_takes_it(rt: HostRuntime) -> Result<(), Fail> {
     let base = Identity::standard();
     let extended = base.with_profile(Profile::Extended);
-    let taking = extended.taking_short_data_out();
+    let taking = extended.with_short_data_out(true);
     assert_eq!(rt; count_answered(rt.alloc(), taking, &TAKEN)?, TAKEN.len());
     assert_eq!(rt;
         count_answered(rt.alloc(), extended, &REFUSED)?,
         REFUSED.len()
     );
     assert_eq!(rt; count_answered(rt.alloc(), base, &REFUSED_BY_BASE)?, 1);
-    let taking = base.taking_short_data_out();
+    let taking = base.with_short_data_out(true);
     assert_eq!(rt; count_answered(rt.alloc(), taking, &TAKEN_BY_BASE)?, 2);
     Ok(())
 }
