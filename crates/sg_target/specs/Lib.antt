@@ -23,6 +23,7 @@ pub mod Target
 pub mod Ranges
 pub mod DataInBound
 pub mod Execution
+pub mod Executed
 pub mod Charge
 pub mod PowerCycle
 pub mod Happenings

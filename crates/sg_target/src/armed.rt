@@ -4,7 +4,7 @@ ghost use Rattle.sg_faults.specs.Accessed.{extents_of};
 ghost use Rattle.sg_faults.specs.Faults.{asked, decided};
 ghost use Rattle.sg_faults.specs.Places.{afterwards};
 ghost use Rattle.sg_target.specs.AccessedBlocks.{extents_in};
-ghost use Rattle.sg_target.specs.Armed.{accessed, armed_step_by, attempt, checked_attempt};
+ghost use Rattle.sg_target.specs.Armed.{accessed, armed_step_by, attempt, attempt_by, checked_attempt};
 ghost use Rattle.sg_target.specs.Armed.{faults_left, first_blocks, marked_by, marked_code};
 ghost use Rattle.sg_target.specs.Armed.{medium_of, refusal_on_arrival, result_at_medium, seen};
 ghost use Rattle.sg_target.specs.Armed.{step_of_checked};
@@ -12,6 +12,7 @@ ghost use Rattle.sg_target.specs.BlockCommands.{first_of};
 ghost use Rattle.sg_target.specs.Charge.{ChargesCommand, TakesArmedStep, TakesStep, armed_ranges};
 ghost use Rattle.sg_target.specs.Charge.{cost_bounds};
 ghost use Rattle.sg_target.specs.DataInBound.{checked_bound, longest_data_in, needed_buffer};
+ghost use Rattle.sg_target.specs.Executed.{executed_by, executed_operation};
 ghost use Rattle.sg_target.specs.Execution.{IsExecuted};
 ghost use Rattle.sg_target.specs.Extents.{AreOnDisk};
 ghost use Rattle.sg_target.specs.MadeReplies.{finished_reply};
@@ -21,7 +22,9 @@ ghost use Rattle.sg_target.specs.State.{IsWithinLimits};
 ghost use Rattle.sg_target.specs.Step.{sense_format};
 ghost use Rattle.sg_target.specs.Target.{disk_of};
 
+use crate::call::Call;
 use crate::data_out::asked_bytes;
+use crate::executed::Executed;
 use crate::extent::one_block;
 use crate::laws::limits_are_kept;
 use crate::operation::Operation;
@@ -260,34 +263,58 @@ impl<S: Store> Target<S> {
         ensures charged { ChargesCommand (cost_bounds S.price S.least) initiator cdb.now data_out.now
             self.old self.new result }
     {
+        let call = Call {
+            initiator,
+            cdb,
+            data_out,
+        };
+        self.execute_told(call, buf).reply
+    }
+
+    /// Executes a command as [`Target::execute`] does, and tells which operation it has executed. For
+    /// those who keep what the operation changes.
+    pub fn execute_told<'a>(&mut self, call: Call<'a>, buf: &mut [u8]) -> Executed<'a>
+        requires { min (needed_buffer self.old.state call.initiator call.cdb.now call.data_out.now)
+            longest_data_in ≤ length buf.old }
+        ensures executed { let sent = call.entry in
+            IsExecuted sent.initiator sent.cdb.now sent.data_out.now
+            (disk_of self.old) (disk_of self.new) result.reply buf.old buf.new }
+        ensures charged { let sent = call.entry in
+            ChargesCommand (cost_bounds S.price S.least)
+            sent.initiator sent.cdb.now sent.data_out.now self.old self.new result.reply }
+        ensures operation { let sent = call.entry in result.operation
+            ≡ executed_operation (disk_of self.old) sent.initiator sent.cdb.now sent.data_out.now }
+    {
         limits_are_kept();
-        let command = Command::read_in(self.profile(), cdb);
+        let command = Command::read_in(self.profile(), call.cdb);
         let asked = asked_bytes(&command);
-        let checked = self.check_command(initiator, cdb, &command, data_out);
+        let checked = self.check_command(call.initiator, call.cdb, &command, call.data_out);
         // Its contract says that no data-in is longer than the longest.
         let _ = data_in_bound(&checked);
-        let mut reply = self.conclude_armed(initiator, cdb, checked, buf);
-        reply.data_out = asked;
-        reply
+        let mut executed = self.conclude_armed(call.initiator, call.cdb, checked, buf);
+        executed.reply.data_out = asked;
+        executed
     }
 
     /// Executes a command that the checks have passed, or refuses it, while faults are armed or if it arms
     /// one.
-    fn conclude_armed(
+    fn conclude_armed<'a>(
         &mut self,
         initiator: Initiator,
         cdb: &[u8],
-        checked: Result<Operation<'_>, Refusal>,
+        checked: Result<Operation<'a>, Refusal>,
         buf: &mut [u8],
-    ) -> Reply
+    ) -> Executed<'a>
         requires on_disk { IfOk checked (λ operation.
             AreOnDisk self.old.state.disk.capacity (medium_use operation).extents) }
         requires limits { IsWithinLimits self.old.state }
         requires room { checked_bound checked ≤ length buf.old }
-        ensures { TakesArmedStep (cost_bounds S.price S.least)
+        ensures taken { TakesArmedStep (cost_bounds S.price S.least)
             (armed_step_by (disk_of self.old) initiator cdb.now checked.entry)
             (armed_ranges (disk_of self.old) initiator cdb.now checked.entry)
-            self.old self.new result buf.old buf.new }
+            self.old self.new result.reply buf.old buf.new }
+        ensures operation { result.operation ≡ executed_by self.old.state initiator
+            (attempt_by (disk_of self.old) initiator cdb.now checked.entry).result }
     {
         let capacity = self.config.blocks();
         let blocks = accessed_by(&checked);
@@ -296,11 +323,17 @@ impl<S: Store> Target<S> {
         let blocks = accessed_by(&tried);
         let command = seen(initiator, cdb, &tried, capacity, &blocks);
         let mark = marked_by(&tried);
-        let reply = self.perform(initiator, tried, buf);
+        let reply = self.perform(initiator, &tried, buf);
         if reply.status == Status::Good {
-            self.finish(&command, &mark, reply)
+            Executed {
+                reply: self.finish(&command, &mark, reply),
+                operation: tried.ok(),
+            }
         } else {
-            reply
+            Executed {
+                reply,
+                operation: None,
+            }
         }
     }
 
@@ -308,21 +341,21 @@ impl<S: Store> Target<S> {
     fn perform(
         &mut self,
         initiator: Initiator,
-        checked: Result<Operation<'_>, Refusal>,
+        checked: &Result<Operation<'_>, Refusal>,
         buf: &mut [u8],
     ) -> Reply
-        requires on_disk { IfOk checked (λ operation.
+        requires on_disk { IfOk checked.now (λ operation.
             AreOnDisk self.old.state.disk.capacity (medium_use operation).extents) }
         requires limits { IsWithinLimits self.old.state }
-        requires room { checked_bound checked ≤ length buf.old }
+        requires room { checked_bound checked.now ≤ length buf.old }
         ensures { TakesStep (cost_bounds S.price S.least)
-            (step_of_checked self.old.state initiator checked.entry)
-            (ranges_if_passed self.old.state checked.entry)
+            (step_of_checked self.old.state initiator checked.now)
+            (ranges_if_passed self.old.state checked.now)
             self.old self.new result buf.old buf.new }
     {
         match checked {
-            Ok(operation) => self.execute_checked(initiator, &operation, buf),
-            Err(refusal) => self.refuse(initiator, refusal, Counts::default()),
+            Ok(operation) => self.execute_checked(initiator, operation, buf),
+            Err(refusal) => self.refuse(initiator, *refusal, Counts::default()),
         }
     }
 

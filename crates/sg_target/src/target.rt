@@ -74,7 +74,7 @@ ghost use Rattle.sg_target.specs.Charge.{ChargesCommand, cost_bounds};
 ghost use Rattle.sg_target.specs.Execution.{IsExecuted};
 ghost use Rattle.sg_target.specs.Happenings.{Happens, after_reset, with_raised};
 ghost use Rattle.sg_target.specs.MadeReplies.{refused_reply};
-ghost use Rattle.sg_target.specs.NewState.{new_state};
+ghost use Rattle.sg_target.specs.NewState.{new_state, restored_state};
 ghost use Rattle.sg_target.specs.State.{IsWithinLimits};
 ghost use Rattle.sg_target.specs.Step.{after_refusal, sense_format};
 ghost use Rattle.sg_target.specs.Target.{disk_of};
@@ -94,15 +94,45 @@ impl<S: Store> Target<S> {
         }) }
     {
         let store = S::make(alloc, config.blocks(), config.pool())?;
-        Ok(Target {
+        Ok(Target::restored(
             config,
             store,
-            modes: ModePages::new(),
+            ModePages::new(),
+            Reservations::new(),
+            Faults::new(),
+        ))
+    }
+
+    /// A target as it is after power on, with what a power cycle has left of a disk: its blocks, its
+    /// mode pages, its registrations, and the faults that are armed on it.
+    pub fn restored(
+        config: Config,
+        store: S,
+        modes: ModePages,
+        reservations: Reservations,
+        faults: Faults,
+    ) -> Target<S>
+        requires blocks { config.blocks ≡ (S.disk store).capacity }
+        requires pool { config.pool ≡ (S.disk store).pool }
+        ensures { result ≡ record {
+          state = restored_state config.identity (S.disk store) modes reservations;
+          faults = faults;
+          meter = S.meter store;
+        } }
+    {
+        // Its contract says that no more addresses are used than the pool has blocks.
+        let _ = store.used();
+        let mut target = Target {
+            config,
+            store,
+            modes,
             attentions: Attentions::new(),
-            reservations: Reservations::new(),
+            reservations,
             stopped: false,
-            faults: Faults::new(),
-        })
+            faults,
+        };
+        target.power_cycle();
+        target
     }
 
     /// Executes a command. The buffer has [`BUFFER_LENGTH`] bytes at least; data-in is the first

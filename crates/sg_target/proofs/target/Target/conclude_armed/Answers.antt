@@ -16,8 +16,8 @@ perform-reply-requires-clause-room g c =
     rw c.attempt-tried.ensures.result
     (attempt-fits _ c.args.self.now.faults _ c.args.checked c.requires.room)
 
-pub returns-then-eq : goal.returns-then-eq
-returns-then-eq g c =
+pub returns-then-eq-clause-taken : goal.returns-then-eq-clause-taken
+returns-then-eq-clause-taken g c =
     let good : c.perform-reply.result.status ≡ Good = search rules in
     takes-finished (cost_bounds g.S.Store.price g.S.Store.least) c.args.initiator c.args.cdb.now
     c.args.checked c.args.self.now c.attempt-tried.new.self c.perform-reply.new.self
@@ -28,8 +28,8 @@ returns-then-eq g c =
     c.finish.result c.seen-command-2.ensures c.marked_by-mark.ensures good c.finish.ensures.state
     c.finish.ensures.meter c.finish.ensures.faults c.finish.ensures.reply
 
-pub returns-else-eq : goal.returns-else-eq
-returns-else-eq g c =
+pub returns-else-eq-clause-taken : goal.returns-else-eq-clause-taken
+returns-else-eq-clause-taken g c =
     let bad : c.perform-reply.result.status ≡ Good → ⊥ = search rules in
     takes-refused (cost_bounds g.S.Store.price g.S.Store.least) c.args.initiator c.args.cdb.now
     c.args.checked c.args.self.now c.attempt-tried.new.self c.perform-reply.new.self
