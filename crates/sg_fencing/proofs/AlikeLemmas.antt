@@ -46,7 +46,7 @@ use Rattle.sg_target.specs.ProvisioningCommands.{anchoring, filling, reporting_s
 use Rattle.sg_target.specs.Refusal.{first_some, pending_sense, when_sound}
 use Rattle.sg_target.specs.ReservationCommands.{reporting}
 use Rattle.sg_target.specs.StartStop.{starting_or_stopping}
-use Rattle.sg_target.specs.State.{State, profile_of}
+use Rattle.sg_target.specs.State.{State, profile_of, resources_of}
 use Rattle.sg_target.specs.Step.{Step, cut, executed, good, outcome, refused}
 use Rattle.sg_target.specs.Charge.{step_by}
 use Rattle.sg_target.specs.declared.operation.Operation.{Operation}
@@ -305,8 +305,8 @@ module _ (Related : ReservationState → ReservationState → Type 0) (s : State
         found = refl;
       })
   operation-agrees (ReturnReport report n) c =
-      leaving (returning_up_to s n (report_data (profile_of s) report))
-      (returning_up_to t n (report_data (profile_of t) report)) refl refl refl refl refl
+      leaving (returning_up_to s n (report_data (profile_of s) (resources_of s) report))
+      (returning_up_to t n (report_data (profile_of t) (resources_of t) report)) refl refl refl refl refl
   operation-agrees (ReturnModes request n) c =
       sound-agree (mode_parameters s.modes request) (returning_up_to s n) (returning_up_to t n)
       (λ list. plain false (returning_up_to s n list) (returning_up_to t n list) (λ _. refl) refl refl

@@ -1,9 +1,12 @@
 -- The pages of a thin provisioned disk: Block Limits and Logical Block Provisioning (SBC-3, vital
--- product data parameters).
-use Rattle.std.specs.Prelude.{ℕ, List, [], ◌∷◌}
+-- product data parameters), and the log page Logical Block Provisioning (SBC-3, log parameters).
+use Rattle.std.specs.Prelude.{ℕ, ◌-◌, ◌/◌, ◌^◌, List, [], ◌∷◌, ◌++◌}
 use Rattle.sg_wire.specs.Fields.{Field, field, fields_bytes}
 use Rattle.sg_wire.specs.UnmapList.{maximum_unmap_descriptors}
 use Rattle.sg_wire.specs.declared.profile.Limits.{Limits}
+use Rattle.sg_wire.specs.declared.profile.Profile.{Profile}
+use Rattle.sg_wire.specs.declared.profile.Profile.TheVariants.{Base, Extended}
+use Rattle.sg_pages.specs.declared.provisioning_pages.MappingResources.{MappingResources}
 
 -- ---- Block Limits, from byte 4 of the page on
 
@@ -81,11 +84,23 @@ block_limits limits =
     ∷ []
     )
 
+-- ---- Threshold sets (SBC-3, 4.7)
+
+-- A threshold set has 2 ^ THRESHOLD EXPONENT blocks, two at least. 0: the disk has no thresholds.
+abbrev pub threshold_exponent : Profile → ℕ
+threshold_exponent Base = 0
+threshold_exponent Extended = 1
+
+-- The whole threshold sets in a number of blocks.
+-- Choice (SBC-3, log parameters): the standard does not say how a count is rounded.
+unfoldable pub threshold_sets : Profile → (blocks : ℕ) → ℕ
+threshold_sets profile blocks = blocks / 2 ^ threshold_exponent profile
+
 -- ---- Logical Block Provisioning, from byte 4 of the page on
 
--- THRESHOLD EXPONENT, byte 4: there are no thresholds.
-abbrev threshold_exponent : Field
-threshold_exponent = field 1 0
+-- THRESHOLD EXPONENT, byte 4.
+abbrev exponent : Profile → Field
+exponent profile = field 1 (threshold_exponent profile)
 
 -- LBPU, LBPWS, LBPWS10, LBPRZ and ANC_SUP 1, byte 5. UNMAP and WRITE SAME (16) and (10) unmap
 -- blocks, unmapped blocks read as zeros, and blocks can be anchored. DP 0: no group descriptor
@@ -101,6 +116,44 @@ provisioning_type = field 1 0x02
 abbrev reserved_byte : Field
 reserved_byte = field 1 0
 
-unfoldable pub logical_block_provisioning : List ℕ
-logical_block_provisioning =
-    fields_bytes (threshold_exponent ∷ provisioning_bits ∷ provisioning_type ∷ reserved_byte ∷ [])
+unfoldable pub logical_block_provisioning : Profile → List ℕ
+logical_block_provisioning profile =
+    fields_bytes (exponent profile ∷ provisioning_bits ∷ provisioning_type ∷ reserved_byte ∷ [])
+
+-- ---- The log page Logical Block Provisioning, from byte 4 of the page on
+
+-- PARAMETER CODE of the available and of the used LBA mapping resource count.
+abbrev available_code : Field
+available_code = field 2 0x0001
+
+abbrev used_code : Field
+used_code = field 2 0x0002
+
+-- The control byte of a log parameter: FORMAT AND LINKING 11b, a binary list (SPC-4, 7.3).
+abbrev binary_list : Field
+binary_list = field 1 0x03
+
+-- PARAMETER LENGTH: the bytes that follow it.
+abbrev parameter_length : Field
+parameter_length = field 1 8
+
+-- RESOURCE COUNT, in threshold sets.
+abbrev resource_count : Profile → (blocks : ℕ) → Field
+resource_count profile blocks = field 4 (threshold_sets profile blocks)
+
+-- SCOPE 01b: the resources are dedicated to the logical unit. Three reserved bytes follow.
+abbrev scope : Field
+scope = field 1 0x01
+
+abbrev reserved_bytes : Field
+reserved_bytes = field 3 0
+
+-- A log parameter with a number of blocks.
+abbrev resources : Profile → (code : Field) (blocks : ℕ) → List Field
+resources profile code blocks =
+    code ∷ binary_list ∷ parameter_length ∷ resource_count profile blocks ∷ scope ∷ reserved_bytes ∷ []
+
+-- The blocks of the pool that no address has, and those that mapped and anchored addresses have.
+abbrev pub resource_parameters : Profile → MappingResources → List Field
+resource_parameters profile pool =
+    resources profile available_code (pool.blocks - pool.used) ++ resources profile used_code pool.used

@@ -1,5 +1,5 @@
--- What a disk reports about itself, whatever its state: its logical units, its commands, its task management
--- functions, its log pages and its defects.
+-- What a disk reports about itself: its logical units, its commands, its task management functions, its
+-- log pages and its defects. Only one log page depends on its blocks: it has the resources of the pool.
 use Rattle.std.specs.Prelude.{ℕ, ◌+◌, ◌==◌, ◌&&◌, List, [], ◌∷◌, length, map, filter, find}
 use Rattle.std.specs.Prelude.{Bool, true, false, if◌then◌else◌, Option, Some, None, Result, ok_or}
 use Rattle.std.specs.List.{flat_map, list_any}
@@ -8,7 +8,10 @@ use Rattle.sg_wire.specs.SupportedOperations.{longest_support_report, report_dat
 use Rattle.sg_wire.specs.declared.profile.Profile.{Profile}
 use Rattle.sg_pages.specs.declared.reports.LogPage.{LogPage}
 use Rattle.sg_pages.specs.declared.reports.LogPage.TheVariants.{SupportedPages, SupportedSubpages}
+use Rattle.sg_pages.specs.declared.reports.LogPage.TheVariants.{LogicalBlockProvisioning}
 use Rattle.sg_pages.specs.declared.reports.LogPage.TheVariants.{InformationalExceptions}
+use Rattle.sg_pages.specs.declared.provisioning_pages.MappingResources.{MappingResources}
+use Rattle.sg_pages.specs.ProvisioningPages.{resource_parameters}
 use Rattle.sg_pages.specs.declared.reports.Report.{Report}
 use Rattle.sg_pages.specs.declared.reports.Report.TheVariants.{LogicalUnits, TaskManagementFunctions}
 use Rattle.sg_pages.specs.declared.reports.Report.TheVariants.{Commands, Log}
@@ -57,11 +60,13 @@ task_management timeouts =
 abbrev pub log_code : LogPage → ℕ × ℕ
 log_code SupportedPages = (0x00, 0x00)
 log_code SupportedSubpages = (0x00, 0xFF)
+log_code LogicalBlockProvisioning = (0x0C, 0x00)
 log_code InformationalExceptions = (0x2F, 0x00)
 
 -- In ascending order of their codes.
 abbrev pub each_log_page : List LogPage
-each_log_page = SupportedPages ∷ SupportedSubpages ∷ InformationalExceptions ∷ []
+each_log_page =
+    SupportedPages ∷ SupportedSubpages ∷ LogicalBlockProvisioning ∷ InformationalExceptions ∷ []
 
 abbrev pub has_page_code : (page_code : ℕ) → LogPage → Bool
 has_page_code page_code page = page_code == (log_code page).0
@@ -95,18 +100,24 @@ exceptions = field 2 0x0000 ∷ field 1 0x03 ∷ field 1 3 ∷ field 2 0x0000 �
 abbrev log_flags : LogPage → ℕ
 log_flags SupportedPages = 0x00
 log_flags SupportedSubpages = 0x40
+log_flags LogicalBlockProvisioning = 0x80
 log_flags InformationalExceptions = 0x80
 
-abbrev log_content : LogPage → List Field
-log_content SupportedPages = page_list
-log_content SupportedSubpages = subpage_list
-log_content InformationalExceptions = exceptions
+abbrev log_content : Profile → MappingResources → LogPage → List Field
+log_content profile pool SupportedPages = page_list
+log_content profile pool SupportedSubpages = subpage_list
+log_content profile pool LogicalBlockProvisioning = resource_parameters profile pool
+log_content profile pool InformationalExceptions = exceptions
 
--- A whole page: DS, SPF and PAGE CODE, SUBPAGE CODE, PAGE LENGTH, and the content.
-abbrev log_page : LogPage → List Field
-log_page page =
+-- DS, SPF and PAGE CODE, SUBPAGE CODE, PAGE LENGTH, and the content.
+abbrev log_page : LogPage → (content : List Field) → List Field
+log_page page content =
     field 1 (log_flags page + (log_code page).0) ∷ field 1 (log_code page).1
-    ∷ field 2 (length (fields_bytes (log_content page))) ∷ log_content page
+    ∷ field 2 (length (fields_bytes content)) ∷ content
+
+-- A whole page of a disk of a profile with a pool.
+unfoldable pub log_page_data : Profile → MappingResources → LogPage → List ℕ
+log_page_data profile pool page = fields_bytes (log_page page (log_content profile pool page))
 
 -- ---- READ DEFECT DATA (SBC-3, 5.17 and 5.18)
 
@@ -120,14 +131,14 @@ defect_lists_12 lists = field 1 0 ∷ field 1 lists ∷ field 2 0 ∷ field 4 0 
 
 -- ---- All reports
 
--- Each on a disk of a profile. The commands are in the table of their layouts.
-unfoldable pub report_data : Profile → Report → List ℕ
-report_data profile (LogicalUnits listed) = fields_bytes (lun_list (listed_luns listed))
-report_data profile (Commands report) = support_data profile report
-report_data profile (TaskManagementFunctions timeouts) = fields_bytes (task_management timeouts)
-report_data profile (Log page) = fields_bytes (log_page page)
-report_data profile (DefectLists10 lists) = fields_bytes (defect_lists_10 lists)
-report_data profile (DefectLists12 lists) = fields_bytes (defect_lists_12 lists)
+-- Each on a disk of a profile with a pool. The commands are in the table of their layouts.
+unfoldable pub report_data : Profile → MappingResources → Report → List ℕ
+report_data profile pool (LogicalUnits listed) = fields_bytes (lun_list (listed_luns listed))
+report_data profile pool (Commands report) = support_data profile report
+report_data profile pool (TaskManagementFunctions timeouts) = fields_bytes (task_management timeouts)
+report_data profile pool (Log page) = log_page_data profile pool page
+report_data profile pool (DefectLists10 lists) = fields_bytes (defect_lists_10 lists)
+report_data profile pool (DefectLists12 lists) = fields_bytes (defect_lists_12 lists)
 
 -- The length of the longest report, all commands with their timeouts, in bytes.
 abbrev pub longest_report : ℕ

@@ -23,6 +23,7 @@ pub use mode_pages::{
     ModeSelectFault as SelectFault, ModeSenseFault, ModeSenseFault as AskFault, ModeSenseRequest,
     ModeSenseRequest as Ask, PageValues,
 };
+pub use provisioning_pages::MappingResources;
 pub use reports::{LONGEST_REPORT, LogPage, Report};
 pub use sg_wire::{MAXIMUM_TRANSFER_LENGTH, MAXIMUM_WRITE_SAME_LENGTH, PageControl};
 pub use vital_product_data::{LONGEST_VPD_PAGE, VpdPage, vpd, write_vpd_page};

@@ -1,9 +1,13 @@
-// Block Limits and Logical Block Provisioning: the pages that a thin provisioned disk adds.
+// Block Limits and Logical Block Provisioning, as vital product data and as a log page: the pages that a
+// thin provisioned disk adds.
 ghost use Rattle.std.specs.Prelude.{◌≡◌};
 ghost use Rattle.sg_pages.specs.ProvisioningPages.{block_limits, logical_block_provisioning};
+ghost use Rattle.sg_pages.specs.ProvisioningPages.{threshold_exponent, threshold_sets};
+ghost use Rattle.sg_pages.specs.Reports.{log_page_data};
 
+use super::reports::LogPage;
 use byteorder::{BigEndian, ByteOrder};
-use sg_wire::{Limits, MAXIMUM_UNMAP_DESCRIPTORS};
+use sg_wire::{Limits, MAXIMUM_UNMAP_DESCRIPTORS, Profile};
 
 /// A WRITE SAME of no block is refused.
 const WSNZ: u8 = 0x01;
@@ -36,10 +40,59 @@ pub(crate) fn block_limits(limits: Limits) -> [u8; 60]
     bytes
 }
 
-/// The content of Logical Block Provisioning: no thresholds, and no group descriptor.
-#[tactic(auto, unfolding(crate::specs::ProvisioningPages::logical_block_provisioning))]
-pub(crate) fn logical_block_provisioning() -> [u8; 4]
-    ensures { result ≡ logical_block_provisioning }
+/// THRESHOLD EXPONENT of a disk of a profile: 0 if it has no thresholds.
+fn threshold_exponent(profile: Profile) -> u8
+    ensures { result ≡ threshold_exponent profile }
 {
-    [0, PROVISIONING_BITS, THIN_PROVISIONED, 0]
+    match profile {
+        Profile::Base => 0,
+        Profile::Extended => 1,
+    }
+}
+
+/// The whole threshold sets in a number of blocks.
+#[tactic(auto, unfolding(crate::specs::ProvisioningPages::threshold_sets))]
+fn threshold_sets(profile: Profile, blocks: u32) -> u32
+    ensures { result ≡ threshold_sets profile blocks }
+{
+    blocks >> threshold_exponent(profile)
+}
+
+/// The content of Logical Block Provisioning: no group descriptor.
+#[tactic(auto, unfolding(crate::specs::ProvisioningPages::logical_block_provisioning))]
+pub(crate) fn logical_block_provisioning(profile: Profile) -> [u8; 4]
+    ensures { result ≡ logical_block_provisioning profile }
+{
+    [
+        threshold_exponent(profile),
+        PROVISIONING_BITS,
+        THIN_PROVISIONED,
+        0,
+    ]
+}
+
+/// The pool of a thin provisioned disk. SBC-3 calls its blocks LBA mapping resources (SBC-3, 4.7).
+#[derive(Clone, Copy)]
+pub struct MappingResources {
+    /// The number of its blocks.
+    pub blocks: u32,
+    /// The number of addresses that have one of them: those that are mapped or anchored.
+    pub used: u32,
+}
+
+/// The log page Logical Block Provisioning: the available and the used resource count, each dedicated to
+/// the logical unit.
+#[tactic(auto, unfolding(crate::specs::Reports::log_page_data))]
+pub(crate) fn provisioning_page(profile: Profile, pool: MappingResources) -> [u8; 28]
+    ensures { result ≡ log_page_data profile pool LogPage.LogicalBlockProvisioning }
+{
+    let mut bytes = [
+        0x8C, 0x00, 0, 24, // the header of the page
+        0x00, 0x01, 0x03, 8, 0, 0, 0, 0, 0x01, 0, 0, 0, // available
+        0x00, 0x02, 0x03, 8, 0, 0, 0, 0, 0x01, 0, 0, 0, // used
+    ];
+    let available = pool.blocks.saturating_sub(pool.used);
+    BigEndian::write_u32(&mut bytes[8..], threshold_sets(profile, available));
+    BigEndian::write_u32(&mut bytes[20..], threshold_sets(profile, pool.used));
+    bytes
 }

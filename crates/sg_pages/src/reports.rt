@@ -1,9 +1,10 @@
-// What a disk reports about itself, whatever its state. Each report is put whole: the `Cut` knows the
-// allocation length.
+// What a disk reports about itself. Each report is put whole: the `Cut` knows the allocation length.
 ghost use Rattle.std.specs.Prelude.{◌≡◌, ◌≤◌, length};
 ghost use Rattle.sg_wire.specs.Cut.{Puts};
-ghost use Rattle.sg_pages.specs.Reports.{lists_unit, log_page_with, longest_report, report_data};
+ghost use Rattle.sg_pages.specs.Reports.{lists_unit, log_page_data, log_page_with, longest_report};
+ghost use Rattle.sg_pages.specs.Reports.{report_data};
 
+use super::provisioning_pages::{MappingResources, provisioning_page};
 use sg_wire::{Cut, LONGEST_SUPPORT_REPORT, Profile, SupportReport};
 
 /// The length of the longest report, in bytes.
@@ -16,6 +17,8 @@ pub enum LogPage {
     SupportedPages,
     /// Supported Log Pages and Subpages, page 00h and subpage FFh.
     SupportedSubpages,
+    /// Logical Block Provisioning, page 0Ch (SBC-3, log parameters).
+    LogicalBlockProvisioning,
     /// Informational Exceptions, page 2Fh.
     InformationalExceptions,
 }
@@ -31,9 +34,30 @@ impl LogPage {
         match (page_code, subpage_code) {
             (0x00, 0x00) => Ok(LogPage::SupportedPages),
             (0x00, 0xFF) => Ok(LogPage::SupportedSubpages),
+            (0x0C, 0x00) => Ok(LogPage::LogicalBlockProvisioning),
             (0x2F, 0x00) => Ok(LogPage::InformationalExceptions),
-            (0x00 | 0x2F, _) => Err(3),
+            (0x00 | 0x0C | 0x2F, _) => Err(3),
             _ => Err(2),
+        }
+    }
+
+    /// Writes the page of a disk of a profile with a pool.
+    #[tactic(auto, unfolding(crate::specs::Reports::log_page_data))]
+    fn write(self, profile: Profile, pool: MappingResources, cut: &mut Cut)
+        ensures data { Puts cut.old cut.new (log_page_data profile pool self) }
+        ensures at_most { length (log_page_data profile pool self) ≤ longest_report }
+    {
+        match self {
+            LogPage::SupportedPages => cut.put(&[0x00, 0x00, 0, 3, 0x00, 0x0C, 0x2F]),
+            LogPage::SupportedSubpages => {
+                cut.put(&[
+                    0x40, 0xFF, 0, 8, 0x00, 0x00, 0x00, 0xFF, 0x0C, 0x00, 0x2F, 0x00,
+                ]);
+            }
+            LogPage::LogicalBlockProvisioning => cut.put(&provisioning_page(profile, pool)),
+            LogPage::InformationalExceptions => {
+                cut.put(&[0xAF, 0x00, 0, 7, 0, 0, 0x03, 3, 0, 0, 0xFF]);
+            }
         }
     }
 }
@@ -68,11 +92,11 @@ impl Report {
         }
     }
 
-    /// Writes the report of a disk of a profile.
+    /// Writes the report of a disk of a profile with a pool.
     #[tactic(auto, unfolding(crate::specs::Reports::report_data))]
-    pub fn write(self, profile: Profile, cut: &mut Cut)
-        ensures data { Puts cut.old cut.new (report_data profile self) }
-        ensures at_most { length (report_data profile self) ≤ longest_report }
+    pub fn write(self, profile: Profile, pool: MappingResources, cut: &mut Cut)
+        ensures data { Puts cut.old cut.new (report_data profile pool self) }
+        ensures at_most { length (report_data profile pool self) ≤ longest_report }
     {
         match self {
             Report::LogicalUnits(true) => cut.put(&[
@@ -84,13 +108,7 @@ impl Report {
                 cut.put(&[0xD8, 0, 0, 0x0C, 0, 0, 0, 0, 0, 0, 0, 0, 0, 0, 0, 0]);
             }
             Report::TaskManagementFunctions(false) => cut.put(&[0xD8, 0, 0, 0]),
-            Report::Log(LogPage::SupportedPages) => cut.put(&[0x00, 0x00, 0, 2, 0x00, 0x2F]),
-            Report::Log(LogPage::SupportedSubpages) => {
-                cut.put(&[0x40, 0xFF, 0, 6, 0x00, 0x00, 0x00, 0xFF, 0x2F, 0x00]);
-            }
-            Report::Log(LogPage::InformationalExceptions) => {
-                cut.put(&[0xAF, 0x00, 0, 7, 0, 0, 0x03, 3, 0, 0, 0xFF]);
-            }
+            Report::Log(page) => page.write(profile, pool, cut),
             Report::DefectLists10(lists) => cut.put(&[0, lists, 0, 0]),
             Report::DefectLists12(lists) => cut.put(&[0, lists, 0, 0, 0, 0, 0, 0]),
         }

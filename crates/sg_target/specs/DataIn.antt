@@ -30,7 +30,8 @@ data_of identity capacity reservations (Sense stopped condition format) =
 data_of identity capacity reservations (Inquiry page) = inquiry_data identity page
 data_of identity capacity reservations (Reservations action) =
     reserve_in_data (rules_of identity.profile) reservations action
-data_of identity capacity reservations (Report report) = report_data identity.profile report
+data_of identity capacity reservations (Report report pool) =
+    report_data identity.profile pool report
 data_of identity capacity reservations Capacity10 = capacity_10 capacity
 data_of identity capacity reservations Capacity16 = capacity_16 capacity
 
@@ -53,6 +54,6 @@ abbrev pub longest_of : DataIn → ℕ
 longest_of (Sense stopped condition format) = longest_sense
 longest_of (Inquiry page) = longest_inquiry
 longest_of (Reservations action) = longest_reserve_in
-longest_of (Report report) = longest_report
+longest_of (Report report pool) = longest_report
 longest_of Capacity10 = capacity_10_length
 longest_of Capacity16 = capacity_16_length

@@ -14,7 +14,7 @@ use Rattle.sg_units.specs.Attentions.{oldest, without_condition}
 use Rattle.sg_units.specs.declared.unit_attention.UnitAttention.TheVariants.{ReportedLunsDataChanged}
 use Rattle.sg_target.specs.Effect.{Effect, returning_up_to, without_attention}
 use Rattle.sg_target.specs.Refusal.{pending_sense}
-use Rattle.sg_target.specs.State.{State, profile_of}
+use Rattle.sg_target.specs.State.{State, profile_of, resources_of}
 use Rattle.sg_target.specs.declared.primary.InquiryPage.{InquiryPage}
 use Rattle.sg_target.specs.declared.primary.InquiryPage.TheVariants.{Standard, VitalProductData}
 
@@ -47,7 +47,8 @@ returning_page state page n = returning_up_to state n (inquiry_data state.identi
 -- changed (SAM-5, 5.14).
 abbrev pub returning_luns : State → (initiator : ℕ) → (listed : Bool) → (allocation_length : ℕ) → Effect
 returning_luns state initiator listed n =
-    record (returning_up_to state n (report_data (profile_of state) (LogicalUnits listed))) {
+    let luns = report_data (profile_of state) (resources_of state) (LogicalUnits listed) in
+    record (returning_up_to state n luns) {
       after = record state {
         attentions = without_condition state.attentions initiator ReportedLunsDataChanged;
       };

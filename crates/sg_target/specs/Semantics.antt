@@ -14,7 +14,7 @@ use Rattle.sg_target.specs.ProvisioningCommands.{anchoring, filling, reporting_s
 use Rattle.sg_target.specs.Refusal.{when_sound}
 use Rattle.sg_target.specs.ReservationCommands.{changing_reservations, reporting, reservation_change}
 use Rattle.sg_target.specs.StartStop.{starting_or_stopping}
-use Rattle.sg_target.specs.State.{State, profile_of}
+use Rattle.sg_target.specs.State.{State, profile_of, resources_of}
 use Rattle.sg_target.specs.declared.operation.Operation.{Operation}
 use Rattle.sg_target.specs.declared.operation.Operation.TheVariants.{Nothing, ReturnSense}
 use Rattle.sg_target.specs.declared.operation.Operation.TheVariants.{TestReady, StartStop}
@@ -125,7 +125,7 @@ effect_of state i (ChangeModes width sp list) =
     when_sound (selected_modes state width sp list) (changing_modes state i)
 effect_of state i (ReturnLuns listed n) = Ok (returning_luns state i listed n)
 effect_of state i (ReturnReport report n) =
-    Ok (returning_up_to state n (report_data (profile_of state) report))
+    Ok (returning_up_to state n (report_data (profile_of state) (resources_of state) report))
 effect_of state i ReturnCapacity10 = Ok (returning state (capacity_10 state.disk.capacity))
 effect_of state i (ReturnCapacity16 n) =
     Ok (returning_up_to state n (capacity_16 state.disk.capacity))

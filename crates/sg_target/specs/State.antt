@@ -5,6 +5,7 @@ use Rattle.sg_wire.specs.declared.profile.Profile.{Profile}
 use Rattle.sg_store.specs.Disk.{Disk, IsWellFormed}
 use Rattle.sg_pages.specs.Identity.{IdentityFields}
 use Rattle.sg_pages.specs.ModePage.{ModeState}
+use Rattle.sg_pages.specs.declared.provisioning_pages.MappingResources.{MappingResources}
 use Rattle.sg_units.specs.Attentions.{ArePending, Pending}
 use Rattle.sg_units.specs.Reservations.{IsConsistent}
 use Rattle.sg_units.specs.declared.reservation_state.ReservationState.{ReservationState}
@@ -26,6 +27,10 @@ config_of state =
 
 abbrev pub profile_of : State → Profile
 profile_of state = state.identity.profile
+
+-- The pool, and how many addresses have a block of it.
+abbrev pub resources_of : State → MappingResources
+resources_of state = record { blocks = state.disk.pool; used = len state.disk.contents }
 
 -- No table of the disk is past its limit. No more addresses are used than the pool has blocks. Each
 -- of the eight initiators has a queue of at most sixteen pending conditions, all distinct. At most

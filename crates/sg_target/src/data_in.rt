@@ -4,6 +4,7 @@ ghost use Rattle.sg_wire.specs.Cut.{Puts};
 ghost use Rattle.sg_wire.specs.FirstBytes.{first_bytes, overwritten};
 ghost use Rattle.sg_target.specs.DataIn.{data_of, longest_of};
 ghost use Rattle.sg_target.specs.MadeReplies.{ReturnsData};
+ghost use Rattle.sg_target.specs.State.{resources_of};
 
 use crate::config::Config;
 use crate::primary::{InquiryPage, LONGEST_INQUIRY_DATA, LONGEST_SENSE_DATA};
@@ -12,8 +13,8 @@ use crate::reply::Reply;
 use crate::reservation::write_reserve_in_data;
 use crate::target::Target;
 use sg_pages::{
-    CAPACITY_10_LENGTH, CAPACITY_16_LENGTH, LONGEST_REPORT, Report, write_capacity_10,
-    write_capacity_16,
+    CAPACITY_10_LENGTH, CAPACITY_16_LENGTH, LONGEST_REPORT, MappingResources, Report,
+    write_capacity_10, write_capacity_16,
 };
 use sg_store::Store;
 use sg_units::{LONGEST_RESERVE_IN_DATA, Reservations, UnitAttention};
@@ -34,8 +35,8 @@ pub(crate) enum DataIn {
     Inquiry(InquiryPage),
     /// The data that a service action of PERSISTENT RESERVE IN returns.
     Reservations(InAction),
-    /// What the disk reports about itself.
-    Report(Report),
+    /// What the disk reports about itself, and its pool.
+    Report(Report, MappingResources),
     Capacity10,
     Capacity16,
 }
@@ -49,7 +50,7 @@ impl DataIn {
             DataIn::Sense { .. } => LONGEST_SENSE_DATA,
             DataIn::Inquiry(_) => LONGEST_INQUIRY_DATA,
             DataIn::Reservations(_) => LONGEST_RESERVE_IN_DATA,
-            DataIn::Report(_) => LONGEST_REPORT,
+            DataIn::Report(..) => LONGEST_REPORT,
             DataIn::Capacity10 => CAPACITY_10_LENGTH,
             DataIn::Capacity16 => CAPACITY_16_LENGTH,
         }
@@ -94,7 +95,7 @@ impl DataIn {
             DataIn::Reservations(action) => {
                 write_reserve_in_data(config.rules(), action, reservations, cut)
             }
-            DataIn::Report(report) => report.write(config.identity().profile(), cut),
+            DataIn::Report(report, pool) => { report.write(config.identity().profile(), pool, cut) }
             DataIn::Capacity10 => write_capacity_10(config.blocks(), cut),
             DataIn::Capacity16 => write_capacity_16(config.blocks(), cut),
         }
@@ -102,6 +103,17 @@ impl DataIn {
 }
 
 impl<S: Store> Target<S> {
+    /// A report of the disk about itself.
+    pub(crate) fn report(&self, report: Report) -> DataIn
+        ensures { result ≡ DataIn.Report report (resources_of self.now.state) }
+    {
+        let pool = MappingResources {
+            blocks: self.config.pool(),
+            used: self.store.used(),
+        };
+        DataIn::Report(report, pool)
+    }
+
     /// Returns data, at most `allocation_length` bytes of it.
     pub(crate) fn return_data(
         &self,

@@ -432,7 +432,7 @@ impl<S: Store> Target<S> {
             Operation::ReturnReport {
                 report,
                 allocation_length,
-            } => self.return_data(DataIn::Report(*report), *allocation_length as usize, buf),
+            } => self.return_data(self.report(*report), *allocation_length as usize, buf),
             Operation::ReturnModes {
                 request,
                 allocation_length,

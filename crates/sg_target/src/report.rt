@@ -12,7 +12,6 @@ ghost use Rattle.sg_target.specs.MadeReplies.{ReturnsData};
 ghost use Rattle.sg_target.specs.PrimaryCommands.{returning_luns};
 
 use crate::config::Config;
-use crate::data_in::DataIn;
 use crate::operation::Operation;
 use crate::refusal::{Reason, Refusal};
 use crate::reply::Reply;
@@ -67,7 +66,7 @@ impl<S: Store> Target<S> {
     {
         self.attentions
             .clear_condition(initiator, UnitAttention::ReportedLunsDataChanged);
-        let luns = DataIn::Report(Report::LogicalUnits(listed));
+        let luns = self.report(Report::LogicalUnits(listed));
         self.return_data(luns, allocation_length as usize, buf)
     }
 }
