@@ -126,6 +126,9 @@ class Probe:
     def status_extents(self, _start):
         return []  # it reads no block
 
+    def resources(self):
+        return 0, 0  # nor does this
+
 
 def seen_by_faults(device, initiator, cdb, data_out):
     code = cdb[0] if cdb else None

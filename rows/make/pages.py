@@ -1,6 +1,7 @@
 """INQUIRY: standard INQUIRY data and pages of vital product data (SPC-4, 6.6 and 7.8; SBC-3)."""
 
 import blocks
+import provisioning
 
 VENDOR = b"SGMODEL "  # T10 VENDOR IDENTIFICATION, 8 bytes
 PRODUCT = b"THIN DISK       "  # 16 bytes
@@ -116,9 +117,10 @@ def block_device_characteristics(_device):
     return bytes(page[4:])
 
 
-def logical_block_provisioning(_device):
+def logical_block_provisioning(device):
     """SBC-3: LBPU, LBPWS, LBPWS10, LBPRZ and ANC_SUP are 1, PROVISIONING TYPE is 2"""
-    return bytes([0, 0x80 | 0x40 | 0x20 | 0x04 | 0x02, 2, 0])
+    exponent = provisioning.THRESHOLD_EXPONENT[device.profile]
+    return bytes([exponent, 0x80 | 0x40 | 0x20 | 0x04 | 0x02, 2, 0])
 
 
 STANDARD_INQUIRY_DATA = {"base": standard_inquiry_data, "extended": extended_standard_inquiry_data}

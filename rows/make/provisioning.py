@@ -15,6 +15,7 @@ from sense import (
 BLOCK_LENGTH = 512
 ZEROS = bytes(BLOCK_LENGTH)
 MAPPED, DEALLOCATED, ANCHORED = 0, 1, 2  # SBC-3, 5.4.2, PROVISIONING STATUS
+THRESHOLD_EXPONENT = {"base": 0, "extended": 1}  # SBC-3, 4.7: 0 is no thresholds; page B2h has it
 MOST_BLOCKS_OF_A_DESCRIPTOR = 2**32 - 1
 MOST_DESCRIPTORS = 512
 ALL_BLOCKS = 2**64
@@ -26,6 +27,10 @@ class Provisioning:
         self.pool = pool
         self.contents = {}  # the bytes of each mapped address, None for each anchored one
         self.most_moved = ALL_BLOCKS  # a fault moves fewer of a command's blocks
+
+    def resources(self):
+        """The blocks of the pool that no address has, and those that some address has"""
+        return self.pool - len(self.contents), len(self.contents)
 
     def status(self, address):
         if address not in self.contents:

@@ -39,7 +39,7 @@ TOOL_LINES = ("sg_inq", "sg_inq -l 5", "sg_vpd -p di", "sg_vpd -p bl", "sg_modes
 EXTENDED_LINES = (
     "sg_turs", "sg_requests", "sg_requests -d -m 5", "sg_luns", "sg_luns -s 1 -H", "sg_opcodes",
     "sg_opcodes -o 28h", "sg_opcodes -o 9eh -s 16 -R", "sg_opcodes -t -q", "sg_logs",
-    "sg_logs -p 2fh", "sg_readcap", "sg_readcap -l", "sg_sync", "sg_sync -l A -c N",
+    "sg_logs -p 0ch", "sg_logs -p 2fh", "sg_readcap", "sg_readcap -l", "sg_sync", "sg_sync -l A -c N",
     "sg_sync --16 -l A -c N", "sg_verify -l A -c N", "sg_verify --16 -l A -c N",
     "sg_verify -l A -c N -i B", "sg_verify -l A -c N -E 3 -i B", "sg_compare_and_write -l A -i B",
     "sg_compare_and_write -l A -i B", "sg_write_same -l A -n N -i B", "sg_write_same -S -l A -n N -U",
@@ -188,7 +188,7 @@ class Script:
         if command == "INQUIRY":
             pages = (0x00, 0x00, 0x80, 0x83, 0xB0, 0xB2)
         if command == "LOG SENSE":
-            pages = (0x00, 0x00, 0x2F)
+            pages = (0x00, 0x0C, 0x0C, 0x2F)
         if field == "count" and self.is_rare(0.03):
             return self.random.choice((256, 257, 2048, 2049, 65535, 65536))
         if command == "COMPARE AND WRITE" and field == "count":

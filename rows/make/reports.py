@@ -1,10 +1,11 @@
-"""What an extended disk reports about itself, whatever its blocks, and SEND DIAGNOSTIC.
+"""What an extended disk reports about itself, and SEND DIAGNOSTIC.
 
 They are commands of SPC-4, except READ DEFECT DATA (SBC-3, 5.17 and 5.18).
 """
 
 import sense
 from layouts import CODES_WITH_ACTIONS, LAYOUTS
+from provisioning import THRESHOLD_EXPONENT
 
 LUN_0 = bytes(8)
 # SELECT REPORT (SPC-4, 6.33): all units but well known ones, only well known ones, and both.
@@ -18,7 +19,14 @@ ALL_SUBPAGES = 0xFF
 # A log parameter (SPC-4, 7.3): its code, its control byte, its length, and three bytes. These are no
 # additional sense code with its qualifier, and no temperature.
 INFORMATIONAL_EXCEPTIONS = bytes([0x00, 0x00, 0x03, 3, 0x00, 0x00, 0xFF])
-LOG_PAGES = {0x00: (0x00, ALL_SUBPAGES), 0x2F: (0x00,)}  # page codes, each with its subpage codes
+# The codes of the parameters with LBA mapping resource counts (SBC-3, log parameters), and SCOPE 01b
+AVAILABLE, USED = 0x0001, 0x0002
+DEDICATED_TO_LOGICAL_UNIT = 0x01
+LOG_PAGES = {  # page codes, each with its subpage codes
+    0x00: (0x00, ALL_SUBPAGES),
+    0x0C: (0x00,),
+    0x2F: (0x00,),
+}
 DISABLE_SAVE, SUBPAGE_FORMAT = 0x80, 0x40
 
 MOST_FORMATS = 6  # DEFECT LIST FORMAT 110b is vendor specific, and 111b reserved (SBC-3, 5.3)
@@ -92,34 +100,46 @@ def task_management_functions(_device, _initiator, command, _data_out):
     return (bytes([FUNCTIONS, 0, 0, len(timeouts)]) + timeouts)[:command["allocation_length"]]
 
 
-def log_sense(_device, _initiator, command, _data_out):
+def log_sense(device, _initiator, command, _data_out):
     """SPC-4, 6.8 and 7.3"""
     code, subcode = command["page_code"], command["subpage_code"]
     if code not in LOG_PAGES:
         raise command.unsupported("page_code")
     if subcode not in LOG_PAGES[code]:
         raise command.unsupported("subpage_code")
-    flags, parameters = LOG_CONTENTS[code, subcode]()
+    flags, parameters = LOG_CONTENTS[code, subcode](device)
     page = bytes([flags | code, subcode]) + len(parameters).to_bytes(2, "big") + parameters
     return page[:command["allocation_length"]]
 
 
-def supported_pages():
+def supported_pages(_device):
     return 0, bytes(sorted(LOG_PAGES))
 
 
-def supported_subpages():
+def supported_subpages(_device):
     pairs = sorted((code, subcode) for code, its in LOG_PAGES.items() for subcode in its)
     return SUBPAGE_FORMAT, b"".join(map(bytes, pairs))
 
 
-def informational_exceptions():
+def logical_block_provisioning(device):
+    """SBC-3, log parameters: blocks of the pool in whole threshold sets. Anchored ones are used."""
+    threshold_set = 2 ** THRESHOLD_EXPONENT[device.profile]
+    parameters = b""
+    for code, blocks in zip((AVAILABLE, USED), device.provisioning.resources()):
+        count = (blocks // threshold_set).to_bytes(4, "big")
+        parameters += code.to_bytes(2, "big") + bytes([0x03, 8])
+        parameters += count + bytes([DEDICATED_TO_LOGICAL_UNIT, 0, 0, 0])
+    return DISABLE_SAVE, parameters
+
+
+def informational_exceptions(_device):
     return DISABLE_SAVE, INFORMATIONAL_EXCEPTIONS
 
 
 LOG_CONTENTS = {
     (0x00, 0x00): supported_pages,
     (0x00, ALL_SUBPAGES): supported_subpages,
+    (0x0C, 0x00): logical_block_provisioning,
     (0x2F, 0x00): informational_exceptions,
 }
 

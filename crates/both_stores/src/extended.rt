@@ -113,11 +113,12 @@ fn report_luns(random: &mut Random) -> Command {
 
 /// LOG SENSE, most often of a page that the disk has.
 fn log_sense(random: &mut Random) -> Option<Command> {
-    let (page, subpage_code) = match random.byte() % 4 {
+    let (page, subpage_code) = match random.byte() % 8 {
         0 => (0x00, 0x00),
         1 => (0x00, 0xFF),
         2 => (0x2F, 0x00),
-        _ => (0x0D, 0x00),
+        3 => (0x0D, 0x00),
+        _ => (0x0C, 0x00),
     };
     Some(Command::LogSense(LogSense {
         page_code: PageCode::new(page)?,
