@@ -1,11 +1,13 @@
 -- A command of a class that the reservation does not allow does not end with GOOD.
-use Rattle.std.proofs.Common.{◌≡◌, ℕ, false, List, ◌∷◌, Option, Some, None, Ok, refl, ap, sym}
+use Rattle.std.specs.FinMap.{len}
+use Rattle.std.proofs.Common.{◌≡◌, ℕ, true, false, List, ◌∷◌, Option, Some, None, Ok, refl, ap, sym}
 use Rattle.std.proofs.Common.{◌∙◌}
 use Rattle.sg_wire.specs.Laws.{CommandsHaveTheirClass}
 use Rattle.sg_wire.specs.CdbDecoding.{class_in, class_of, command_in}
 use Rattle.sg_wire.specs.declared.command.Class.{Class}
 use Rattle.sg_wire.specs.declared.profile.Profile.TheVariants.{Extended}
 use Rattle.sg_wire.proofs.ClassLemmas.{class-of_command}
+use Rattle.sg_store.specs.Disk.{Contents}
 use Rattle.sg_units.specs.Access.{allows}
 use Rattle.sg_target.specs.Checks.{cdb_checks, checked_cdb, empty_cdb, outranking_attention}
 use Rattle.sg_target.specs.Checks.{reservation_conflict}
@@ -17,7 +19,8 @@ use Rattle.sg_target.specs.declared.refusal.Refusal.{Refusal}
 use Rattle.sg_target.specs.declared.refusal.Refusal.TheVariants.{Conflict}
 use Rattle.sg_target.specs.declared.reply.Status.TheVariants.{Good}
 use Rattle.sg_target.proofs.LiftLemmas.{Asked, asked, lifted, not_good}
-use Rattle.sg_fencing.proofs.OperationLemmas.{asked-suits, class_for}
+use Rattle.sg_fencing.specs.Fencing.{CountsAsMany, is_log_sense}
+use Rattle.sg_fencing.proofs.OperationLemmas.{asked-suits, class_for, shows_number}
 
 module _ (state : State) (j : ℕ) where
   conflict : (cdb : List ℕ) (class : Class) → class_in (profile_of state) cdb ≡ Some class
@@ -49,6 +52,14 @@ module _ (state : State) (j : ℕ) where
       (asked-suits (config_of state) k.command data_out operation k.operation_is).class class is in
       passed-is-allowed cdb class k.passed
       (classes (profile_of state) cdb k.command k.read_as ∙ ap Some of_class) not_allowed
+
+  -- only LOG SENSE asks for an operation that may show a number
+  pub asked-number : (x : Contents) (cdb data_out : List ℕ) → CountsAsMany state x cdb
+      → (operation : Operation) → Asked state j cdb data_out operation
+      → shows_number operation ≡ true → len x ≡ len state.disk.contents
+  asked-number x cdb data_out none operation k shows =
+      let its = asked-suits (config_of state) k.command data_out operation k.operation_is in
+      none (ap is_log_sense k.read_as ∙ its.number shows)
 
   -- the class of a command is its class on the disk
   on-disk : (cdb data_out : List ℕ) (class : Class) (operation : Operation)

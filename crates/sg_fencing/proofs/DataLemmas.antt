@@ -35,7 +35,7 @@ use Rattle.sg_target.specs.declared.refusal.Refusal.{Refusal}
 use Rattle.sg_target.specs.declared.refusal.Refusal.TheVariants.{CheckCondition}
 use Rattle.sg_target.proofs.NeedLemmas.{need-alike}
 use Rattle.sg_fencing.specs.Laws.{HaveTheSameStatuses, OnlyReadsReturnData}
-use Rattle.sg_fencing.proofs.UnseenLemmas.{sound-alike}
+use Rattle.sg_fencing.proofs.UnseenLemmas.{luns-alike, report-alike, sound-alike}
 
 -- ---- The addresses that are used
 
@@ -186,6 +186,9 @@ module _ (law : RemappingTakesWhatIsNeeded) (s : State) (x : Contents) (i : ℕ)
       stored-alike _ _ (anchored-alike law m x extents used).size
   operation-alike (operation.AnchorExtent extent) r =
       stored-alike _ _ (anchored-alike law m x (extent ∷ []) used).size
+  operation-alike (operation.ReturnReport report n) r =
+      report-alike s x i report n (λ shows. sym used.size)
+  operation-alike (operation.ReturnLuns listed n) r = luns-alike s x i listed n
   operation-alike (operation.ReturnLbaStatus start n) r =
       ap (λ (ds : List StatusDescriptor). good (first_bytes n (status_data ds)))
       (same-descriptors m x h s.disk.capacity max_descriptors start)

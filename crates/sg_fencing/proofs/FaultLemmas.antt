@@ -72,8 +72,8 @@ module _ (stays : RefusedCommandsStayRefused) (disk : Armed) (j : ℕ) (cdb data
     writes = λ is. denied Writes is writes;
     reads = λ is excludes. denied Reads is (reads excludes);
     unseen =
-        λ contents excludes.
-        unseen-with-faults classes disk contents j (reads excludes) writes cdb data_out;
+        λ contents excludes none.
+        unseen-with-faults classes disk contents j (reads excludes) writes cdb data_out none;
     faults = λ other apart. faults-left classes disk j writes cdb data_out other apart;
   }
 

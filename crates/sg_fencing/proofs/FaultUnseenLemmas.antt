@@ -1,6 +1,7 @@
 -- On a disk with armed faults, too, the answers to an initiator that may neither read nor write do not
 -- depend on the blocks.
-use Rattle.std.proofs.Common.{◌≡◌, ℕ, false, List, Option, Some, None, Result, Ok, Err}
+use Rattle.std.specs.FinMap.{len}
+use Rattle.std.proofs.Common.{◌≡◌, ℕ, true, false, List, Option, Some, None, Result, Ok, Err}
 use Rattle.std.proofs.Common.{drop, refl, sym, ap, ap₂, subst, ◌∙◌}
 use Rattle.sg_wire.specs.CdbDecoding.{command_in}
 use Rattle.sg_wire.specs.Laws.{CommandsHaveTheirClass}
@@ -33,8 +34,9 @@ use Rattle.sg_target.specs.declared.reply.Status.TheVariants.{Good, NoReply}
 use Rattle.sg_target.proofs.ArmedLemmas.{Holds, holds}
 use Rattle.sg_target.proofs.LiftLemmas.{asked as asked-for}
 use Rattle.sg_fencing.specs.WithFaults.{ReturnTheSame, with_other_blocks}
-use Rattle.sg_fencing.proofs.AccessLemmas.{asked-is-allowed}
-use Rattle.sg_fencing.proofs.OperationLemmas.{class_for, first-class}
+use Rattle.sg_fencing.specs.Fencing.{CountsAsMany}
+use Rattle.sg_fencing.proofs.AccessLemmas.{asked-is-allowed, asked-number}
+use Rattle.sg_fencing.proofs.OperationLemmas.{class_for, first-class, first-number, shows_number}
 use Rattle.sg_fencing.proofs.UnseenLemmas.{operation-alike, parse-same}
 use Rattle.sg_fencing.proofs.UnseenRunLemmas.{operation-differs, refused-differ}
 
@@ -86,21 +88,26 @@ module _ (first second : Step) (answer : first.answer ≡ second.answer)
 
 -- ---- A command
 
--- an operation that neither reads nor writes
-abbrev IsBlind : Operation → Type 0
-IsBlind operation =
-    (class_for operation ≡ Some Reads → ⊥) × (class_for operation ≡ Some Writes → ⊥)
-
-first-blind : (n : ℕ) (operation : Operation) → IsBlind operation → IsBlind (first_blocks n operation)
-first-blind n operation h =
-    (λ e. h.0 (sym (first-class n operation) ∙ e), λ e. h.1 (sym (first-class n operation) ∙ e))
-
 module _ (disk : Armed) (x : Contents) (j : ℕ) (cdb : List ℕ) where
   abbrev s : State
   s = disk.state
 
   abbrev t : State
   t = with_contents s x
+
+  -- an operation that neither reads nor writes, and shows no number by which the contents differ
+  record IsBlind (operation : Operation) : Type 0 where
+    reads : class_for operation ≡ Some Reads → ⊥
+    writes : class_for operation ≡ Some Writes → ⊥
+    number : shows_number operation ≡ true → len x ≡ len s.disk.contents
+
+  first-blind : (n : ℕ) (operation : Operation) → IsBlind operation
+      → IsBlind (first_blocks n operation)
+  first-blind n operation h = record {
+    reads = λ e. h.reads (sym (first-class n operation) ∙ e);
+    writes = λ e. h.writes (sym (first-class n operation) ∙ e);
+    number = λ e. h.number (sym (first-number n operation) ∙ e);
+  }
 
   result-alike : (result : Result Operation Refusal) → Holds IsBlind first-blind result
       → (mark : Option Fault) (command : Seen) (faults : Faults)
@@ -111,7 +118,7 @@ module _ (disk : Armed) (x : Contents) (j : ℕ) (cdb : List ℕ) where
       finished_if_good done.answer.status mark command faults done)
   result-alike (Ok operation) h =
       finished-alike (step_by s j operation) (step_by t j operation)
-      (operation-alike s x j operation h.0 h.1)
+      (operation-alike s x j operation h.reads h.writes h.number)
       (ap (λ (a : State). a.modes) (operation-differs s x j operation))
   result-alike (Err refusal) h =
       finished-alike (refused s j refusal) (refused t j refusal) refl
@@ -134,23 +141,26 @@ module _ (disk : Armed) (x : Contents) (j : ℕ) (cdb : List ℕ) where
       (parse-same s x j data_out (command_in (profile_of s) cdb))
 
   blind : CommandsHaveTheirClass → allows s.reservations j Reads ≡ false
-      → allows s.reservations j Writes ≡ false → (data_out : List ℕ)
+      → allows s.reservations j Writes ≡ false → CountsAsMany s x cdb → (data_out : List ℕ)
       → (checked : Result Operation Refusal) → checked_cdb s j cdb data_out ≡ checked
       → Holds IsBlind first-blind checked
-  blind classes no_reads no_writes data_out (Ok operation) e =
-      let k = asked-for s j cdb data_out operation e in (
-        asked-is-allowed s j classes cdb data_out operation Reads k no_reads,
-        asked-is-allowed s j classes cdb data_out operation Writes k no_writes,
-      )
-  blind classes no_reads no_writes data_out (Err refusal) e = tt
+  blind classes no_reads no_writes none data_out (Ok operation) e =
+      let k = asked-for s j cdb data_out operation e in
+      record {
+        reads = asked-is-allowed s j classes cdb data_out operation Reads k no_reads;
+        writes = asked-is-allowed s j classes cdb data_out operation Writes k no_writes;
+        number = asked-number s j x cdb data_out none operation k;
+      }
+  blind classes no_reads no_writes none data_out (Err refusal) e = tt
 
 -- what an initiator gets that may neither read nor write is the same whatever the blocks are
 pub unseen-with-faults : CommandsHaveTheirClass → (disk : Armed) (contents : Contents) (j : ℕ)
     → allows disk.state.reservations j Reads ≡ false
     → allows disk.state.reservations j Writes ≡ false → (cdb data_out : List ℕ)
+    → CountsAsMany disk.state contents cdb
     → ReturnTheSame (armed_step (with_other_blocks disk contents) j cdb data_out)
     (armed_step disk j cdb data_out)
-unseen-with-faults classes disk contents j no_reads no_writes cdb data_out =
+unseen-with-faults classes disk contents j no_reads no_writes cdb data_out none =
     let checked = checked_cdb disk.state j cdb data_out in
     let other = with_other_blocks disk contents in
     let same =
@@ -159,5 +169,5 @@ unseen-with-faults classes disk contents j no_reads no_writes cdb data_out =
     (armed_step_by other j cdb c))
     (checked-same disk contents j cdb data_out)
     (checked-alike disk contents j cdb checked
-    (blind disk contents j cdb classes no_reads no_writes data_out checked refl)) in
+    (blind disk contents j cdb classes no_reads no_writes none data_out checked refl)) in
     record { answer = sym same.answer; unsent = sym same.unsent }

@@ -45,7 +45,7 @@ use Rattle.sg_target.specs.declared.refusal.Reason.TheVariants.{InvalidFieldInCd
 use Rattle.sg_target.specs.declared.refusal.Refusal.{Refusal}
 use Rattle.sg_target.specs.declared.refusal.Refusal.TheVariants.{CheckCondition}
 use Rattle.sg_target.specs.Semantics.{medium_use}
-use Rattle.sg_fencing.specs.Fencing.{shows_others}
+use Rattle.sg_fencing.specs.Fencing.{is_log_sense, shows_others}
 use Rattle.sg_fencing.specs.Laws.{may_change_blocks}
 
 -- the class of the commands that ask for an operation, if it looks at blocks or changes blocks or
@@ -92,13 +92,26 @@ shows (ReturnReservations action n) = true
 shows (ChangeReservations action scope_type list) = true
 shows _ = false
 
+-- a log page may have the number of used addresses
+abbrev pub shows_number : Operation → Bool
+shows_number (ReturnReport (report.Log page) n) = true
+shows_number _ = false
+
+pub first-number : (n : ℕ) (operation : Operation)
+    → shows_number (first_blocks n operation) ≡ shows_number operation
+first-number n (Read extent) = refl
+first-number n (Write out) = refl
+first-number n (Fill extent block) = refl
+first-number n _ = refl
+
 -- the command is of the operation's class and of each of its kinds, and shows others if the
--- operation does
+-- operation does; it is LOG SENSE if the operation may show a number
 pub record Suits (command : Command) (operation : Operation) : Type 0 where
   pub class : (class : Class) → class_for operation ≡ Some class → (layout command).class ≡ class
   pub of_kind : (kind : OutAction → Bool) → is_of_kind kind (Ok command) ≡ true
       → fits kind operation ≡ true
   pub shown : shows_others (Ok command) ≡ shows operation
+  pub number : shows_number operation ≡ true → is_log_sense (Ok command) ≡ true
 
 some-same : {class : Class} → Some Writes ≡ Some class → Writes ≡ class
 some-same h = cc
@@ -117,19 +130,19 @@ same-suits : (command : Command) → (layout command).class ≡ Writes
     → (anchor is_unmapped : Bool) (extent : Extent) (block : List ℕ)
     → Suits command (if is_unmapped then unmap_extent anchor extent else Fill extent block)
 same-suits command w s true true extent block =
-    record { class = λ class h. cc; of_kind = λ kind k. refl; shown = s }
+    record { class = λ class h. cc; of_kind = λ kind k. refl; shown = s; number = λ n. cc }
 same-suits command w s false true extent block =
-    record { class = λ class h. cc; of_kind = λ kind k. refl; shown = s }
+    record { class = λ class h. cc; of_kind = λ kind k. refl; shown = s; number = λ n. cc }
 same-suits command w s anchor false extent block =
-    record { class = λ class h. cc; of_kind = λ kind k. refl; shown = s }
+    record { class = λ class h. cc; of_kind = λ kind k. refl; shown = s; number = λ n. cc }
 
 unmap-suits : (command : Command) → (layout command).class ≡ Writes
     → shows_others (Ok command) ≡ false
     → (anchor : Bool) (extents : List Extent) → Suits command (unmap_extents anchor extents)
 unmap-suits command w s true extents =
-    record { class = λ class h. cc; of_kind = λ kind k. refl; shown = s }
+    record { class = λ class h. cc; of_kind = λ kind k. refl; shown = s; number = λ n. cc }
 unmap-suits command w s false extents =
-    record { class = λ class h. cc; of_kind = λ kind k. refl; shown = s }
+    record { class = λ class h. cc; of_kind = λ kind k. refl; shown = s; number = λ n. cc }
 
 -- VERIFY reads
 module _ (command : Command) (r : (layout command).class ≡ Reads)
@@ -138,34 +151,35 @@ module _ (command : Command) (r : (layout command).class ≡ Reads)
       → SuitsIf command (cond none (verify_only config extent byte)
       (takes config logical_block_length (too_long config extent.count byte)
       (Ok (CompareEach extent block)))).operation
-  each-suits block true = record { class = λ class h. cc; of_kind = λ kind k. refl; shown = s }
-  each-suits block false = record { class = λ class h. cc; of_kind = λ kind k. refl; shown = s }
+  each-suits block true = record { class = λ class h. cc; of_kind = λ kind k. refl; shown = s; number = λ n. cc }
+  each-suits block false = record { class = λ class h. cc; of_kind = λ kind k. refl; shown = s; number = λ n. cc }
 
   verify-suits : (check : ByteCheck) (data_out : List ℕ)
       → SuitsIf command (verify config check extent byte data_out).operation
   verify-suits check.Nothing data_out =
-      record { class = λ class h. cc; of_kind = λ kind k. refl; shown = s }
+      record { class = λ class h. cc; of_kind = λ kind k. refl; shown = s; number = λ n. cc }
   verify-suits check.Reserved data_out =
-      record { class = λ class h. cc; of_kind = λ kind k. refl; shown = s }
+      record { class = λ class h. cc; of_kind = λ kind k. refl; shown = s; number = λ n. cc }
   verify-suits check.DataOut data_out =
-      record { class = λ class h. cc; of_kind = λ kind k. refl; shown = s }
+      record { class = λ class h. cc; of_kind = λ kind k. refl; shown = s; number = λ n. cc }
   verify-suits check.OneBlock data_out = each-suits (block_out data_out) (extent.count == 0)
 
 -- FORMAT UNIT writes
 format-suits : (c : FormatUnit) (refused : Option Refusal) (blocks : ℕ)
     → SuitsIf (command.FormatUnit c) (unless_refused refused (Ok (UnmapAll blocks)))
 format-suits c None blocks =
-    record { class = λ class h. cc; of_kind = λ kind k. refl; shown = refl }
+    record { class = λ class h. cc; of_kind = λ kind k. refl; shown = refl; number = λ n. cc }
 format-suits c (Some refusal) blocks = tt
 
 -- START STOP UNIT is a command that writes if it stops the unit
 start-suits : (c : StartStopUnit) (start : Bool) → c.start ≡ start
     → Suits (command.StartStopUnit c) (StartStop start)
-start-suits c true e = record { class = λ class h. cc; of_kind = λ kind k. refl; shown = refl }
+start-suits c true e = record { class = λ class h. cc; of_kind = λ kind k. refl; shown = refl; number = λ n. cc }
 start-suits c false e = record {
   class = λ class h. ap (λ b. if b && c.power_condition == 0 then Always else Writes) e ∙ some-same h;
   of_kind = λ kind k. refl;
   shown = refl;
+  number = λ n. cc;
 }
 
 pub suits : (config : ConfigFields) (command : Command) (data_out : List ℕ)
@@ -175,7 +189,7 @@ suits config (command.Inquiry c) data_out =
     (ok_or (inquiry_page config.identity.profile c.evpd c.page_code)
     (CheckCondition (InvalidFieldInCdb 2)))
     (λ page. ReturnInquiry page c.allocation_length)
-    (λ page. record { class = λ class h. cc; of_kind = λ kind k. refl; shown = refl })
+    (λ page. record { class = λ class h. cc; of_kind = λ kind k. refl; shown = refl; number = λ n. cc })
 suits config (command.Verify10 c) data_out =
     verify-suits (command.Verify10 c) refl refl config (extent c.extent.lba c.extent.count) 7
     c.byte_check data_out
@@ -192,17 +206,17 @@ suits config (command.LogSense c) data_out =
     (or_refused (λ byte. CheckCondition (InvalidFieldInCdb byte))
     (log_page_with c.page_code c.subpage_code))
     (λ page. ReturnReport (report.Log page) c.allocation_length)
-    (λ page. record { class = λ class h. cc; of_kind = λ kind k. refl; shown = refl })
+    (λ page. record { class = λ class h. cc; of_kind = λ kind k. refl; shown = refl; number = λ n. refl })
 suits config (command.ReportSupportedOperationCodes c) data_out =
     sound-suits (command.ReportSupportedOperationCodes c)
     (ok_or (requested_report config.identity.profile c) (CheckCondition (InvalidFieldInCdb 2)))
     (λ requested. ReturnReport (report.Commands requested) c.allocation_length)
-    (λ requested. record { class = λ class h. cc; of_kind = λ kind k. refl; shown = refl })
+    (λ requested. record { class = λ class h. cc; of_kind = λ kind k. refl; shown = refl; number = λ n. cc })
 suits config (command.ReportLuns c) data_out =
     sound-suits (command.ReportLuns c)
     (ok_or (lists_unit c.select) (CheckCondition (InvalidFieldInCdb 2)))
     (λ listed. ReturnLuns listed c.allocation_length)
-    (λ listed. record { class = λ class h. cc; of_kind = λ kind k. refl; shown = refl })
+    (λ listed. record { class = λ class h. cc; of_kind = λ kind k. refl; shown = refl; number = λ n. cc })
 suits config (command.StartStopUnit c) data_out = start-suits c c.start refl
 suits config (command.WriteSame10 c) data_out =
     same-suits (command.WriteSame10 c) refl refl c.anchor
@@ -216,9 +230,9 @@ suits config (command.Unmap c) data_out =
 suits config (command.PersistentReserveOut c) data_out =
     sound-suits (command.PersistentReserveOut c)
     (fields_out (first_bytes c.list_length data_out)) (ChangeReservations c.action c.scope_type)
-    (λ list. record { class = λ class h. cc; of_kind = λ kind k. k; shown = refl })
+    (λ list. record { class = λ class h. cc; of_kind = λ kind k. k; shown = refl; number = λ n. cc })
 suits config other data_out =
-    record { class = λ class h. cc; of_kind = λ kind k. refl; shown = refl }
+    record { class = λ class h. cc; of_kind = λ kind k. refl; shown = refl; number = λ n. cc }
 
 at-ok : (command : Command) (asked : Result Operation Refusal) (operation : Operation)
     → SuitsIf command asked → asked ≡ Ok operation → Suits command operation

@@ -58,7 +58,11 @@ use Rattle.sg_target.proofs.LiftLemmas.{Asked, lifted, lifted-both, not_good, ou
 use Rattle.sg_fencing.specs.Stopping.{BaseDisksAreNeverStopped, OnlyStartStopUnitStops}
 use Rattle.sg_fencing.specs.Stopping.{StoppedUnitsAreIdle, is_start_stop, starts_unit}
 use Rattle.sg_fencing.proofs.DiskLemmas.{changes-none, effect-leaves, operation-leaves, refused-leaves}
+use Rattle.sg_fencing.specs.Fencing.{CountsAsMany}
+use Rattle.sg_fencing.proofs.AccessLemmas.{asked-number}
+use Rattle.sg_fencing.proofs.OperationLemmas.{shows_number}
 use Rattle.sg_fencing.proofs.UnseenLemmas.{operation-alike, parse-same, sound-alike}
+use Rattle.std.specs.FinMap.{len}
 
 -- ---- The command that asks to stop or to start
 
@@ -347,24 +351,27 @@ module _ (s : State) (x : Contents) (i : ℕ) where
   t = with_contents s x
 
   idle-alike : (operation : Operation) → (medium_use operation).needs_ready ≡ false
+      → (shows_number operation ≡ true → len x ≡ len s.disk.contents)
       → (step_by s i operation).answer ≡ (step_by t i operation).answer
   unfolding selected_modes
-  idle-alike (StartStop start) h = refl
-  idle-alike (ChangeModes width sp list) h =
+  idle-alike (StartStop start) h same = refl
+  idle-alike (ChangeModes width sp list) h same =
       sound-alike s x i (selected_modes s width sp list) (changing_modes s i) (changing_modes t i)
       (λ modes. refl)
-  idle-alike operation h = operation-alike s x i operation (λ reads. cc) (λ writes. cc)
+  idle-alike operation h same =
+      operation-alike s x i operation (λ reads. cc) (λ writes. cc) same
 
-  answer-stays : (cdb data_out : List ℕ) → s.stopped ≡ true
+  answer-stays : (cdb data_out : List ℕ) → s.stopped ≡ true → CountsAsMany s x cdb
       → (step t i cdb data_out).answer ≡ (step s i cdb data_out).answer
-  answer-stays cdb data_out stopped =
+  answer-stays cdb data_out stopped none =
       sym (lifted-both s t i cdb data_out refl refl (parse-same s x i data_out)
       (λ (first second : Step). first.answer ≡ second.answer) (λ refusal. refl)
-      (λ operation k. idle-alike operation (asked-idle s i cdb data_out operation k stopped)))
+      (λ operation k. idle-alike operation (asked-idle s i cdb data_out operation k stopped)
+      (asked-number s i x cdb data_out none operation k)))
 
 pub idle-units : StoppedUnitsAreIdle
 idle-units = record {
   disk = disk-stays;
-  answer = λ state contents i cdb data_out stopped.
-      answer-stays state contents i cdb data_out stopped;
+  answer = λ state contents i cdb data_out stopped none.
+      answer-stays state contents i cdb data_out stopped none;
 }

@@ -33,10 +33,10 @@ use Rattle.sg_target.specs.declared.refusal.Reason.TheVariants.{SpaceAllocationF
 use Rattle.sg_target.specs.declared.refusal.Reason.TheVariants.{UnitAttention as Attention}
 use Rattle.sg_target.specs.declared.refusal.Refusal.{Refusal}
 use Rattle.sg_target.specs.declared.refusal.Refusal.TheVariants.{CheckCondition}
-use Rattle.sg_fencing.specs.Fencing.{is_from}
+use Rattle.sg_fencing.specs.Fencing.{CountsAsMany, is_from}
 use Rattle.sg_fencing.specs.ChosenAnswers.{answers_where, calls_among}
 use Rattle.sg_fencing.specs.Registrants.{ExcludesReadingFrom, StaysUnregistered, excludes_reading}
-use Rattle.sg_fencing.specs.Registrants.{is_registrant}
+use Rattle.sg_fencing.specs.Registrants.{CountsAsManyOver, is_registrant}
 use Rattle.sg_fencing.proofs.FencedRunLemmas.{answers_in}
 use Rattle.sg_target.proofs.LiftLemmas.{lifted-both}
 use Rattle.sg_fencing.proofs.OutsiderLemmas.{shut}
@@ -187,29 +187,32 @@ module _ (refuses : OthersAreRefused) (classes : CommandsHaveTheirClass) (i : �
   same-answer : (s t : State) (call : Call) → DifferInBlocks s t
       → is_registrant s call.initiator ≡ false
       → excludes_reading s.reservations.reservation ≡ true
+      → CountsAsMany s t.disk.contents call.cdb.now
       → (step_of t call).answer ≡ (step_of s call).answer
-  same-answer s t call h unknown exclusive =
+  same-answer s t call h unknown exclusive none =
       let j = call.initiator in
       let held = held-to-exclude s.reservations.reservation exclusive in
       let no = shut refuses s j (record { held = held; unknown = unknown }) in
       subst (λ (a : State). (step_of a call).answer ≡ (step_of s call).answer) h
       (unseen classes s t.disk.contents j (no.reads exclusive) no.writes call.cdb.now
-      call.data_out.now)
+      call.data_out.now none)
 
   pub unseen-over : (calls : List Call) (s t : State) → DifferInBlocks s t
       → StaysUnregistered i s calls → ExcludesReadingFrom i s calls
+      → CountsAsManyOver i s t calls
       → answers_where (is_from i) t calls ≡ answers_where (is_from i) s calls
-  unseen-over [] s t h stays exclusive = refl
-  unseen-over (call ∷ calls) s t h stays exclusive =
+  unseen-over [] s t h stays exclusive none = refl
+  unseen-over (call ∷ calls) s t h stays exclusive none =
       let after = (step_of s call).state in
       let after' = (step_of t call).state in
       let rest = unseen-over calls after after' (next-differs s t call h)
       (λ n other e from. stays (suc n) other e from)
-      (λ n other e from. exclusive (suc n) other e from) in
+      (λ n other e from. exclusive (suc n) other e from)
+      (λ n other e from. none (suc n) other e from) in
       more call (is_from i call) (step_of t call).answer (step_of s call).answer (exchanges after' calls)
       (exchanges after calls)
       (λ from.
       let own = eqb-true call.initiator i from in
       same-answer s t call h (ap (is_registrant s) own ∙ (stays 0 call refl own).0)
-      (exclusive 0 call refl own))
+      (exclusive 0 call refl own) (none 0 call refl own))
       rest

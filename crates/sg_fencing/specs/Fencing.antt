@@ -2,11 +2,12 @@
 -- shares.
 use Rattle.std.specs.Prelude.{◌≡◌, ◌≢◌, ℕ, ◌==◌, Bool, true, false, ◌&&◌, ◌||◌, not, List}
 use Rattle.std.specs.Prelude.{filter, slice_get, take, Option, Some, Result, Ok}
-use Rattle.sg_wire.specs.CdbDecoding.{class_of, command_of}
+use Rattle.std.specs.FinMap.{len}
+use Rattle.sg_wire.specs.CdbDecoding.{class_of, command_in, command_of}
 use Rattle.sg_wire.specs.declared.command.CdbFault.{CdbFault}
 use Rattle.sg_wire.specs.declared.command.Class.TheVariants.{Reads, Writes}
 use Rattle.sg_wire.specs.declared.command.Command.{Command}
-use Rattle.sg_wire.specs.declared.command.Command.TheVariants.{PersistentReserveIn}
+use Rattle.sg_wire.specs.declared.command.Command.TheVariants.{LogSense, PersistentReserveIn}
 use Rattle.sg_wire.specs.declared.command.Command.TheVariants.{PersistentReserveOut}
 use Rattle.sg_store.specs.Disk.{Contents, Disk}
 use Rattle.sg_pages.specs.ModePage.{ModeState}
@@ -21,7 +22,7 @@ use Rattle.sg_units.specs.declared.types.ReservationType.TheVariants.{ExclusiveA
 use Rattle.sg_units.specs.declared.unit_attention.UnitAttention.{UnitAttention}
 use Rattle.sg_target.specs.Effect.{with_contents}
 use Rattle.sg_target.specs.Runs.{all_calls, answers, state_after_all, state_after_events, step_of}
-use Rattle.sg_target.specs.State.{IsWithinLimits, State}
+use Rattle.sg_target.specs.State.{IsWithinLimits, State, profile_of}
 use Rattle.sg_target.specs.Step.{Answer, Step, step}
 use Rattle.sg_target.specs.declared.call.Call.{Call}
 use Rattle.sg_target.specs.declared.event.Event.{Event}
@@ -125,12 +126,26 @@ OnlyPreemptionEnds =
     → can_end_for_others (command_of cdb) ≡ false
     → holds_alone (step state other cdb data_out).state holder ≡ true
 
+-- A reservation does not stop LOG SENSE (SPC-4, 5.13), which reports how many blocks of the pool are
+-- used (SBC-3, log parameters).
+abbrev pub is_log_sense : Result Command CdbFault → Bool
+is_log_sense (Ok (LogSense c)) = true
+is_log_sense _ = false
+
+-- A command counts as many used addresses in other contents as on the disk: it counts none, or the numbers
+-- are the same.
+abbrev pub CountsAsMany : State → Contents → (cdb : List ℕ) → Type 0
+CountsAsMany state contents cdb =
+    is_log_sense (command_in (profile_of state) cdb) ≡ true → len contents ≡ len state.disk.contents
+
 -- Under exclusive access the answer to a command of another initiator is the same whatever the
--- blocks are, and whichever are mapped. This holds for each command, of whichever class.
+-- blocks are, and whichever are mapped. This holds for each command, of whichever class. Only LOG SENSE
+-- reports how many are used.
 abbrev pub OthersSeeNoBlock : Type 0
 OthersSeeNoBlock =
     (state : State) (contents : Contents) (holder other : ℕ) (cdb data_out : List ℕ)
     → IsWithinLimits state → other ≢ holder → holds_type state holder ExclusiveAccess ≡ true
+    → CountsAsMany state contents cdb
     → (step (with_contents state contents) other cdb data_out).answer
     ≡ (step state other cdb data_out).answer
 

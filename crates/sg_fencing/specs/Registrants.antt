@@ -34,7 +34,7 @@ use Rattle.sg_target.specs.declared.event.Event.{Event}
 use Rattle.sg_target.specs.declared.event.Event.TheVariants as event
 use Rattle.sg_target.specs.declared.reply.Status.TheVariants.{Good}
 use Rattle.sg_fencing.specs.ChosenAnswers.{answers_where}
-use Rattle.sg_fencing.specs.Fencing.{IsLeft, is_from}
+use Rattle.sg_fencing.specs.Fencing.{CountsAsMany, IsLeft, is_from}
 
 -- ---- Words
 
@@ -118,12 +118,12 @@ FencedOffLeaveTheView =
     → IsLeft state (step state other cdb data_out).state initiator
 
 -- Under exclusive access the answer to it is the same whatever the blocks are, and whichever are
--- mapped.
+-- mapped. Only LOG SENSE reports how many are used.
 abbrev pub FencedOffSeeNoBlock : Type 0
 FencedOffSeeNoBlock =
     (state : State) (contents : Contents) (initiator : ℕ) (cdb data_out : List ℕ)
     → is_fenced_off state initiator ≡ true
-    → excludes_reading state.reservations.reservation ≡ true
+    → excludes_reading state.reservations.reservation ≡ true → CountsAsMany state contents cdb
     → (step (with_contents state contents) initiator cdb data_out).answer
     ≡ (step state initiator cdb data_out).answer
 
@@ -245,12 +245,22 @@ ExcludesReadingFrom initiator state calls =
     (n : ℕ) (call : Call) → slice_get calls n ≡ Some call → call.initiator ≡ initiator
     → excludes_reading (state_after_all state (take n calls)).reservations.reservation ≡ true
 
+-- Whenever an initiator sends a LOG SENSE, as many addresses are used after these calls from one state as
+-- from another.
+abbrev pub CountsAsManyOver : (initiator : ℕ) → (first second : State) → List Call → Type 0
+CountsAsManyOver initiator first second calls =
+    (n : ℕ) (call : Call) → slice_get calls n ≡ Some call → call.initiator ≡ initiator
+    → CountsAsMany (state_after_all first (take n calls))
+    (state_after_all second (take n calls)).disk.contents call.cdb.now
+
 -- Then an initiator that stays unregistered sees no block, whatever the others write. The answers
--- to it are the same whatever the blocks were before the list, and whichever were mapped.
+-- to it are the same whatever the blocks were before the list, and whichever were mapped. Only LOG SENSE
+-- reports how many are used.
 abbrev pub NoBlockIsSeenOverAList : Type 0
 NoBlockIsSeenOverAList =
     (state : State) (contents : Contents) (initiator : ℕ) (calls : List Call)
     → StaysUnregistered initiator state calls → ExcludesReadingFrom initiator state calls
+    → CountsAsManyOver initiator state (with_contents state contents) calls
     → answers_where (is_from initiator) (with_contents state contents) calls
     ≡ answers_where (is_from initiator) state calls
 

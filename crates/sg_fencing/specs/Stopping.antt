@@ -18,6 +18,7 @@ use Rattle.sg_target.specs.declared.happening.Happening.{Happening}
 use Rattle.sg_target.specs.declared.happening.Happening.TheVariants.{Power, LogicalUnitReset}
 use Rattle.sg_target.specs.declared.happening.Happening.TheVariants.{TargetReset}
 use Rattle.sg_target.specs.declared.reply.Status.TheVariants.{Good}
+use Rattle.sg_fencing.specs.Fencing.{CountsAsMany}
 
 -- ---- Who stops and starts it
 
@@ -56,11 +57,11 @@ BaseDisksAreNeverStopped =
 -- ---- What it does meanwhile
 
 -- While the unit is stopped, no command changes the disk. No answer depends on the blocks, or on which
--- are mapped.
+-- are mapped. Only LOG SENSE reports how many are used.
 pub record StoppedUnitsAreIdle : Type 0 where
   pub disk : (state : State) (initiator : ℕ) (cdb data_out : List ℕ) → state.stopped ≡ true
       → (step state initiator cdb data_out).state.disk ≡ state.disk
   pub answer : (state : State) (contents : Contents) (initiator : ℕ) (cdb data_out : List ℕ)
-      → state.stopped ≡ true
+      → state.stopped ≡ true → CountsAsMany state contents cdb
       → (step (with_contents state contents) initiator cdb data_out).answer
       ≡ (step state initiator cdb data_out).answer

@@ -18,7 +18,7 @@ use Rattle.sg_target.specs.declared.call.Call.{Call}
 use Rattle.sg_target.specs.declared.event.Event.{Event}
 use Rattle.sg_target.specs.declared.event.Event.TheVariants as event
 use Rattle.sg_target.specs.declared.reply.Status.TheVariants.{Good}
-use Rattle.sg_fencing.specs.Fencing.{IsLeft, holds_alone, holds_type}
+use Rattle.sg_fencing.specs.Fencing.{CountsAsMany, IsLeft, holds_alone, holds_type}
 use Rattle.sg_fencing.specs.Registrants.{IsPreempted, RegistersItself, excludes_reading, is_fenced_off}
 use Rattle.sg_fencing.specs.Registrants.{is_registrant, is_reserved}
 
@@ -52,13 +52,15 @@ faults_for disk initiator = map (λ slot. option_and_then (left_for initiator) s
 
 -- A command of an initiator is denied if it writes. If reading is excluded, a command that reads, such
 -- as READ, is denied too. Then the answer to any command, of whichever class, is the same whatever the
--- blocks are, and whichever are mapped. No command changes what is left of the faults for others.
+-- blocks are, and whichever are mapped. Only LOG SENSE reports how many are used. No command changes what
+-- is left of the faults for others.
 pub record IsKeptAway (disk : Armed) (initiator : ℕ) (cdb data_out : List ℕ)
     (excludes_reading : Bool) : Type 0 where
   pub writes : class_of cdb ≡ Some Writes → IsDenied (armed_step disk initiator cdb data_out)
   pub reads : class_of cdb ≡ Some Reads → excludes_reading ≡ true
       → IsDenied (armed_step disk initiator cdb data_out)
   pub unseen : (contents : Contents) → excludes_reading ≡ true
+      → CountsAsMany disk.state contents cdb
       → ReturnTheSame (armed_step (with_other_blocks disk contents) initiator cdb data_out)
       (armed_step disk initiator cdb data_out)
   pub faults : (other : ℕ) → other ≢ initiator

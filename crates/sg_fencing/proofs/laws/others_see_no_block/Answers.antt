@@ -6,9 +6,9 @@ use Rattle.sg_fencing.proofs.UnseenLemmas.{unseen}
 use Rattle.sg_fencing.proofs.laws.others_see_no_block.Goals as goal
 
 pub returns : goal.returns
-returns c state contents holder other cdb data_out w differ exclusive =
+returns c state contents holder other cdb data_out w differ exclusive none =
     let h = alone state holder w (or_right (holds_type state holder WriteExclusive) _ exclusive) in
     let refused =
     refuses-others c.others_are_refused.ensures state.reservations holder other differ h in
     unseen c.commands_have_their_class.ensures state contents other
-    (refused.reads (is-exclusive state holder h exclusive)) refused.writes cdb data_out
+    (refused.reads (is-exclusive state holder h exclusive)) refused.writes cdb data_out none
