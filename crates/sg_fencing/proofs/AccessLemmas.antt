@@ -19,7 +19,7 @@ use Rattle.sg_target.specs.declared.refusal.Refusal.{Refusal}
 use Rattle.sg_target.specs.declared.refusal.Refusal.TheVariants.{Conflict}
 use Rattle.sg_target.specs.declared.reply.Status.TheVariants.{Good}
 use Rattle.sg_target.proofs.LiftLemmas.{Asked, asked, lifted, not_good}
-use Rattle.sg_fencing.specs.Fencing.{CountsAsMany, is_log_sense}
+use Rattle.sg_fencing.specs.Fencing.{CountsAsMany, counts_used}
 use Rattle.sg_fencing.proofs.OperationLemmas.{asked-suits, class_for, shows_number}
 
 module _ (state : State) (j : ℕ) where
@@ -53,13 +53,13 @@ module _ (state : State) (j : ℕ) where
       passed-is-allowed cdb class k.passed
       (classes (profile_of state) cdb k.command k.read_as ∙ ap Some of_class) not_allowed
 
-  -- only LOG SENSE asks for an operation that may show a number
+  -- only a command that counts the used addresses asks for an operation that shows their number
   pub asked-number : (x : Contents) (cdb data_out : List ℕ) → CountsAsMany state x cdb
       → (operation : Operation) → Asked state j cdb data_out operation
       → shows_number operation ≡ true → len x ≡ len state.disk.contents
   asked-number x cdb data_out none operation k shows =
       let its = asked-suits (config_of state) k.command data_out operation k.operation_is in
-      none (ap is_log_sense k.read_as ∙ its.number shows)
+      none (ap counts_used k.read_as ∙ its.number shows)
 
   -- the class of a command is its class on the disk
   on-disk : (cdb data_out : List ℕ) (class : Class) (operation : Operation)

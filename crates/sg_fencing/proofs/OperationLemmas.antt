@@ -12,6 +12,7 @@ use Rattle.sg_wire.specs.declared.command.Command.{Command}
 use Rattle.sg_wire.specs.declared.command.Command.TheVariants as command
 use Rattle.sg_wire.specs.declared.command.CdbFault.{CdbFault}
 use Rattle.sg_wire.specs.declared.command.format.FormatUnit.{FormatUnit}
+use Rattle.sg_wire.specs.declared.command.diagnostic.LogSense.{LogSense}
 use Rattle.sg_wire.specs.declared.command.out_action.OutAction.{OutAction}
 use Rattle.sg_wire.specs.declared.extent.Extent.{Extent}
 use Rattle.sg_wire.specs.declared.out_list.OutList.{OutList}
@@ -28,6 +29,10 @@ use Rattle.sg_target.specs.ProvisioningCommands.{block_out, same_block, unmaps}
 use Rattle.sg_target.specs.Demands.{extents_out}
 use Rattle.sg_wire.specs.SupportedOperations.{requested_report}
 use Rattle.sg_pages.specs.Reports.{lists_unit, log_page_with}
+use Rattle.sg_pages.specs.declared.reports.LogPage.{LogPage}
+use Rattle.sg_pages.specs.declared.reports.LogPage.TheVariants.{InformationalExceptions}
+use Rattle.sg_pages.specs.declared.reports.LogPage.TheVariants.{LogicalBlockProvisioning}
+use Rattle.sg_pages.specs.declared.reports.LogPage.TheVariants.{SupportedPages, SupportedSubpages}
 use Rattle.sg_pages.specs.declared.reports.Report.TheVariants as report
 use Rattle.sg_target.specs.Refusal.{or_refused, unless_refused, when_sound}
 use Rattle.sg_target.specs.ReservationCommands.{fields_out}
@@ -45,7 +50,7 @@ use Rattle.sg_target.specs.declared.refusal.Reason.TheVariants.{InvalidFieldInCd
 use Rattle.sg_target.specs.declared.refusal.Refusal.{Refusal}
 use Rattle.sg_target.specs.declared.refusal.Refusal.TheVariants.{CheckCondition}
 use Rattle.sg_target.specs.Semantics.{medium_use}
-use Rattle.sg_fencing.specs.Fencing.{is_log_sense, shows_others}
+use Rattle.sg_fencing.specs.Fencing.{counts_used, shows_others}
 use Rattle.sg_fencing.specs.Laws.{may_change_blocks}
 
 -- the class of the commands that ask for an operation, if it looks at blocks or changes blocks or
@@ -92,9 +97,9 @@ shows (ReturnReservations action n) = true
 shows (ChangeReservations action scope_type list) = true
 shows _ = false
 
--- a log page may have the number of used addresses
+-- a log page has the number of used addresses
 abbrev pub shows_number : Operation → Bool
-shows_number (ReturnReport (report.Log page) n) = true
+shows_number (ReturnReport (report.Log LogicalBlockProvisioning) n) = true
 shows_number _ = false
 
 pub first-number : (n : ℕ) (operation : Operation)
@@ -105,13 +110,13 @@ first-number n (Fill extent block) = refl
 first-number n _ = refl
 
 -- the command is of the operation's class and of each of its kinds, and shows others if the
--- operation does; it is LOG SENSE if the operation may show a number
+-- operation does; it counts the used addresses if the operation shows their number
 pub record Suits (command : Command) (operation : Operation) : Type 0 where
   pub class : (class : Class) → class_for operation ≡ Some class → (layout command).class ≡ class
   pub of_kind : (kind : OutAction → Bool) → is_of_kind kind (Ok command) ≡ true
       → fits kind operation ≡ true
   pub shown : shows_others (Ok command) ≡ shows operation
-  pub number : shows_number operation ≡ true → is_log_sense (Ok command) ≡ true
+  pub number : shows_number operation ≡ true → counts_used (Ok command) ≡ true
 
 some-same : {class : Class} → Some Writes ≡ Some class → Writes ≡ class
 some-same h = cc
@@ -151,8 +156,18 @@ module _ (command : Command) (r : (layout command).class ≡ Reads)
       → SuitsIf command (cond none (verify_only config extent byte)
       (takes config logical_block_length (too_long config extent.count byte)
       (Ok (CompareEach extent block)))).operation
-  each-suits block true = record { class = λ class h. cc; of_kind = λ kind k. refl; shown = s; number = λ n. cc }
-  each-suits block false = record { class = λ class h. cc; of_kind = λ kind k. refl; shown = s; number = λ n. cc }
+  each-suits block true = record {
+    class = λ class h. cc;
+    of_kind = λ kind k. refl;
+    shown = s;
+    number = λ n. cc;
+  }
+  each-suits block false = record {
+    class = λ class h. cc;
+    of_kind = λ kind k. refl;
+    shown = s;
+    number = λ n. cc;
+  }
 
   verify-suits : (check : ByteCheck) (data_out : List ℕ)
       → SuitsIf command (verify config check extent byte data_out).operation
@@ -174,13 +189,46 @@ format-suits c (Some refusal) blocks = tt
 -- START STOP UNIT is a command that writes if it stops the unit
 start-suits : (c : StartStopUnit) (start : Bool) → c.start ≡ start
     → Suits (command.StartStopUnit c) (StartStop start)
-start-suits c true e = record { class = λ class h. cc; of_kind = λ kind k. refl; shown = refl; number = λ n. cc }
+start-suits c true e = record {
+  class = λ class h. cc;
+  of_kind = λ kind k. refl;
+  shown = refl;
+  number = λ n. cc;
+}
 start-suits c false e = record {
   class = λ class h. ap (λ b. if b && c.power_condition == 0 then Always else Writes) e ∙ some-same h;
   of_kind = λ kind k. refl;
   shown = refl;
   number = λ n. cc;
 }
+
+-- LOG SENSE has the page with the number only for its code
+by-tests : (pages subpages page subpage exceptions : Bool) (byte : ℕ)
+    → ok_or (cond pages (Some SupportedPages) (cond subpages (Some SupportedSubpages)
+    (cond (page && subpage) (Some LogicalBlockProvisioning)
+    (cond exceptions (Some InformationalExceptions) None)))) byte
+    ≡ Ok LogicalBlockProvisioning → page ≡ true
+by-tests true subpages page subpage exceptions byte h = cc
+by-tests false true page subpage exceptions byte h = cc
+by-tests false false true subpage exceptions byte h = refl
+by-tests false false false subpage true byte h = cc
+by-tests false false false subpage false byte h = cc
+
+provisioning-code : (page_code subpage_code : ℕ)
+    → log_page_with page_code subpage_code ≡ Ok LogicalBlockProvisioning
+    → (page_code == 0x0C) ≡ true
+provisioning-code page_code subpage_code h = by-tests _ _ _ _ _ _ h
+
+log-suits : (c : LogSense) (page : Result LogPage ℕ)
+    → (page ≡ Ok LogicalBlockProvisioning → (c.page_code == 0x0C) ≡ true)
+    → SuitsIf (command.LogSense c)
+    (when_sound (or_refused (λ byte. CheckCondition (InvalidFieldInCdb byte)) page)
+    (λ its. ReturnReport (report.Log its) c.allocation_length))
+log-suits c (Ok LogicalBlockProvisioning) h =
+    record { class = λ class e. cc; of_kind = λ kind k. refl; shown = refl; number = λ n. h refl }
+log-suits c (Ok page) h =
+    record { class = λ class e. cc; of_kind = λ kind k. refl; shown = refl; number = λ n. cc }
+log-suits c (Err byte) h = tt
 
 pub suits : (config : ConfigFields) (command : Command) (data_out : List ℕ)
     → SuitsIf command (demands config command data_out).operation
@@ -202,21 +250,28 @@ suits config (command.Verify16 c) data_out =
 suits config (command.FormatUnit c) data_out =
     format-suits c (list_refusal c data_out) config.blocks
 suits config (command.LogSense c) data_out =
-    sound-suits (command.LogSense c)
-    (or_refused (λ byte. CheckCondition (InvalidFieldInCdb byte))
-    (log_page_with c.page_code c.subpage_code))
-    (λ page. ReturnReport (report.Log page) c.allocation_length)
-    (λ page. record { class = λ class h. cc; of_kind = λ kind k. refl; shown = refl; number = λ n. refl })
+    log-suits c (log_page_with c.page_code c.subpage_code)
+    (provisioning-code c.page_code c.subpage_code)
 suits config (command.ReportSupportedOperationCodes c) data_out =
     sound-suits (command.ReportSupportedOperationCodes c)
     (ok_or (requested_report config.identity.profile c) (CheckCondition (InvalidFieldInCdb 2)))
     (λ requested. ReturnReport (report.Commands requested) c.allocation_length)
-    (λ requested. record { class = λ class h. cc; of_kind = λ kind k. refl; shown = refl; number = λ n. cc })
+    (λ requested. record {
+      class = λ class h. cc;
+      of_kind = λ kind k. refl;
+      shown = refl;
+      number = λ n. cc;
+    })
 suits config (command.ReportLuns c) data_out =
     sound-suits (command.ReportLuns c)
     (ok_or (lists_unit c.select) (CheckCondition (InvalidFieldInCdb 2)))
     (λ listed. ReturnLuns listed c.allocation_length)
-    (λ listed. record { class = λ class h. cc; of_kind = λ kind k. refl; shown = refl; number = λ n. cc })
+    (λ listed. record {
+      class = λ class h. cc;
+      of_kind = λ kind k. refl;
+      shown = refl;
+      number = λ n. cc;
+    })
 suits config (command.StartStopUnit c) data_out = start-suits c c.start refl
 suits config (command.WriteSame10 c) data_out =
     same-suits (command.WriteSame10 c) refl refl c.anchor

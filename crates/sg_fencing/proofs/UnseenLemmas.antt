@@ -7,7 +7,8 @@ use Rattle.sg_wire.specs.declared.command.CdbFault.{CdbFault}
 use Rattle.sg_wire.specs.declared.command.Class.TheVariants.{Reads, Writes}
 use Rattle.sg_wire.specs.declared.command.Command.{Command}
 use Rattle.sg_store.specs.Disk.{Contents}
-use Rattle.sg_pages.specs.Reports.{report_data}
+use Rattle.sg_pages.specs.Reports.{log_page_data, report_data}
+use Rattle.sg_pages.specs.declared.reports.LogPage.TheVariants.{LogicalBlockProvisioning}
 use Rattle.sg_pages.specs.declared.provisioning_pages.MappingResources.{MappingResources}
 use Rattle.sg_pages.specs.declared.reports.Report.{Report}
 use Rattle.sg_pages.specs.declared.reports.Report.TheVariants.{Log}
@@ -50,13 +51,15 @@ module _ (s : State) (x : Contents) (j : ℕ) where
   abbrev pool-with : (used : ℕ) → MappingResources
   pool-with used = record { blocks = s.disk.pool; used = used }
 
-  -- a report, which has only the number of used addresses, and only as a log page
+  -- a report, of which only one log page has something of the blocks
   pub report-alike : (report : Report) (n : ℕ)
       → (shows_number (ReturnReport report n) ≡ true → len x ≡ len s.disk.contents)
       → (step_by s j (ReturnReport report n)).answer ≡ (step_by t j (ReturnReport report n)).answer
-  unfolding report_data
-  report-alike (Log page) n same =
-      ap (λ (used : ℕ). good (first_bytes n (report_data (profile_of s) (pool-with used) (Log page))))
+  unfolding report_data log_page_data
+  report-alike (Log LogicalBlockProvisioning) n same =
+      ap
+      (λ (used : ℕ).
+      good (first_bytes n (report_data (profile_of s) (pool-with used) (Log LogicalBlockProvisioning))))
       (sym (same refl))
   report-alike _ n same = refl
 

@@ -126,21 +126,21 @@ OnlyPreemptionEnds =
     → can_end_for_others (command_of cdb) ≡ false
     → holds_alone (step state other cdb data_out).state holder ≡ true
 
--- A reservation does not stop LOG SENSE (SPC-4, 5.13), which reports how many blocks of the pool are
--- used (SBC-3, log parameters).
-abbrev pub is_log_sense : Result Command CdbFault → Bool
-is_log_sense (Ok (LogSense c)) = true
-is_log_sense _ = false
+-- LOG SENSE of page 0Ch reports how many blocks of the pool are used (SBC-3, log parameters). A
+-- reservation does not stop it (SPC-4, 5.13).
+abbrev pub counts_used : Result Command CdbFault → Bool
+counts_used (Ok (LogSense c)) = c.page_code == 0x0C
+counts_used _ = false
 
 -- A command counts as many used addresses in other contents as on the disk: it counts none, or the numbers
 -- are the same.
 abbrev pub CountsAsMany : State → Contents → (cdb : List ℕ) → Type 0
 CountsAsMany state contents cdb =
-    is_log_sense (command_in (profile_of state) cdb) ≡ true → len contents ≡ len state.disk.contents
+    counts_used (command_in (profile_of state) cdb) ≡ true → len contents ≡ len state.disk.contents
 
 -- Under exclusive access the answer to a command of another initiator is the same whatever the
 -- blocks are, and whichever are mapped. This holds for each command, of whichever class. Only LOG SENSE
--- reports how many are used.
+-- of page 0Ch reports how many are used.
 abbrev pub OthersSeeNoBlock : Type 0
 OthersSeeNoBlock =
     (state : State) (contents : Contents) (holder other : ℕ) (cdb data_out : List ℕ)

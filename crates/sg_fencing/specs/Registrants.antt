@@ -118,7 +118,7 @@ FencedOffLeaveTheView =
     → IsLeft state (step state other cdb data_out).state initiator
 
 -- Under exclusive access the answer to it is the same whatever the blocks are, and whichever are
--- mapped. Only LOG SENSE reports how many are used.
+-- mapped. Only LOG SENSE of page 0Ch reports how many are used.
 abbrev pub FencedOffSeeNoBlock : Type 0
 FencedOffSeeNoBlock =
     (state : State) (contents : Contents) (initiator : ℕ) (cdb data_out : List ℕ)
@@ -245,8 +245,8 @@ ExcludesReadingFrom initiator state calls =
     (n : ℕ) (call : Call) → slice_get calls n ≡ Some call → call.initiator ≡ initiator
     → excludes_reading (state_after_all state (take n calls)).reservations.reservation ≡ true
 
--- Whenever an initiator sends a LOG SENSE, as many addresses are used after these calls from one state as
--- from another.
+-- Whenever an initiator sends a LOG SENSE of page 0Ch, as many addresses are used in a run from one state
+-- as in a run from another.
 abbrev pub CountsAsManyOver : (initiator : ℕ) → (first second : State) → List Call → Type 0
 CountsAsManyOver initiator first second calls =
     (n : ℕ) (call : Call) → slice_get calls n ≡ Some call → call.initiator ≡ initiator
@@ -255,7 +255,7 @@ CountsAsManyOver initiator first second calls =
 
 -- Then an initiator that stays unregistered sees no block, whatever the others write. The answers
 -- to it are the same whatever the blocks were before the list, and whichever were mapped. Only LOG SENSE
--- reports how many are used.
+-- of page 0Ch reports how many are used.
 abbrev pub NoBlockIsSeenOverAList : Type 0
 NoBlockIsSeenOverAList =
     (state : State) (contents : Contents) (initiator : ℕ) (calls : List Call)

@@ -57,7 +57,7 @@ BaseDisksAreNeverStopped =
 -- ---- What it does meanwhile
 
 -- While the unit is stopped, no command changes the disk. No answer depends on the blocks, or on which
--- are mapped. Only LOG SENSE reports how many are used.
+-- are mapped. Only LOG SENSE of page 0Ch reports how many are used.
 pub record StoppedUnitsAreIdle : Type 0 where
   pub disk : (state : State) (initiator : ℕ) (cdb data_out : List ℕ) → state.stopped ≡ true
       → (step state initiator cdb data_out).state.disk ≡ state.disk

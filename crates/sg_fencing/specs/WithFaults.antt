@@ -52,8 +52,8 @@ faults_for disk initiator = map (λ slot. option_and_then (left_for initiator) s
 
 -- A command of an initiator is denied if it writes. If reading is excluded, a command that reads, such
 -- as READ, is denied too. Then the answer to any command, of whichever class, is the same whatever the
--- blocks are, and whichever are mapped. Only LOG SENSE reports how many are used. No command changes what
--- is left of the faults for others.
+-- blocks are, and whichever are mapped. Only LOG SENSE of page 0Ch reports how many are used. No command
+-- changes what is left of the faults for others.
 pub record IsKeptAway (disk : Armed) (initiator : ℕ) (cdb data_out : List ℕ)
     (excludes_reading : Bool) : Type 0 where
   pub writes : class_of cdb ≡ Some Writes → IsDenied (armed_step disk initiator cdb data_out)

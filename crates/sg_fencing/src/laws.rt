@@ -179,7 +179,8 @@ pub fn others_are_shut_out()
 }
 
 /// If an initiator holds an exclusive access reservation, the answer to another initiator is the
-/// same whatever the blocks are, and whichever are mapped.
+/// same whatever the blocks are, and whichever are mapped. Only LOG SENSE of page 0Ch shows how many
+/// are used.
 pub fn others_see_no_block()
     ensures { OthersSeeNoBlock }
 {
@@ -227,7 +228,7 @@ pub fn the_unregistered_leave_every_view()
 }
 
 /// While a reservation of an exclusive access type is held, an initiator that is not registered
-/// gets the same answer whatever the blocks are.
+/// gets the same answer whatever the blocks are. Only LOG SENSE of page 0Ch shows how many are used.
 pub fn the_unregistered_see_no_block()
     ensures { FencedOffSeeNoBlock }
 {
@@ -272,7 +273,7 @@ pub fn the_unregistered_read_nothing()
 
 /// An initiator stays unregistered over a list of commands. Whenever it sends a command, a
 /// reservation of an exclusive access type is held. Then the answers to it are the same whatever
-/// the blocks were before the list.
+/// the blocks were before the list. Only LOG SENSE of page 0Ch shows how many are used.
 pub fn the_unregistered_see_no_block_over_a_list()
     ensures { NoBlockIsSeenOverAList }
 {
@@ -420,8 +421,8 @@ pub fn a_holder_is_served_as_if_alone_through_power_cycles()
 /// Faults let nobody through a fence. A reservation of any type is held, and an initiator is not
 /// registered. Whatever faults are armed, none of its commands that write ends with GOOD. Under the
 /// exclusive access types none that reads does, and the answers to it are the same whatever the blocks
-/// are. Each of its commands leaves the view of every other initiator as it was, and what is left of the
-/// faults for it.
+/// are. Only LOG SENSE of page 0Ch shows how many are used. Each of its commands leaves the view of every
+/// other initiator as it was, and what is left of the faults for it.
 pub fn faults_let_nobody_through()
     ensures { FaultsLetNobodyThrough }
 {
@@ -433,9 +434,9 @@ pub fn faults_let_nobody_through()
 
 /// An initiator holds a write exclusive or an exclusive access reservation. Whatever faults are armed,
 /// no command of another that writes ends with GOOD. Under exclusive access none that reads does, and
-/// the answers to others are the same whatever the blocks are. A command of another leaves what is left
-/// of the faults for the holder. If the holder still holds after it, it leaves the holder's view as it
-/// was.
+/// the answers to others are the same whatever the blocks are. Only LOG SENSE of page 0Ch shows how many
+/// are used. A command of another leaves what is left of the faults for the holder. If the holder still
+/// holds after it, it leaves the holder's view as it was.
 pub fn faults_let_nobody_past_the_holder()
     ensures { FaultsLetNobodyPastTheHolder }
 {

@@ -21,7 +21,7 @@ pub fn a_base_disk_is_never_stopped()
 }
 
 /// While the unit is stopped, no command changes the disk. The answer to each command is the same
-/// whatever the blocks are, and whichever are mapped.
+/// whatever the blocks are, and whichever are mapped. Only LOG SENSE of page 0Ch shows how many are used.
 pub fn a_stopped_unit_is_idle()
     ensures { StoppedUnitsAreIdle }
 {}
