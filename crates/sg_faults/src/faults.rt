@@ -43,6 +43,14 @@ impl Faults {
         }
     }
 
+    /// The faults that are armed under each number, with what is left of them.
+    pub fn restored(slots: [Option<ArmedFault>; MAX_FAULTS]) -> Faults
+        ensures { result ≡ slots }
+    {
+        let is_idle = !is_armed(&slots);
+        Faults { slots, is_idle }
+    }
+
     /// Returns `true` if a fault is armed.
     pub fn is_armed(&self) -> bool
         ensures { result ≡ is_armed self.now }

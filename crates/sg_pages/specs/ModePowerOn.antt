@@ -1,5 +1,6 @@
 -- The mode pages of a new disk, and after a power cycle (SPC-4, 7.5).
 use Rattle.sg_pages.specs.ModePage.{ModeState, default_values}
+use Rattle.sg_pages.specs.declared.mode_pages.mode_page.PageValues.{PageValues}
 
 -- The pages of a new disk.
 abbrev pub initial_state : ModeState
@@ -8,3 +9,7 @@ initial_state = record { current = default_values; saved = default_values }
 -- A power cycle: the saved values become the current ones (SPC-4, 7.5).
 abbrev pub after_power_on : ModeState → ModeState
 after_power_on state = record { current = state.saved; saved = state.saved }
+
+-- The pages after power on, with these saved values.
+abbrev pub restored_pages : (saved : PageValues) → ModeState
+restored_pages saved = record { current = saved; saved = saved }

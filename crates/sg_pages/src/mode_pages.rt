@@ -35,7 +35,7 @@ impl Model for ModePages {
 
 ghost use Rattle.std.specs.Prelude.{◌≡◌};
 ghost use Rattle.sg_pages.specs.ModePage.{descriptor_sense, write_protected};
-ghost use Rattle.sg_pages.specs.ModePowerOn.{after_power_on, initial_state};
+ghost use Rattle.sg_pages.specs.ModePowerOn.{after_power_on, initial_state, restored_pages};
 
 impl ModePages {
     /// The pages of a new disk: the current and the saved values are the default ones.
@@ -46,6 +46,23 @@ impl ModePages {
             current: DEFAULT,
             saved: DEFAULT,
         }
+    }
+
+    /// The pages after power on, with these saved values.
+    pub fn restored(saved: PageValues) -> ModePages
+        ensures { result ≡ restored_pages saved }
+    {
+        ModePages {
+            current: saved,
+            saved,
+        }
+    }
+
+    /// The saved values: the bytes of each page from byte 2 on.
+    pub fn saved(&self) -> &PageValues
+        ensures { result.now ≡ self.now.saved }
+    {
+        &self.saved
     }
 
     /// A power cycle: the saved values become the current ones (SPC-4, 7.5).

@@ -55,7 +55,7 @@ registrations_of-filter p [] i = omega arith
 registrations_of-filter p (r ∷ rs) i =
     kept r rs (filter p rs) i (p r) (registrations_of-filter p rs i)
 
-registrations_of-none : (rs : List Registration) (i : ℕ) → is_registered rs i ≡ false
+pub registrations_of-none : (rs : List Registration) (i : ℕ) → is_registered rs i ≡ false
     → registrations_of rs i ≡ 0
 registrations_of-none [] i h = refl
 registrations_of-none (r ∷ rs) i h =

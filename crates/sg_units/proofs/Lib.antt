@@ -9,4 +9,5 @@ pub mod OutcomeLemmas
 pub mod ConsistencyLemmas
 -- Power cycles, and the laws.
 pub mod PowerLemmas
+pub mod RestoredLemmas
 pub mod LawLemmas

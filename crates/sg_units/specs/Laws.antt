@@ -15,7 +15,8 @@ use Rattle.sg_units.specs.Raised.{Conditions, raised_for_each}
 use Rattle.sg_units.specs.ReserveOut.{IsConsistentChange, outcome, raised_for, state_after}
 use Rattle.sg_units.specs.Registrations.{is_registered, is_registered_under}
 use Rattle.sg_units.specs.ReservationType.{is_all_registrants, is_shared}
-use Rattle.sg_units.specs.Reservations.{IsConsistent, is_holder}
+use Rattle.sg_units.specs.Reservations.{AreConsistent, IsConsistent, is_holder}
+use Rattle.sg_units.specs.Restored.{are_consistent}
 use Rattle.sg_units.specs.declared.reservation_change.ReservationChange.{ReservationChange}
 use Rattle.sg_wire.specs.declared.out_list.OutList.{OutList}
 use Rattle.sg_units.specs.declared.registrations.Registration.{Registration}
@@ -166,6 +167,13 @@ pub record ReservationsStayConsistent : Type 0 where
       (scope_type : ℕ) (list : OutList) (change : ReservationChange) → IsConsistent state
       → outcome rules state initiator action scope_type list ≡ Ok change → IsConsistentChange change
   pub power_cycle : (state : ReservationState) → IsConsistent state → IsConsistent (after_power_on state)
+
+-- The test of registrations and a reservation says whether they are consistent.
+pub record ConsistencyIsTested : Type 0 where
+  pub passes : (registrations : List Registration) (reservation : Option Reservation)
+      → AreConsistent registrations reservation → are_consistent registrations reservation ≡ true
+  pub shows : (registrations : List Registration) (reservation : Option Reservation)
+      → are_consistent registrations reservation ≡ true → AreConsistent registrations reservation
 
 -- The queues of unit attentions stay within their limits if the oldest condition of a queue, or a
 -- given one, is cleared, and if a condition is raised for one initiator or for each. They are within

@@ -12,4 +12,5 @@ pub mod ReserveOut
 pub mod ReserveIn
 pub mod FullStatus
 pub mod PowerOn
+pub mod Restored
 pub mod Laws

@@ -1,4 +1,5 @@
 //! Laws of the definitions: each is the contract of a function that does nothing.
+ghost use Rattle.sg_units.specs.Laws.{ConsistencyIsTested};
 ghost use Rattle.sg_units.specs.Laws.{EachRegistrantHolds, GenerationCountsChanges};
 ghost use Rattle.sg_units.specs.Laws.{NoConditionForAnother, NothingRaisedForCaller, OneHolder};
 ghost use Rattle.sg_units.specs.Laws.{OneKeyEach, OthersAreRefused, OthersStayPending};
@@ -61,6 +62,11 @@ pub fn generation_counts_changes()
 /// after a power cycle.
 pub fn reservations_stay_consistent()
     ensures { ReservationsStayConsistent }
+{}
+
+/// The test of registrations and a reservation says whether they are consistent.
+pub fn consistency_is_tested()
+    ensures { ConsistencyIsTested }
 {}
 
 /// The queues of unit attentions stay within their limits if the oldest condition of one, or a given

@@ -1,7 +1,10 @@
 // The registrants and their keys, in the order of registration.
-ghost use Rattle.std.specs.Prelude.{◌≡◌, ◌<◌, ◌≤◌, ◌^◌, ◌==◌, [], length};
+ghost use Rattle.std.specs.Prelude.{◌≡◌, ◌<◌, ◌≤◌, ◌^◌, ◌==◌, [], length, nat_le};
+ghost use Rattle.std.specs.Prelude.{Some, None, if◌then◌else◌};
 ghost use Rattle.sg_units.specs.Registrations.{has_key, is_of, is_registered, is_registered_under};
 ghost use Rattle.sg_units.specs.Registrations.{key_of, max_registrations, registered_mask};
+ghost use Rattle.sg_units.specs.Registrations.{registrations_of};
+ghost use Rattle.sg_units.specs.Restored.{each_once};
 ghost use Rattle.sg_units.specs.Registrations.{with_key_replaced, with_registration};
 ghost use Rattle.sg_units.specs.Registrations.{without_initiator, without_key};
 ghost use Rattle.sg_units.specs.Registrations.{without_key_of_others, without_others};
@@ -126,6 +129,42 @@ impl Registrations {
             items.push(*registration);
         }
         Registrations { items }
+    }
+
+    /// The registrations of a slice. None if there is no room for so many.
+    pub(crate) fn of(registrations: &[Registration]) -> Option<Registrations>
+        ensures { result ≡ (if nat_le (length registrations.now) max_registrations
+            then Some registrations.now else None) }
+    {
+        if registrations.len() > MAX_REGISTRATIONS {
+            return None;
+        }
+        let mut items = ArrayVec::new();
+        for registration in registrations {
+            items.push(*registration);
+        }
+        Some(Registrations { items })
+    }
+
+    /// The number of registrations that an initiator has.
+    fn count_of(&self, initiator: Initiator) -> usize
+        ensures { result ≡ registrations_of self.now initiator }
+    {
+        self.items
+            .as_slice()
+            .iter()
+            .filter(|registration| registration.is_of(initiator))
+            .count()
+    }
+
+    /// Returns `true` if the initiator of each registration has no other one.
+    pub(crate) fn each_once(&self) -> bool
+        ensures { result ≡ each_once self.now }
+    {
+        self.items
+            .as_slice()
+            .iter()
+            .all(|registration| self.count_of(registration.initiator) <= 1)
     }
 
     /// Adds a registration.

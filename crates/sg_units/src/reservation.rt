@@ -1,7 +1,8 @@
 // A persistent reservation by itself: its type and its holder.
 ghost use Rattle.std.specs.Prelude.{◌≡◌};
 ghost use Rattle.sg_units.specs.ReserveOut.{released};
-ghost use Rattle.sg_units.specs.Reservations.{has_holder, holds, taken};
+ghost use Rattle.sg_units.specs.ReservationType.{is_all_registrants};
+ghost use Rattle.sg_units.specs.Reservations.{has_holder, holds, names_holder, taken};
 
 use crate::registrations::Registrations;
 use crate::{ReservationType, UnitAttention};
@@ -47,6 +48,13 @@ impl Reservation {
             .as_slice()
             .iter()
             .any(|registration| self.is_held_by(registration.initiator))
+    }
+
+    /// Returns `true` if it names one holder, unless it is an all registrants reservation.
+    pub(crate) fn names_holder(&self) -> bool
+        ensures { result ≡ names_holder (is_all_registrants self.now.kind) self.now.holder }
+    {
+        self.kind.is_all_registrants() == self.holder.is_none()
     }
 
     /// The condition that the end of a reservation raises for the other registrants.

@@ -1,6 +1,7 @@
 // Registrations and the persistent reservation for other crates: a value that is always consistent.
 use crate::reservation_state::ReservationState;
-use crate::{OutFault, OutList, Raised, ReservationChange};
+use crate::registrations::Registrations;
+use crate::{OutFault, OutList, Raised, Registration, Reservation, ReservationChange};
 use sg_wire::{Class, Cut, Initiator, OutAction, Rules};
 use std::marker::Model;
 
@@ -47,7 +48,8 @@ ghost use Rattle.sg_units.specs.PowerOn.{after_power_on, empty_state};
 ghost use Rattle.sg_units.specs.ReserveIn.{capabilities_data, keys_data, reservation_data};
 ghost use Rattle.sg_units.specs.ReserveOut.{IsConsistentChange, generation_after, outcome};
 ghost use Rattle.sg_units.specs.ReserveOut.{raised_by, reply_of, state_after};
-ghost use Rattle.sg_units.specs.Registrations.{registered_mask};
+ghost use Rattle.sg_units.specs.Registrations.{max_registrations, registered_mask};
+ghost use Rattle.sg_units.specs.Restored.{are_consistent, restored_state};
 ghost use Rattle.sg_units.specs.Reservations.{IsConsistent};
 
 impl Reservations {
@@ -59,6 +61,52 @@ impl Reservations {
         Reservations {
             state: ReservationState::new(),
         }
+    }
+
+    /// The state after power on, with registrations and a reservation that persisted through a power loss.
+    /// PRGENERATION is 0, and the state persists again. None if registrations and reservation are not
+    /// consistent: too many registrations, two of one initiator, one under the key 0, or a reservation
+    /// without the holders that its type asks for.
+    pub fn restored(
+        registrations: &[Registration],
+        reservation: Option<Reservation>,
+    ) -> Option<Reservations>
+        ensures { result ≡ restored_state registrations.now reservation }
+    {
+        let registrations = Registrations::of(registrations)?;
+        if !are_consistent(&registrations, &reservation) {
+            return None;
+        }
+        Some(Reservations {
+            state: ReservationState {
+                registrations,
+                reservation,
+                generation: 0,
+                persists_through_power_loss: true,
+            },
+        })
+    }
+
+    /// The registrations, in the order in which they were made.
+    pub fn registrations(&self) -> &[Registration]
+        ensures value { result.now ≡ self.now.registrations }
+        ensures at_most { length result.now ≤ max_registrations }
+    {
+        self.state.registrations.as_slice()
+    }
+
+    /// The reservation that is held, if any.
+    pub fn reservation(&self) -> Option<Reservation>
+        ensures { result ≡ self.now.reservation }
+    {
+        self.state.reservation
+    }
+
+    /// Returns `true` if registrations and reservation persist through a power loss.
+    pub fn persist_through_power_loss(&self) -> bool
+        ensures { result ≡ self.now.persists_through_power_loss }
+    {
+        self.state.persists_through_power_loss
     }
 
     /// Returns the change that a service action of PERSISTENT RESERVE OUT makes, for an initiator
@@ -202,6 +250,21 @@ impl Reservations {
         let [first, second] = TYPE_MASK;
         cut.put(&[0x00, 0x08, PTPL_C, flags, first, second, 0x00, 0x00]);
     }
+}
+
+/// Returns `true` if registrations, of which there is room for as many, and a reservation are consistent.
+fn are_consistent(registrations: &Registrations, reservation: &Option<Reservation>) -> bool
+    requires { length registrations.now ≤ max_registrations }
+    ensures { result ≡ are_consistent registrations.now reservation.now }
+{
+    registrations.each_once()
+        && !registrations.has_key(0)
+        && match reservation {
+            Some(reservation) => {
+                reservation.has_holder(registrations) && reservation.names_holder()
+            }
+            None => true,
+        }
 }
 
 /// PRGENERATION after a command.
