@@ -1,0 +1,11 @@
+-- Modules that public contracts cite, in the best order to read them.
+pub mod KeptFields
+pub mod Change
+pub mod Format
+pub mod ExtentFormat
+pub mod ReservationFormat
+pub mod FaultFormat
+pub mod Records
+pub mod Replay
+-- A module that only private contracts cite.
+pub mod Reading

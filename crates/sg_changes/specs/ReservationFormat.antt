@@ -1,0 +1,41 @@
+-- The bytes of registrations and a reservation that persist through a power loss.
+use Rattle.std.specs.Prelude.{ℕ, List, Option, Some}
+use Rattle.sg_units.specs.ReservationType.{code_of, type_of}
+use Rattle.sg_units.specs.declared.registrations.Registration.{Registration}
+use Rattle.sg_units.specs.declared.reservation.Reservation.{Reservation}
+use Rattle.sg_units.specs.declared.types.ReservationType.{ReservationType}
+use Rattle.sg_wire.specs.Initiator.{initiator_count}
+use Rattle.sg_changes.specs.Change.{Persistent}
+use Rattle.sg_changes.specs.Format.{Format, number, number_below, pair, coded, optional, counted}
+
+-- INITIATOR 1: its number, 0 to 7.
+unfoldable pub initiator : Format ℕ
+initiator = number_below initiator_count
+
+-- INITIATOR 1, KEY 8.
+unfoldable pub registration : Format Registration
+registration =
+    coded (λ p. Some (record { initiator = p.0; key = p.1 }))
+    (λ (r : Registration). Some (r.initiator, r.key))
+    (pair initiator (number 8))
+
+-- TYPE 1: the code of one of the six types.
+unfoldable pub reservation_type : Format ReservationType
+reservation_type = coded type_of (λ type. Some (code_of type)) (number 1)
+
+-- TYPE 1, and the one HOLDER, if one is named: an INITIATOR.
+unfoldable pub reservation : Format Reservation
+reservation =
+    coded (λ p. Some (record { kind = p.0; holder = p.1 }))
+    (λ (r : Reservation). Some (r.kind, r.holder))
+    (pair reservation_type (optional initiator))
+
+-- The number of registrations 1, each registration, and the reservation, if there is one.
+unfoldable pub persistent : Format Persistent
+persistent =
+    coded (λ p. Some (record { registrations = p.0; reservation = p.1 }))
+    (λ (s : Persistent). Some (s.registrations, s.reservation))
+    (pair (counted registration) (optional reservation))
+
+unfoldable pub reservations : Format (Option Persistent)
+reservations = optional persistent

@@ -1,0 +1,10 @@
+//! The changes that commands make to what a power cycle leaves of a disk: as records of bytes, and
+//! replayed. The crate knows no commands, and does not know where the records are kept.
+#![tactic(auto)]
+
+mod blocks;
+mod fields;
+mod parts;
+
+pub use parts::{Damaged, KeptParts};
+

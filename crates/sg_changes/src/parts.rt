@@ -1,0 +1,121 @@
+// The parts of a disk that a power cycle leaves, and what records make of them.
+use crate::blocks;
+use crate::fields::{array_at, bytes_at, extent_at, u64_at};
+use sg_faults::Faults;
+use sg_pages::{Identity, ModePages, PageValues};
+use sg_store::{BLOCK_LENGTH, Store};
+use sg_units::Reservations;
+use std::marker::Model;
+use thiserror::Error;
+
+/// The parts of a disk that a power cycle leaves. All else is as it is after power on.
+#[derive(Drop)]
+pub struct KeptParts<S: Store> {
+    /// What the disk was made as.
+    pub identity: Identity,
+    /// The number of its addresses.
+    pub capacity: u64,
+    /// Its blocks.
+    pub store: S,
+    /// The saved values of the mode pages.
+    pub saved: PageValues,
+    /// Registrations and reservation, if they persist through a power loss, and otherwise none.
+    pub reservations: Reservations,
+    /// The armed faults.
+    pub faults: Faults,
+}
+
+impl<S: Store> Model for KeptParts<S> {
+    ghost use Rattle.std.specs.Prelude.{◌≡◌};
+    ghost use Rattle.std.specs.Coded.{codes};
+    ghost use Rattle.sg_store.specs.ContentsCode.{contents_code};
+    ghost use Rattle.sg_changes.specs.KeptFields.{KeptFields};
+
+    ghost Value = { KeptFields };
+
+    ghost coded = { Prim.hlevel (codes, contents_code) };
+
+    ghost view = { λ p. record {
+      identity = p.identity;
+      disk = S.disk p.store;
+      saved = p.saved;
+      reservations = p.reservations;
+      faults = p.faults;
+    } };
+
+    ghost invariant = { λ p. p.capacity ≡ (S.disk p.store).capacity };
+}
+
+ghost use Rattle.std.specs.Prelude.{◌≡◌, OnErr, OnOk, Some, None};
+ghost use Rattle.sg_pages.specs.ModePowerOn.{restored_pages};
+ghost use Rattle.sg_changes.specs.Change.Change.{Write, Fill, Unmap, Anchor, Pages, Grow};
+ghost use Rattle.sg_changes.specs.ExtentFormat.{extent};
+ghost use Rattle.sg_changes.specs.Format.{made};
+ghost use Rattle.sg_changes.specs.Reading.{Gives, applied_to};
+ghost use Rattle.sg_changes.specs.Records.{capacity, fill, pages, range, write};
+ghost use Rattle.sg_changes.specs.Replay.{applied_at, replayed};
+
+/// A record cannot be read, or its change does not apply.
+#[derive(Clone, Copy, Debug, Error, PartialEq, Eq)]
+#[error("the record at byte {record} is damaged")]
+pub struct Damaged {
+    /// The offset of the record in its batch, in bytes.
+    pub record: usize,
+}
+
+// ---- The records, by their tags. Each function has the fields of a record, and returns the bytes after
+// them. None if the fields cannot be read, or if the change does not apply.
+
+impl<S: Store> KeptParts<S> {
+    #[tactic(auto, unfolding(crate::specs::Records::write))]
+    fn write<'a>(&mut self, fields: &'a [u8]) -> Option<&'a [u8]>
+        ensures { Gives (λ rest. (self.new, rest.now)) result
+            (applied_to self.old (made (λ f. Write f.0 f.1) (write.at fields.now))) }
+    {
+        let (extent, rest) = extent_at(fields)?;
+        let (blocks, rest) = bytes_at(rest, BLOCK_LENGTH * extent.count as usize)?;
+        blocks::write(&mut self.store, self.capacity, extent, blocks)?;
+        Some(rest)
+    }
+
+    #[tactic(auto, unfolding(crate::specs::Records::fill))]
+    fn fill<'a>(&mut self, fields: &'a [u8]) -> Option<&'a [u8]>
+        ensures { Gives (λ rest. (self.new, rest.now)) result
+            (applied_to self.old (made (λ f. Fill f.0 f.1) (fill.at fields.now))) }
+    {
+        let (extent, rest) = extent_at(fields)?;
+        let (block, rest) = array_at(rest)?;
+        blocks::fill(&mut self.store, self.capacity, extent, block)?;
+        Some(rest)
+    }
+
+    #[tactic(auto, unfolding(crate::specs::Records::range))]
+    fn unmap<'a>(&mut self, fields: &'a [u8]) -> Option<&'a [u8]>
+        ensures { Gives (λ rest. (self.new, rest.now)) result
+            (applied_to self.old (made (λ f. Unmap f.0 f.1) (range.at fields.now))) }
+    {
+        let (lba, rest) = u64_at(fields)?;
+        let (count, rest) = u64_at(rest)?;
+        blocks::unmap(&mut self.store, self.capacity, lba, count)?;
+        Some(rest)
+    }
+
+    fn anchor<'a>(&mut self, fields: &'a [u8]) -> Option<&'a [u8]>
+        ensures { Gives (λ rest. (self.new, rest.now)) result
+            (applied_to self.old (made Anchor (extent.at fields.now))) }
+    {
+        let (extent, rest) = extent_at(fields)?;
+        blocks::anchor(&mut self.store, self.capacity, extent)?;
+        Some(rest)
+    }
+
+    fn grow<'a>(&mut self, fields: &'a [u8]) -> Option<&'a [u8]>
+        ensures { Gives (λ rest. (self.new, rest.now)) result
+            (applied_to self.old (made Grow (capacity.at fields.now))) }
+    {
+        let (capacity, rest) = u64_at(fields)?;
+        blocks::grow(&mut self.store, self.capacity, capacity)?;
+        self.capacity = capacity;
+        Some(rest)
+    }
+}
