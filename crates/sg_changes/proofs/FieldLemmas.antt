@@ -1,6 +1,6 @@
 -- The fields of records are exact formats.
 use Rattle.std.proofs.Common.{◌≡◌, ℕ, Bool, true, false, cond, eqb, List, [], ◌∷◌, Option, Some, None}
-use Rattle.std.proofs.Common.{refl, sym, ap, ◌∙◌, inl, inr}
+use Rattle.std.proofs.Common.{refl, sym, ap, ◌∙◌, inl, inr, arith}
 use Rattle.std.specs.List.{find}
 use Rattle.std.proofs.lemmas.Bool.{cases_Bool, eqb-true}
 use Rattle.sg_faults.specs.Faults.{max_faults}
@@ -15,6 +15,7 @@ use Rattle.sg_faults.specs.declared.sense_code.SenseKey.TheVariants.{CopyAborted
 use Rattle.sg_faults.specs.declared.sense_code.SenseKey.TheVariants.{VolumeOverflow, Miscompare}
 use Rattle.sg_faults.specs.declared.sense_code.SenseKey.TheVariants.{Completed}
 use Rattle.sg_pages.specs.declared.mode_pages.mode_page.PageValues.{PageValues}
+use Rattle.sg_units.specs.Registrations.{max_registrations}
 use Rattle.sg_units.specs.ReservationType.{code_of, each_type, type_of}
 use Rattle.sg_units.specs.declared.types.ReservationType.{ReservationType}
 use Rattle.sg_units.specs.declared.types.ReservationType.TheVariants.{WriteExclusive, ExclusiveAccess}
@@ -110,8 +111,9 @@ persistent-exact : IsExact persistent
 unfolding persistent
 persistent-exact =
     renamed_exact (λ p. record { registrations = p.0; reservation = p.1 }) (λ s. (s.registrations, s.reservation))
-    (pair (counted registration) (optional reservation))
-    (pair_exact (counted registration) (optional reservation) (counted_exact registration registration-exact)
+    (pair (counted max_registrations registration) (optional reservation))
+    (pair_exact (counted max_registrations registration) (optional reservation)
+    (counted_exact registration registration-exact max_registrations (omega arith))
     (optional_exact reservation reservation-exact))
     (λ p. refl) (λ s. refl)
 

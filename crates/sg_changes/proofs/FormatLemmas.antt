@@ -30,8 +30,8 @@ guard-some : {A : Type 0} (b : Bool) (x y : A) → cond b None (Some x) ≡ Some
 guard-some true x y e = absurd cc
 guard-some false x y e = (refl, cc)
 
-rest-bytes : (n : ℕ) (bytes : List ℕ) → AreBytes bytes → AreBytes (drop n bytes)
-rest-bytes n bytes are i = rw (get_or-drop n bytes i 0) (are (n + i))
+pub dropped_bytes : (n : ℕ) (bytes : List ℕ) → AreBytes bytes → AreBytes (drop n bytes)
+dropped_bytes n bytes are i = rw (get_or-drop n bytes i 0) (are (n + i))
 
 -- ---- A number
 
@@ -73,7 +73,7 @@ number-spelled size bytes x rest are is = record {
       sym (take-append-drop size bytes)
       ∙ ap (λ bs. bs ++ drop size bytes) (spelled_number size bytes are is.within ∙ ap (big_bytes size) is.value)
       ∙ ap (λ r. big_bytes size x ++ r) is.after;
-  rest_bytes = subst AreBytes is.after (rest-bytes size bytes are);
+  rest_bytes = subst AreBytes is.after (dropped_bytes size bytes are);
 }
 
 number-more : (size : ℕ) (bytes : List ℕ) (x : ℕ) (rest more : List ℕ) → IsNumber size bytes x rest
@@ -125,7 +125,7 @@ bytes-spelled : (n : ℕ) (bytes xs rest : List ℕ) → AreBytes bytes → IsPl
 bytes-spelled n bytes xs rest are is = record {
   possible = eq-eqb (length xs) n (ap length (sym is.value) ∙ length-take-le n bytes is.within);
   spelled = sym (take-append-drop n bytes) ∙ ap (λ t. t ++ drop n bytes) is.value ∙ ap (λ r. xs ++ r) is.after;
-  rest_bytes = subst AreBytes is.after (rest-bytes n bytes are);
+  rest_bytes = subst AreBytes is.after (dropped_bytes n bytes are);
 }
 
 bytes-more : (n : ℕ) (bytes xs rest more : List ℕ) → IsPlain n bytes xs rest

@@ -6,3 +6,4 @@ pub mod FieldLemmas
 pub mod FaultLemmas
 pub mod RecordLemmas
 pub mod ReplayLemmas
+pub mod LoopLemmas

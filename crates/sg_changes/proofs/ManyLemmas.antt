@@ -1,29 +1,31 @@
 -- Numbers below a limit, flags, values that may be absent, and several values are exact formats.
-use Rattle.std.proofs.Common.{◌≡◌, ℕ, zero, suc, ◌<◌, ◌≤◌, Bool, true, false, ◌&&◌, cond, ltb, eqb}
+use Rattle.std.proofs.Common.{◌≡◌, ℕ, zero, suc, ◌<◌, ◌≤◌, Bool, true, false, ◌&&◌, cond, ltb, leb, eqb}
 use Rattle.std.proofs.Common.{List, [], ◌∷◌, ◌++◌, length, Option, Some, None}
 use Rattle.std.proofs.Common.{refl, sym, ap, subst, ◌∙◌, arith, append_assoc}
 use Rattle.std.specs.List.{flat_map, list_all}
 use Rattle.std.specs.Option.{option_map_or}
-use Rattle.std.proofs.lemmas.Bool.{and_parts, eq-eqb, eqb-true, lt-ltb, ltb-true}
+use Rattle.std.proofs.lemmas.Bool.{and_parts, eq-eqb, eqb-true, leb-true, lt-ltb}
 use Rattle.std.proofs.lemmas.List.Concat.{flat_map-cons}
 use Rattle.std.proofs.lemmas.Option.{cond_some}
 use Rattle.byteorder.specs.Endian.{big_bytes}
 use Rattle.sg_changes.specs.Format.{AreBytes, AreBytesOf, Format, IsExact, ◌>>=◌}
-use Rattle.sg_changes.specs.Format.{below, bool_of, counted, counted_at, flag, many, many_at}
-use Rattle.sg_changes.specs.Format.{number, number_at, number_below, optional, optional_at}
+use Rattle.sg_changes.specs.Format.{bool_of, counted, counted_at, flag, many, many_at}
+use Rattle.sg_changes.specs.Format.{number, number_at, number_below, only, optional, optional_at, passing}
 use Rattle.sg_changes.proofs.FormatLemmas.{bind_some, both_true, coded_exact, number_exact, pair_parts}
 
--- ---- A number below a limit
+-- ---- Values that pass a test
 
-below-back : (limit x y : ℕ) → below limit x ≡ Some y → below limit y ≡ Some x
-below-back limit x y e =
-    let p = cond_some (ltb x limit) x y e in
-    subst (λ z. below limit z ≡ Some x) p.1 (ap (λ b. cond b (Some x) None) p.0)
+passing-back : {X : Type 0} (test : X → Bool) (x y : X) → passing test x ≡ Some y → passing test y ≡ Some x
+passing-back test x y e =
+    let p = cond_some (test x) x y e in
+    subst (λ z. passing test z ≡ Some x) p.1 (ap (λ b. cond b (Some x) None) p.0)
+
+pub only_exact : {X : Type 0} (test : X → Bool) (format : Format X) → IsExact format → IsExact (only test format)
+only_exact test format exact =
+    coded_exact (passing test) (passing test) format exact (passing-back test) (λ x y e. passing-back test y x e)
 
 pub number_below_exact : (limit : ℕ) → IsExact (number_below limit)
-number_below_exact limit =
-    coded_exact (below limit) (below limit) (number 1) (number_exact 1) (below-back limit)
-    (λ x y e. below-back limit y x e)
+number_below_exact limit = only_exact (λ n. ltb n limit) (number 1) (number_exact 1)
 
 -- ---- A flag
 
@@ -244,64 +246,78 @@ module _ {X : Type 0} (format : Format X) where
 
     -- ---- Several values after their number
 
-    record AreCounted (bytes : List ℕ) (xs : List X) (rest : List ℕ) : Type 0 where
-      count : ℕ
-      middle : List ℕ
-      number_read : number_at 1 bytes ≡ Some (count, middle)
-      read : many_at format count middle ≡ Some (xs, rest)
+    module _ (most : ℕ) (small : most < 256) where
+      record AreCounted (bytes : List ℕ) (xs : List X) (rest : List ℕ) : Type 0 where
+        count : ℕ
+        middle : List ℕ
+        number_read : number_at 1 bytes ≡ Some (count, middle)
+        within : leb count most ≡ true
+        read : many_at format count middle ≡ Some (xs, rest)
 
-    counted-parts : (bytes : List ℕ) (xs : List X) (rest : List ℕ) → counted_at format bytes ≡ Some (xs, rest)
-        → AreCounted bytes xs rest
-    unfolding counted_at
-    counted-parts bytes xs rest e =
-        let a = bind_some (number_at 1 bytes) (λ n. many_at format n.0 n.1) (xs, rest) e in
-        record { count = a.0.0; middle = a.0.1; number_read = a.1; read = a.2 }
+      abbrev and-many : ℕ × List ℕ → Option (List X × List ℕ)
+      and-many n = cond (leb n.0 most) (many_at format n.0 n.1) None
 
-    counted-is : (bytes : List ℕ) (xs : List X) (rest : List ℕ) → AreCounted bytes xs rest
-        → counted_at format bytes ≡ Some (xs, rest)
-    unfolding counted_at
-    counted-is bytes xs rest is =
-        ap (λ (r : Option (ℕ × List ℕ)). r >>= λ n. many_at format n.0 n.1) is.number_read ∙ is.read
+      if-some : {A : Type 0} (b : Bool) (o : Option A) (y : A) → cond b o None ≡ Some y → (b ≡ true) × (o ≡ Some y)
+      if-some true o y e = (refl, e)
+      if-some false o y e = absurd cc
 
-    counted-again : (xs : List X) (rest : List ℕ) → (counted format).is_possible xs ≡ true
-        → counted_at format ((counted format).bytes xs ++ rest) ≡ Some (xs, rest)
-    counted-again xs rest possible =
-        let parts = and_parts (ltb (length xs) 256) (list_all format.is_possible xs) possible in
-        let behind : List ℕ = flat_map format.bytes xs ++ rest in
-        ap (counted_at format) (append_assoc (big_bytes 1 (length xs)) (flat_map format.bytes xs) rest)
-        ∙ counted-is (big_bytes 1 (length xs) ++ behind) xs rest (record {
-          count = length xs;
-          middle = behind;
-          number_read = (number_exact 1).reads_back (length xs) behind parts.0;
-          read = many-again xs rest parts.1;
-        })
+      counted-parts : (bytes : List ℕ) (xs : List X) (rest : List ℕ)
+          → counted_at most format bytes ≡ Some (xs, rest) → AreCounted bytes xs rest
+      unfolding counted_at
+      counted-parts bytes xs rest e =
+          let a = bind_some (number_at 1 bytes) and-many (xs, rest) e in
+          let b = if-some (leb a.0.0 most) (many_at format a.0.0 a.0.1) (xs, rest) a.2 in
+          record { count = a.0.0; middle = a.0.1; number_read = a.1; within = b.0; read = b.1 }
 
-    counted-spelled : (bytes : List ℕ) (xs : List X) (rest : List ℕ) → AreBytes bytes → AreCounted bytes xs rest
-        → AreBytesOf (counted format) bytes xs rest
-    counted-spelled bytes xs rest are is =
-        let a = (number_exact 1).has_one_spelling bytes is.count is.middle are is.number_read in
-        let b = many-spelled is.count is.middle xs rest a.rest_bytes is.read in
-        record {
-          possible = both_true (ltb (length xs) 256) (list_all format.is_possible xs)
-              (ap (λ n. ltb n 256) b.count ∙ a.possible) b.possible;
-          spelled = a.spelled ∙ ap (λ n. big_bytes 1 n ++ is.middle) (sym b.count)
-              ∙ ap (λ m. big_bytes 1 (length xs) ++ m) b.spelled
-              ∙ sym (append_assoc (big_bytes 1 (length xs)) (flat_map format.bytes xs) rest);
-          rest_bytes = b.rest_bytes;
-        }
+      counted-is : (bytes : List ℕ) (xs : List X) (rest : List ℕ) → AreCounted bytes xs rest
+          → counted_at most format bytes ≡ Some (xs, rest)
+      unfolding counted_at
+      counted-is bytes xs rest is =
+          ap (λ (r : Option (ℕ × List ℕ)). r >>= and-many) is.number_read
+          ∙ ap (λ b. cond b (many_at format is.count is.middle) None) is.within ∙ is.read
 
-    pub counted_exact : IsExact (counted format)
-    counted_exact = record {
-      reads_back = counted-again;
-      has_one_spelling = λ bytes xs rest are e. counted-spelled bytes xs rest are (counted-parts bytes xs rest e);
-      ends_within = λ bytes xs rest e. let is = counted-parts bytes xs rest e in
-          let a = (number_exact 1).ends_within bytes is.count is.middle is.number_read in
-          omega (arith, a, many-within is.count is.middle xs rest is.read);
-      ignores_rest = λ bytes xs rest more e. let is = counted-parts bytes xs rest e in
-          counted-is (bytes ++ more) xs (rest ++ more) (record {
-            count = is.count;
-            middle = is.middle ++ more;
-            number_read = (number_exact 1).ignores_rest bytes is.count is.middle more is.number_read;
-            read = many-more is.count is.middle xs rest more is.read;
-          });
-    }
+      counted-again : (xs : List X) (rest : List ℕ) → (counted most format).is_possible xs ≡ true
+          → counted_at most format ((counted most format).bytes xs ++ rest) ≡ Some (xs, rest)
+      counted-again xs rest possible =
+          let parts = and_parts (leb (length xs) most) (list_all format.is_possible xs) possible in
+          let behind : List ℕ = flat_map format.bytes xs ++ rest in
+          let fits : length xs ≤ most = leb-true (length xs) most parts.0 in
+          ap (counted_at most format) (append_assoc (big_bytes 1 (length xs)) (flat_map format.bytes xs) rest)
+          ∙ counted-is (big_bytes 1 (length xs) ++ behind) xs rest (record {
+            count = length xs;
+            middle = behind;
+            number_read = (number_exact 1).reads_back (length xs) behind (lt-ltb (length xs) 256 (omega arith));
+            within = parts.0;
+            read = many-again xs rest parts.1;
+          })
+
+      counted-spelled : (bytes : List ℕ) (xs : List X) (rest : List ℕ) → AreBytes bytes
+          → AreCounted bytes xs rest → AreBytesOf (counted most format) bytes xs rest
+      counted-spelled bytes xs rest are is =
+          let a = (number_exact 1).has_one_spelling bytes is.count is.middle are is.number_read in
+          let b = many-spelled is.count is.middle xs rest a.rest_bytes is.read in
+          record {
+            possible = both_true (leb (length xs) most) (list_all format.is_possible xs)
+                (ap (λ n. leb n most) b.count ∙ is.within) b.possible;
+            spelled = a.spelled ∙ ap (λ n. big_bytes 1 n ++ is.middle) (sym b.count)
+                ∙ ap (λ m. big_bytes 1 (length xs) ++ m) b.spelled
+                ∙ sym (append_assoc (big_bytes 1 (length xs)) (flat_map format.bytes xs) rest);
+            rest_bytes = b.rest_bytes;
+          }
+
+      pub counted_exact : IsExact (counted most format)
+      counted_exact = record {
+        reads_back = counted-again;
+        has_one_spelling = λ bytes xs rest are e. counted-spelled bytes xs rest are (counted-parts bytes xs rest e);
+        ends_within = λ bytes xs rest e. let is = counted-parts bytes xs rest e in
+            let a = (number_exact 1).ends_within bytes is.count is.middle is.number_read in
+            omega (arith, a, many-within is.count is.middle xs rest is.read);
+        ignores_rest = λ bytes xs rest more e. let is = counted-parts bytes xs rest e in
+            counted-is (bytes ++ more) xs (rest ++ more) (record {
+              count = is.count;
+              middle = is.middle ++ more;
+              number_read = (number_exact 1).ignores_rest bytes is.count is.middle more is.number_read;
+              within = is.within;
+              read = many-more is.count is.middle xs rest more is.read;
+            });
+      }

@@ -1,17 +1,17 @@
 -- What records leave, one after another.
 use Rattle.std.proofs.Common.{◌≡◌, ◌≢◌, ℕ, zero, suc, ◌≤◌, ◌<◌, Bool, true, ◌&&◌, List, [], ◌∷◌, ◌++◌, length}
-use Rattle.std.proofs.Common.{Option, Some, None, refl, sym, ap, ◌∙◌, arith, append_assoc}
+use Rattle.std.proofs.Common.{Option, Some, None, refl, sym, ap, ◌∙◌, arith, append_assoc, ◌+◌, take, drop, length-append, subst}
 use Rattle.std.specs.List.{flat_map, list_all}
 use Rattle.std.specs.Prelude.{option_and_then}
 use Rattle.std.proofs.lemmas.Bool.{and_parts}
-use Rattle.std.proofs.lemmas.List.{append-nil}
+use Rattle.std.proofs.lemmas.List.{append-nil, drop_at, take_at}
 use Rattle.std.proofs.lemmas.List.Concat.{flat_map-cons}
 use Rattle.sg_changes.specs.Change.{Change, applied, applied_all}
-use Rattle.sg_changes.specs.Format.{◌>>=◌}
+use Rattle.sg_changes.specs.Format.{AreBytes, ◌>>=◌}
 use Rattle.sg_changes.specs.KeptFields.{KeptFields}
 use Rattle.sg_changes.specs.Records.{change_at, is_possible, record_of}
-use Rattle.sg_changes.specs.Replay.{applied_at, replayed, replayed_by}
-use Rattle.sg_changes.proofs.FormatLemmas.{bind_some, pair_parts}
+use Rattle.sg_changes.specs.Replay.{IsDamagedAt, applied_at, replayed, replayed_by}
+use Rattle.sg_changes.proofs.FormatLemmas.{bind_some, dropped_bytes, pair_parts}
 use Rattle.sg_changes.proofs.RecordLemmas.{change_exact, change_shorter}
 
 -- ---- One record
@@ -193,3 +193,62 @@ replayed_records (change ∷ changes) old possible =
     ∙ replayed_first change (flat_map record_of changes) old parts.0
     ∙ then-all (applied old change) (flat_map record_of changes) changes
     (λ new. replayed_records changes new parts.1)
+
+-- ---- A loop over the records of a batch
+
+-- some records are applied, and the others are left
+pub record SoFar (bytes rest : List ℕ) (old now : KeptFields) : Type 0 where
+  pub done : List ℕ
+  pub parts : bytes ≡ done ++ rest
+  pub replays : replayed done old ≡ Some now
+
+pub so_far_first : (bytes : List ℕ) (old : KeptFields) → SoFar bytes bytes old old
+so_far_first bytes old = record { done = []; parts = refl; replays = replayed_nil old }
+
+pub so_far_next : (bytes rest after : List ℕ) (old now new : KeptFields) → AreBytes bytes
+    → applied_at rest now ≡ Some (new, after) → SoFar bytes rest old now → SoFar bytes after old new
+so_far_next bytes rest after old now new are e so_far =
+    let is = applied-parts rest now new after e in
+    let left : drop (length so_far.done) bytes ≡ rest =
+        ap (drop (length so_far.done)) so_far.parts ∙ drop_at so_far.done rest (length so_far.done) refl in
+    let rest_are : AreBytes rest = subst AreBytes left (dropped_bytes (length so_far.done) bytes are) in
+    let spelled = change_exact.has_one_spelling rest is.change after rest_are is.read in
+    let record_bytes : List ℕ = record_of is.change in
+    record {
+      done = so_far.done ++ record_bytes;
+      parts = so_far.parts ∙ ap (λ (r : List ℕ). so_far.done ++ r) spelled.spelled
+          ∙ sym (append_assoc so_far.done record_bytes after);
+      replays = replayed_push so_far.done is.change old now spelled.possible so_far.replays ∙ is.applies;
+    }
+
+pub so_far_damaged : (bytes rest : List ℕ) (old now : KeptFields) (offset : ℕ) → length rest ≢ 0
+    → offset + length rest ≡ length bytes → applied_at rest now ≡ None → SoFar bytes rest old now
+    → IsDamagedAt bytes old offset
+so_far_damaged bytes rest old now offset some size none so_far =
+    let count : length so_far.done ≡ offset =
+        omega (arith, size, ap length so_far.parts, length-append so_far.done rest) in
+    record {
+      before = now;
+      within = omega (arith, some, size);
+      sound = ap (λ (bs : List ℕ). replayed (take offset bs) old) so_far.parts
+          ∙ ap (λ (bs : List ℕ). replayed bs old) (take_at so_far.done rest offset count) ∙ so_far.replays;
+      damaged = ap (λ (bs : List ℕ). applied_at (drop offset bs) now) so_far.parts
+          ∙ ap (λ (bs : List ℕ). applied_at bs now) (drop_at so_far.done rest offset count) ∙ none;
+    }
+
+pub so_far_none : (bytes rest : List ℕ) (old now : KeptFields) → length rest ≢ 0 → applied_at rest now ≡ None
+    → SoFar bytes rest old now → replayed bytes old ≡ None
+so_far_none bytes rest old now some none so_far =
+    ap (λ (bs : List ℕ). replayed bs old) so_far.parts ∙ replayed_append so_far.done rest old now so_far.replays
+    ∙ step_none rest now some none
+
+pub so_far_all : (bytes rest : List ℕ) (old now : KeptFields) → length rest ≡ 0 → SoFar bytes rest old now
+    → replayed bytes old ≡ Some now
+so_far_all bytes rest old now none so_far =
+    ap (λ (bs : List ℕ). replayed bs old) so_far.parts ∙ replayed_append so_far.done rest old now so_far.replays
+    ∙ step_end rest now none
+
+pub so_far_within : (bytes rest : List ℕ) (old now : KeptFields) → SoFar bytes rest old now
+    → length rest ≤ length bytes
+so_far_within bytes rest old now so_far =
+    omega (arith, ap length so_far.parts, length-append so_far.done rest)

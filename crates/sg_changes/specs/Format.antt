@@ -2,7 +2,7 @@
 -- spelling: it reads exactly what it writes. A law below says so of each.
 use Rattle.std.specs.List.{flat_map, list_all}
 use Rattle.std.specs.Option.{option_map_or}
-use Rattle.std.specs.Prelude.{◌≡◌, ◌<◌, ◌≤◌, ℕ, zero, suc, ◌^◌, ◌==◌, Bool, true, false, ◌&&◌, nat_lt, List, [], ◌∷◌, ◌++◌}
+use Rattle.std.specs.Prelude.{◌≡◌, ◌<◌, ◌≤◌, ℕ, zero, suc, ◌^◌, ◌==◌, Bool, true, false, ◌&&◌, nat_le, nat_lt, List, [], ◌∷◌, ◌++◌}
 use Rattle.std.specs.Prelude.{length, take, drop, slice_index, Option, Some, None, if◌then◌else◌}
 use Rattle.byteorder.specs.Endian.{big_bytes, big_number}
 
@@ -73,12 +73,16 @@ coded to from format = record {
   is_possible = λ y. option_map_or format.is_possible (from y) false;
 }
 
--- A number below a limit, in a field of one byte.
-abbrev pub below : (limit number : ℕ) → Option ℕ
-below limit number = if nat_lt number limit then Some number else None
+-- Values that pass a test.
+abbrev pub passing : {X : Type 0} → (X → Bool) → X → Option X
+passing test x = if test x then Some x else None
 
+abbrev pub only : {X : Type 0} → (X → Bool) → Format X → Format X
+only test format = coded (passing test) (passing test) format
+
+-- A number below a limit, in a field of one byte.
 abbrev pub number_below : (limit : ℕ) → Format ℕ
-number_below limit = coded (below limit) (below limit) (number 1)
+number_below limit = only (λ n. nat_lt n limit) (number 1)
 
 -- Yes or no: a byte that is 1 or 0.
 abbrev pub bool_of : ℕ → Option Bool
@@ -123,15 +127,18 @@ many count format = record {
   is_possible = λ xs. (length xs == count) && list_all format.is_possible xs;
 }
 
--- Values, one after another, and before them their number in one byte.
-unfoldable pub counted_at : {X : Type 0} → Format X → List ℕ → Option (List X × List ℕ)
-counted_at format bytes = number_at 1 bytes >>= λ count. many_at format count.0 count.1
+-- Values, one after another, and before them their number in one byte. There are at most `most`, and `most`
+-- is below 256.
+unfoldable pub counted_at : {X : Type 0} → (most : ℕ) → Format X → List ℕ → Option (List X × List ℕ)
+counted_at most format bytes = do
+  count ← number_at 1 bytes
+  if nat_le count.0 most then many_at format count.0 count.1 else None
 
-abbrev pub counted : {X : Type 0} → Format X → Format (List X)
-counted format = record {
+abbrev pub counted : {X : Type 0} → (most : ℕ) → Format X → Format (List X)
+counted most format = record {
   bytes = λ xs. big_bytes 1 (length xs) ++ flat_map format.bytes xs;
-  at = counted_at format;
-  is_possible = λ xs. nat_lt (length xs) 256 && list_all format.is_possible xs;
+  at = counted_at most format;
+  is_possible = λ xs. nat_le (length xs) most && list_all format.is_possible xs;
 }
 
 -- No bytes.

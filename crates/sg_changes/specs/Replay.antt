@@ -1,5 +1,6 @@
 -- What the records of a batch leave.
-use Rattle.std.specs.Prelude.{ℕ, zero, suc, List, [], ◌∷◌, length, Option, Some, None}
+use Rattle.std.specs.Prelude.{◌≡◌, ◌<◌, ℕ, zero, suc, List, [], ◌∷◌, length, take, drop}
+use Rattle.std.specs.Prelude.{Option, Some, None}
 use Rattle.sg_changes.specs.Change.{applied}
 use Rattle.sg_changes.specs.Format.{◌>>=◌}
 use Rattle.sg_changes.specs.KeptFields.{KeptFields}
@@ -22,3 +23,10 @@ replayed_by (suc limit) (byte ∷ bytes) kept =
 -- All records are applied, one after another. None if one cannot be read, or does not apply.
 unfoldable pub replayed : List ℕ → KeptFields → Option KeptFields
 replayed bytes kept = replayed_by (length bytes) bytes kept
+
+-- The records before an offset are applied, and the one there cannot be read, or does not apply.
+pub record IsDamagedAt (bytes : List ℕ) (kept : KeptFields) (offset : ℕ) : Type 0 where
+  pub before : KeptFields
+  pub within : offset < length bytes
+  pub sound : replayed (take offset bytes) kept ≡ Some before
+  pub damaged : applied_at (drop offset bytes) before ≡ None

@@ -1,5 +1,6 @@
 -- The bytes of registrations and a reservation that persist through a power loss.
 use Rattle.std.specs.Prelude.{ℕ, List, Option, Some}
+use Rattle.sg_units.specs.Registrations.{max_registrations}
 use Rattle.sg_units.specs.ReservationType.{code_of, type_of}
 use Rattle.sg_units.specs.declared.registrations.Registration.{Registration}
 use Rattle.sg_units.specs.declared.reservation.Reservation.{Reservation}
@@ -30,12 +31,12 @@ reservation =
     (λ (r : Reservation). Some (r.kind, r.holder))
     (pair reservation_type (optional initiator))
 
--- The number of registrations 1, each registration, and the reservation, if there is one.
+-- The number of registrations 1, 0 to 6. Each registration, and the reservation, if there is one.
 unfoldable pub persistent : Format Persistent
 persistent =
     coded (λ p. Some (record { registrations = p.0; reservation = p.1 }))
     (λ (s : Persistent). Some (s.registrations, s.reservation))
-    (pair (counted registration) (optional reservation))
+    (pair (counted max_registrations registration) (optional reservation))
 
 unfoldable pub reservations : Format (Option Persistent)
 reservations = optional persistent

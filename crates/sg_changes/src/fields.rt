@@ -3,8 +3,10 @@ ghost use Rattle.std.specs.Prelude.{◌≡◌};
 ghost use Rattle.sg_changes.specs.ExtentFormat.{extent};
 ghost use Rattle.sg_changes.specs.Format.{bytes_at, flag, number_at};
 ghost use Rattle.sg_changes.specs.Reading.{Gives};
+ghost use Rattle.sg_changes.specs.Records.{pages};
 
 use byteorder::{BigEndian, ByteOrder};
+use sg_pages::PageValues;
 use sg_wire::Extent;
 
 /// `count` bytes as they are.
@@ -84,4 +86,22 @@ pub(crate) fn extent_at(bytes: &[u8]) -> Option<(Extent, &[u8])>
     let (lba, rest) = u64_at(bytes)?;
     let (count, rest) = u32_at(rest)?;
     Some((Extent { lba, count }, rest))
+}
+
+/// The values of the mode pages.
+#[tactic(auto, unfolding(crate::specs::Records::pages))]
+pub(crate) fn pages_at(bytes: &[u8]) -> Option<(PageValues, &[u8])>
+    ensures { Gives (λ f. (f.0, f.1.now)) result (pages.at bytes.now) }
+{
+    let (error_recovery, rest) = array_at(bytes)?;
+    let (caching, rest) = array_at(rest)?;
+    let (control, rest) = array_at(rest)?;
+    let (exceptions_control, rest) = array_at(rest)?;
+    let values = PageValues {
+        error_recovery: *error_recovery,
+        caching: *caching,
+        control: *control,
+        exceptions_control: *exceptions_control,
+    };
+    Some((values, rest))
 }

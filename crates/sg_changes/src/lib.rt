@@ -3,8 +3,11 @@
 #![tactic(auto)]
 
 mod blocks;
+mod fault_fields;
 mod fields;
 mod parts;
+mod reservation_fields;
+mod tag;
 
 pub use parts::{Damaged, KeptParts};
 

@@ -1,6 +1,9 @@
 // The parts of a disk that a power cycle leaves, and what records make of them.
 use crate::blocks;
-use crate::fields::{array_at, bytes_at, extent_at, u64_at};
+use crate::fields::{array_at, bytes_at, extent_at, pages_at, u64_at};
+use crate::fault_fields::faults_at;
+use crate::reservation_fields::reservations_at;
+use crate::tag;
 use sg_faults::Faults;
 use sg_pages::{Identity, ModePages, PageValues};
 use sg_store::{BLOCK_LENGTH, Store};
@@ -46,14 +49,17 @@ impl<S: Store> Model for KeptParts<S> {
     ghost invariant = { λ p. p.capacity ≡ (S.disk p.store).capacity };
 }
 
-ghost use Rattle.std.specs.Prelude.{◌≡◌, OnErr, OnOk, Some, None};
+ghost use Rattle.std.specs.Prelude.{◌≡◌, IfErr, OnErr, OnOk, Some, None};
 ghost use Rattle.sg_pages.specs.ModePowerOn.{restored_pages};
 ghost use Rattle.sg_changes.specs.Change.Change.{Write, Fill, Unmap, Anchor, Pages, Grow};
+ghost use Rattle.sg_changes.specs.Change.{Change};
 ghost use Rattle.sg_changes.specs.ExtentFormat.{extent};
 ghost use Rattle.sg_changes.specs.Format.{made};
 ghost use Rattle.sg_changes.specs.Reading.{Gives, applied_to};
 ghost use Rattle.sg_changes.specs.Records.{capacity, fill, pages, range, write};
-ghost use Rattle.sg_changes.specs.Replay.{applied_at, replayed};
+ghost use Rattle.sg_changes.specs.ReservationFormat.{reservations};
+ghost use Rattle.sg_changes.specs.Replay.{IsDamagedAt, applied_at, replayed};
+ghost use Rattle.sg_changes.specs.FaultFormat.{faults};
 
 /// A record cannot be read, or its change does not apply.
 #[derive(Clone, Copy, Debug, Error, PartialEq, Eq)]
@@ -109,6 +115,37 @@ impl<S: Store> KeptParts<S> {
         Some(rest)
     }
 
+    fn set_pages<'a>(&mut self, fields: &'a [u8]) -> Option<&'a [u8]>
+        ensures { Gives (λ rest. (self.new, rest.now)) result
+            (applied_to self.old (made Pages (pages.at fields.now))) }
+    {
+        let (saved, rest) = pages_at(fields)?;
+        self.saved = saved;
+        Some(rest)
+    }
+
+    fn set_reservations<'a>(&mut self, fields: &'a [u8]) -> Option<&'a [u8]>
+        ensures { Gives (λ rest. (self.new, rest.now)) result
+            (applied_to self.old (made Change.Reservations (reservations.at fields.now))) }
+    {
+        let Some((reservations, rest)) = reservations_at(fields) else {
+            return None;
+        };
+        self.reservations = reservations;
+        Some(rest)
+    }
+
+    fn set_faults<'a>(&mut self, fields: &'a [u8]) -> Option<&'a [u8]>
+        ensures { Gives (λ rest. (self.new, rest.now)) result
+            (applied_to self.old (made Change.Faults (faults.at fields.now))) }
+    {
+        let Some((faults, rest)) = faults_at(fields) else {
+            return None;
+        };
+        self.faults = faults;
+        Some(rest)
+    }
+
     fn grow<'a>(&mut self, fields: &'a [u8]) -> Option<&'a [u8]>
         ensures { Gives (λ rest. (self.new, rest.now)) result
             (applied_to self.old (made Grow (capacity.at fields.now))) }
@@ -117,5 +154,55 @@ impl<S: Store> KeptParts<S> {
         blocks::grow(&mut self.store, self.capacity, capacity)?;
         self.capacity = capacity;
         Some(rest)
+    }
+
+    /// Applies the first record of some bytes.
+    #[tactic(auto, unfolding(crate::specs::Records::fields_at, crate::specs::Replay::applied_at))]
+    fn apply_first<'a>(&mut self, bytes: &'a [u8]) -> Option<&'a [u8]>
+        ensures { Gives (λ rest. (self.new, rest.now)) result (applied_at bytes.now self.old) }
+    {
+        let (tag, fields) = bytes.split_first()?;
+        match *tag {
+            tag::WRITE => self.write(fields),
+            tag::FILL => self.fill(fields),
+            tag::UNMAP => self.unmap(fields),
+            tag::ANCHOR => self.anchor(fields),
+            tag::PAGES => self.set_pages(fields),
+            tag::RESERVATIONS => self.set_reservations(fields),
+            tag::FAULTS => self.set_faults(fields),
+            tag::GROW => self.grow(fields),
+            _ => None,
+        }
+    }
+}
+
+impl<S: Store> KeptParts<S> {
+    /// Applies the records of a batch, one after another. Blocks go from the batch to the store, and no
+    /// memory is taken.
+    ///
+    /// # Errors
+    /// A record cannot be read, or its change does not apply. The records before it are applied.
+    pub fn replay(&mut self, batch: &[u8]) -> Result<(), Damaged>
+        ensures ok { OnOk result (replayed batch.now self.old ≡ Some self.new) }
+        ensures err { OnErr result (replayed batch.now self.old ≡ None) }
+        ensures damaged { IfErr result (λ e. IsDamagedAt batch.now self.old e.record) }
+    {
+        let mut rest = batch;
+        while !rest.is_empty() {
+            let Some(after) = self.apply_first(rest) else {
+                return Err(Damaged {
+                    record: batch.len() - rest.len(),
+                });
+            };
+            rest = after;
+        }
+        Ok(())
+    }
+
+    /// The mode pages after power on.
+    pub fn pages(&self) -> ModePages
+        ensures { result ≡ restored_pages self.now.saved }
+    {
+        ModePages::restored(self.saved)
     }
 }

@@ -42,6 +42,20 @@ impl Initiators {
         }
     }
 
+    /// The initiators for which an array has `true`, by their numbers.
+    pub fn of_members(members: [bool; Initiator::COUNT]) -> Initiators
+        ensures { result ≡ members }
+    {
+        Initiators { members }
+    }
+
+    /// For each initiator, in the order of their numbers, whether it is a member.
+    pub fn members(&self) -> &[bool; Initiator::COUNT]
+        ensures { result.now ≡ self.now }
+    {
+        &self.members
+    }
+
     /// The initiators of a mask, in which bit i stands for initiator i. None if another bit is set.
     #[tactic(auto, unfolding(crate::specs::Initiators::named_in_mask))]
     pub fn of_mask(mask: u64) -> Option<Initiators>
