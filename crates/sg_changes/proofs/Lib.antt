@@ -7,3 +7,4 @@ pub mod FaultLemmas
 pub mod RecordLemmas
 pub mod ReplayLemmas
 pub mod LoopLemmas
+pub mod WritingLemmas

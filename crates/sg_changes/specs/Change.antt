@@ -19,6 +19,13 @@ pub record Persistent : Type 0 where
   pub registrations : List Registration
   pub reservation : Option Reservation
 
+-- Those of a state, if they persist.
+abbrev pub persistent_of : ReservationState → Option Persistent
+persistent_of state =
+    if state.persists_through_power_loss
+    then Some (record { registrations = state.registrations; reservation = state.reservation })
+    else None
+
 pub data Change : Type 0 where
   -- The blocks of an extent are replaced by joined blocks.
   Write : (extent : Extent) (blocks : List ℕ) → Change

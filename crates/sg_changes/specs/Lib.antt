@@ -9,3 +9,4 @@ pub mod Records
 pub mod Replay
 -- A module that only private contracts cite.
 pub mod Reading
+pub mod Writing

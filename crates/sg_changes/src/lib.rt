@@ -7,7 +7,11 @@ mod fault_fields;
 mod fields;
 mod parts;
 mod reservation_fields;
+mod reservation_writing;
+mod sink;
 mod tag;
+mod writing;
 
+pub use sink::Sink;
 pub use parts::{Damaged, KeptParts};
 

@@ -18,7 +18,7 @@ impl Model for Initiators {
     ghost inverse = { λ m. record { members = m } };
 }
 
-ghost use Rattle.std.specs.Prelude.{◌≡◌, ◌<◌};
+ghost use Rattle.std.specs.Prelude.{◌≡◌, ◌<◌, length};
 ghost use Rattle.sg_wire.specs.Initiator.{initiator_count};
 ghost use Rattle.sg_units.specs.Initiators.{all_initiators, is_in_mask, is_member, members_of_mask};
 ghost use Rattle.sg_units.specs.Initiators.{no_initiators, with_member};
@@ -51,7 +51,8 @@ impl Initiators {
 
     /// For each initiator, in the order of their numbers, whether it is a member.
     pub fn members(&self) -> &[bool; Initiator::COUNT]
-        ensures { result.now ≡ self.now }
+        ensures value { result.now ≡ self.now }
+        ensures size { length self.now ≡ initiator_count }
     {
         &self.members
     }

@@ -1,0 +1,104 @@
+// Fields that are written to a sink.
+ghost use Rattle.std.specs.Prelude.{◌≡◌, ◌≤◌, length};
+ghost use Rattle.sg_changes.specs.ExtentFormat.{extent as extent_format};
+ghost use Rattle.sg_changes.specs.Format.{flag, number, optional, plain};
+ghost use Rattle.sg_changes.specs.Records.{pages};
+ghost use Rattle.sg_changes.specs.Writing.{Takes};
+
+use crate::sink::Sink;
+use sg_pages::PageValues;
+use sg_wire::Extent;
+
+pub(crate) fn put_u8<S: Sink>(sink: &mut S, n: u8)
+    requires { 1 ≤ S.room sink.old }
+    ensures { Takes S.contents S.room (number 1) 1 sink.old sink.new n }
+{
+    sink.push(&[n]);
+}
+
+pub(crate) fn put_u16<S: Sink>(sink: &mut S, n: u16)
+    requires { 2 ≤ S.room sink.old }
+    ensures { Takes S.contents S.room (number 2) 2 sink.old sink.new n }
+{
+    sink.push(&n.to_be_bytes());
+}
+
+pub(crate) fn put_u32<S: Sink>(sink: &mut S, n: u32)
+    requires { 4 ≤ S.room sink.old }
+    ensures { Takes S.contents S.room (number 4) 4 sink.old sink.new n }
+{
+    sink.push(&n.to_be_bytes());
+}
+
+pub(crate) fn put_u64<S: Sink>(sink: &mut S, n: u64)
+    requires { 8 ≤ S.room sink.old }
+    ensures { Takes S.contents S.room (number 8) 8 sink.old sink.new n }
+{
+    sink.push(&n.to_be_bytes());
+}
+
+/// Yes or no: a byte that is 1 or 0.
+pub(crate) fn put_flag<S: Sink>(sink: &mut S, is_set: bool)
+    requires { 1 ≤ S.room sink.old }
+    ensures { Takes S.contents S.room flag 1 sink.old sink.new is_set }
+{
+    put_u8(sink, u8::from(is_set));
+}
+
+#[tactic(auto, unfolding(crate::specs::ExtentFormat::extent))]
+pub(crate) fn put_extent<S: Sink>(sink: &mut S, extent: Extent)
+    requires { 12 ≤ S.room sink.old }
+    ensures { Takes S.contents S.room extent_format 12 sink.old sink.new extent }
+{
+    put_u64(sink, extent.lba);
+    put_u32(sink, extent.count);
+}
+
+/// Bytes as they are.
+pub(crate) fn put_bytes<S: Sink>(sink: &mut S, bytes: &[u8])
+    requires { length bytes.now ≤ S.room sink.old }
+    ensures { Takes S.contents S.room (plain (length bytes.now)) (length bytes.now) sink.old sink.new
+        bytes.now }
+{
+    sink.push(bytes);
+}
+
+/// A number of two bytes, if there is one.
+pub(crate) fn put_optional_u16<S: Sink>(sink: &mut S, n: Option<u16>)
+    requires { 3 ≤ S.room sink.old }
+    ensures { Takes S.contents S.room (optional (number 2)) 3 sink.old sink.new n }
+{
+    match n {
+        Some(n) => {
+            put_flag(sink, true);
+            put_u16(sink, n);
+        }
+        None => put_flag(sink, false),
+    }
+}
+
+/// A number of one byte, if there is one.
+pub(crate) fn put_optional_u8<S: Sink>(sink: &mut S, n: Option<u8>)
+    requires { 2 ≤ S.room sink.old }
+    ensures { Takes S.contents S.room (optional (number 1)) 2 sink.old sink.new n }
+{
+    match n {
+        Some(n) => {
+            put_flag(sink, true);
+            put_u8(sink, n);
+        }
+        None => put_flag(sink, false),
+    }
+}
+
+/// The values of the mode pages.
+#[tactic(auto, unfolding(crate::specs::Records::pages))]
+pub(crate) fn put_pages<S: Sink>(sink: &mut S, values: &PageValues)
+    requires { 48 ≤ S.room sink.old }
+    ensures { Takes S.contents S.room pages 48 sink.old sink.new values.now }
+{
+    put_bytes(sink, &values.error_recovery);
+    put_bytes(sink, &values.caching);
+    put_bytes(sink, &values.control);
+    put_bytes(sink, &values.exceptions_control);
+}
