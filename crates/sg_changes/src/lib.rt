@@ -4,6 +4,7 @@
 
 mod blocks;
 mod fault_fields;
+mod fault_writing;
 mod fields;
 mod parts;
 mod reservation_fields;
