@@ -5,6 +5,7 @@ pub mod TagLemmas
 pub mod FieldLemmas
 pub mod FaultLemmas
 pub mod RecordLemmas
+pub mod FirstRecordLemmas
 pub mod ReplayLemmas
 pub mod LoopLemmas
 pub mod WritingLemmas

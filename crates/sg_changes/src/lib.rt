@@ -3,9 +3,11 @@
 #![tactic(auto)]
 
 mod blocks;
+mod change;
 mod fault_fields;
 mod fault_writing;
 mod fields;
+mod first_record;
 mod parts;
 mod reservation_fields;
 mod reservation_writing;
@@ -13,6 +15,8 @@ mod sink;
 mod tag;
 mod writing;
 
+pub use change::Change;
+pub use first_record::NewDisk;
 pub use sink::Sink;
 pub use parts::{Damaged, KeptParts};
 

@@ -23,3 +23,6 @@ pub(crate) const FAULTS: u8 = 7;
 
 /// The capacity of a disk that has grown.
 pub(crate) const GROW: u8 = 8;
+
+/// The first record of a file. No change has this tag.
+pub(crate) const NEW_DISK: u8 = 9;

@@ -1,12 +1,13 @@
 // Fields that are written to a sink.
-ghost use Rattle.std.specs.Prelude.{◌≡◌, ◌≤◌, length};
+ghost use Rattle.std.specs.Prelude.{◌≡◌, ◌+◌, ◌*◌, ◌≤◌, length};
 ghost use Rattle.sg_changes.specs.ExtentFormat.{extent as extent_format};
 ghost use Rattle.sg_changes.specs.Format.{flag, number, optional, plain};
-ghost use Rattle.sg_changes.specs.Records.{pages};
+ghost use Rattle.sg_changes.specs.Records.{fill, pages, range, write};
 ghost use Rattle.sg_changes.specs.Writing.{Takes};
 
 use crate::sink::Sink;
 use sg_pages::PageValues;
+use sg_store::BLOCK_LENGTH;
 use sg_wire::Extent;
 
 pub(crate) fn put_u8<S: Sink>(sink: &mut S, n: u8)
@@ -101,4 +102,36 @@ pub(crate) fn put_pages<S: Sink>(sink: &mut S, values: &PageValues)
     put_bytes(sink, &values.caching);
     put_bytes(sink, &values.control);
     put_bytes(sink, &values.exceptions_control);
+}
+
+/// A range: the first address, and the number of addresses.
+#[tactic(auto, unfolding(crate::specs::Records::range))]
+pub(crate) fn put_range<S: Sink>(sink: &mut S, lba: u64, count: u64)
+    requires { 16 ≤ S.room sink.old }
+    ensures { Takes S.contents S.room range 16 sink.old sink.new (lba, count) }
+{
+    put_u64(sink, lba);
+    put_u64(sink, count);
+}
+
+/// An extent, and its blocks.
+#[tactic(auto, unfolding(crate::specs::Records::write))]
+pub(crate) fn put_write<S: Sink>(sink: &mut S, extent: Extent, blocks: &[u8])
+    requires room { 12 + length blocks.now ≤ S.room sink.old }
+    requires whole { length blocks.now ≡ BLOCK_LENGTH * extent.count }
+    ensures { Takes S.contents S.room write (12 + length blocks.now) sink.old sink.new
+        (extent, blocks.now) }
+{
+    put_extent(sink, extent);
+    put_bytes(sink, blocks);
+}
+
+/// An extent, and one block for all of its addresses.
+#[tactic(auto, unfolding(crate::specs::Records::fill))]
+pub(crate) fn put_fill<S: Sink>(sink: &mut S, extent: Extent, block: &[u8; BLOCK_LENGTH])
+    requires { 524 ≤ S.room sink.old }
+    ensures { Takes S.contents S.room fill 524 sink.old sink.new (extent, block.now) }
+{
+    put_extent(sink, extent);
+    put_bytes(sink, block);
 }
