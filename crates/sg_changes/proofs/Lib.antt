@@ -9,3 +9,4 @@ pub mod FirstRecordLemmas
 pub mod ReplayLemmas
 pub mod LoopLemmas
 pub mod WritingLemmas
+pub mod SoundLemmas

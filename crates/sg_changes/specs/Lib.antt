@@ -9,6 +9,7 @@ pub mod Records
 pub mod Borrowed
 pub mod Replay
 pub mod FirstRecord
+pub mod Laws
 -- A module that only private contracts cite.
 pub mod Reading
 pub mod Writing

@@ -17,6 +17,7 @@ pub(crate) fn write<S: Store>(
         written (S.disk store.old) extent blocks.now ≡ Some (S.disk store.new)) }
     ensures none { IfNone result (written (S.disk store.old) extent blocks.now ≡ None) }
     ensures capacity { (S.disk store.new).capacity ≡ capacity }
+    ensures pool { (S.disk store.new).pool ≡ (S.disk store.old).pool }
 {
     let is_whole = blocks.len() == BLOCK_LENGTH * extent.count as usize;
     if !has_range(capacity, extent.lba, u64::from(extent.count)) || !is_whole {
@@ -38,6 +39,7 @@ pub(crate) fn fill<S: Store>(
         filled (S.disk store.old) extent block.now ≡ Some (S.disk store.new)) }
     ensures none { IfNone result (filled (S.disk store.old) extent block.now ≡ None) }
     ensures capacity { (S.disk store.new).capacity ≡ capacity }
+    ensures pool { (S.disk store.new).pool ≡ (S.disk store.old).pool }
 {
     if !has_range(capacity, extent.lba, u64::from(extent.count)) {
         return None;
@@ -53,6 +55,7 @@ pub(crate) fn unmap<S: Store>(store: &mut S, capacity: u64, lba: u64, count: u64
         unmapped (S.disk store.old) lba count ≡ Some (S.disk store.new)) }
     ensures none { IfNone result (unmapped (S.disk store.old) lba count ≡ None) }
     ensures capacity { (S.disk store.new).capacity ≡ capacity }
+    ensures pool { (S.disk store.new).pool ≡ (S.disk store.old).pool }
 {
     if !has_range(capacity, lba, count) {
         return None;
@@ -69,6 +72,7 @@ pub(crate) fn anchor<S: Store>(store: &mut S, capacity: u64, extent: Extent) -> 
         anchored (S.disk store.old) extent ≡ Some (S.disk store.new)) }
     ensures none { IfNone result (anchored (S.disk store.old) extent ≡ None) }
     ensures capacity { (S.disk store.new).capacity ≡ capacity }
+    ensures pool { (S.disk store.new).pool ≡ (S.disk store.old).pool }
 {
     if !has_range(capacity, extent.lba, u64::from(extent.count)) {
         return None;
@@ -84,6 +88,7 @@ pub(crate) fn grow<S: Store>(store: &mut S, old: u64, capacity: u64) -> Option<(
         grown (S.disk store.old) capacity ≡ Some (S.disk store.new)) }
     ensures none { IfNone result (grown (S.disk store.old) capacity ≡ None) }
     ensures capacity { IfSome result (λ _. (S.disk store.new).capacity ≡ capacity) }
+    ensures pool { (S.disk store.new).pool ≡ (S.disk store.old).pool }
     ensures same { IfNone result (S.disk store.new ≡ S.disk store.old) }
 {
     if capacity < old || capacity > MAX_CAPACITY {

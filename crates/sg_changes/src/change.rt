@@ -1,6 +1,9 @@
 // The changes of what a power cycle leaves, and their records.
 ghost use Rattle.std.specs.Prelude.{◌≡◌, ◌≤◌, Some};
 ghost use Rattle.sg_changes.specs.Borrowed.{HasWholeBlocks, change_of, room_for};
+ghost use Rattle.sg_changes.specs.Change.{applied};
+ghost use Rattle.sg_changes.specs.KeptFields.{KeptFields};
+ghost use Rattle.sg_changes.specs.Replay.{replayed};
 ghost use Rattle.sg_changes.specs.Records.{change};
 ghost use Rattle.sg_changes.specs.Writing.{Takes};
 
@@ -58,6 +61,19 @@ impl Change<'_> {
 
     /// Writes its record.
     pub fn write<S: Sink>(&self, sink: &mut S)
+        requires room { room_for (change_of self.now) ≤ S.room sink.old }
+        requires whole { HasWholeBlocks (change_of self.now) }
+        ensures record { Takes S.contents S.room change (room_for (change_of self.now)) sink.old
+            sink.new (change_of self.now) }
+        // Replaying its record after others applies the change.
+        ensures replayed { (before after : KeptFields)
+            → replayed (S.contents sink.old) before ≡ Some after
+            → replayed (S.contents sink.new) before ≡ applied after (change_of self.now) }
+    {
+        self.put(sink);
+    }
+
+    fn put<S: Sink>(&self, sink: &mut S)
         requires room { room_for (change_of self.now) ≤ S.room sink.old }
         requires whole { HasWholeBlocks (change_of self.now) }
         ensures { Takes S.contents S.room change (room_for (change_of self.now)) sink.old sink.new

@@ -8,6 +8,7 @@ mod fault_fields;
 mod fault_writing;
 mod fields;
 mod first_record;
+pub mod laws;
 mod parts;
 mod reservation_fields;
 mod reservation_writing;

@@ -1,5 +1,6 @@
 // The parts of a disk that a power cycle leaves, and what records make of them.
 use crate::blocks;
+use crate::NewDisk;
 use crate::fields::{array_at, bytes_at, extent_at, pages_at, u64_at};
 use crate::fault_fields::faults_at;
 use crate::reservation_fields::reservations_at;
@@ -8,6 +9,7 @@ use sg_faults::Faults;
 use sg_pages::{Identity, ModePages, PageValues};
 use sg_store::{BLOCK_LENGTH, Store};
 use sg_units::Reservations;
+use std::alloc::{AllocError, Global};
 use std::marker::Model;
 use thiserror::Error;
 
@@ -18,6 +20,8 @@ pub struct KeptParts<S: Store> {
     pub identity: Identity,
     /// The number of its addresses.
     pub capacity: u64,
+    /// The number of blocks of its pool.
+    pub pool: u32,
     /// Its blocks.
     pub store: S,
     /// The saved values of the mode pages.
@@ -46,14 +50,16 @@ impl<S: Store> Model for KeptParts<S> {
       faults = p.faults;
     } };
 
-    ghost invariant = { λ p. p.capacity ≡ (S.disk p.store).capacity };
+    ghost invariant = { λ p. (p.capacity ≡ (S.disk p.store).capacity)
+        × (p.pool ≡ (S.disk p.store).pool) };
 }
 
-ghost use Rattle.std.specs.Prelude.{◌≡◌, IfErr, OnErr, OnOk, Some, None};
+ghost use Rattle.std.specs.Prelude.{◌≡◌, IfErr, IfOk, OnErr, OnOk, Some, None};
 ghost use Rattle.sg_pages.specs.ModePowerOn.{restored_pages};
 ghost use Rattle.sg_changes.specs.Change.Change.{Write, Fill, Unmap, Anchor, Pages, Grow};
 ghost use Rattle.sg_changes.specs.Change.{Change};
 ghost use Rattle.sg_changes.specs.ExtentFormat.{extent};
+ghost use Rattle.sg_changes.specs.FirstRecord.{new_disk_kept};
 ghost use Rattle.sg_changes.specs.Format.{made};
 ghost use Rattle.sg_changes.specs.Reading.{Gives, applied_to};
 ghost use Rattle.sg_changes.specs.Records.{capacity, fill, pages, range, write};
@@ -177,6 +183,26 @@ impl<S: Store> KeptParts<S> {
 }
 
 impl<S: Store> KeptParts<S> {
+    /// The parts of a new disk. No block is mapped, the mode pages have their default values, no initiator is
+    /// registered, and no fault is armed. All memory is taken here.
+    ///
+    /// # Errors
+    /// Memory was refused.
+    pub fn new(alloc: Global, disk: &NewDisk) -> Result<KeptParts<S>, AllocError>
+        ensures { IfOk result (λ parts. parts ≡ new_disk_kept disk.now) }
+    {
+        let store = S::make(alloc, disk.capacity(), disk.pool())?;
+        Ok(KeptParts {
+            identity: *disk.identity(),
+            capacity: disk.capacity(),
+            pool: disk.pool(),
+            store,
+            saved: *ModePages::new().saved(),
+            reservations: Reservations::new(),
+            faults: Faults::new(),
+        })
+    }
+
     /// Applies the records of a batch, one after another. Blocks go from the batch to the store, and no
     /// memory is taken.
     ///

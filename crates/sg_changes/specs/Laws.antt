@@ -1,0 +1,49 @@
+-- Laws of the definitions.
+use Rattle.std.specs.Prelude.{◌≡◌, ◌≤◌, ◌++◌, true, List, ℕ, Some}
+use Rattle.std.specs.FinMap.{len}
+use Rattle.std.specs.List.{flat_map, list_all}
+use Rattle.sg_store.specs.Disk.{IsWellFormed, max_capacity}
+use Rattle.sg_units.specs.Reservations.{IsConsistent}
+use Rattle.sg_changes.specs.Change.{Change, applied, applied_all}
+use Rattle.sg_changes.specs.FirstRecord.{NewDiskFields, first_record, is_new_disk, new_disk_kept}
+use Rattle.sg_changes.specs.Format.{IsExact}
+use Rattle.sg_changes.specs.KeptFields.{KeptFields}
+use Rattle.sg_changes.specs.Records.{change, is_possible, record_of}
+use Rattle.sg_changes.specs.Replay.{replayed}
+
+-- A record is read as the change that it was written for, whatever follows it, and nothing else is read.
+abbrev pub RecordsAreExact : Type 0
+RecordsAreExact = IsExact change
+
+abbrev pub FirstRecordsAreExact : Type 0
+FirstRecordsAreExact = IsExact first_record
+
+-- Replaying the records of changes applies the changes.
+pub record RecordsAreReplayed : Type 0 where
+  -- all records of a batch
+  pub all : (changes : List Change) (kept : KeptFields) → list_all is_possible changes ≡ true
+      → replayed (flat_map record_of changes) kept ≡ applied_all kept changes
+  -- one more record
+  pub one_more : (bytes : List ℕ) (change : Change) (before after : KeptFields) → is_possible change ≡ true
+      → replayed bytes before ≡ Some after
+      → replayed (bytes ++ record_of change) before ≡ applied after change
+  -- the records of one batch, and then those of another
+  pub joined : (first second : List ℕ) (before after : KeptFields) → replayed first before ≡ Some after
+      → replayed (first ++ second) before ≡ replayed second after
+
+-- What is kept is what a disk can have: each address with a block of the pool is one of the disk's, and its
+-- data is a whole block; no more addresses have a block than the pool has blocks; registrations and
+-- reservation are consistent.
+pub record IsSound (kept : KeptFields) : Type 0 where
+  pub capacity : kept.disk.capacity ≤ max_capacity
+  pub pool : len kept.disk.contents ≤ kept.disk.pool
+  pub blocks : IsWellFormed kept.disk.capacity kept.disk.contents
+  pub reservations : IsConsistent kept.reservations
+
+-- It stays so, whatever records say.
+abbrev pub KeptStaysSound : Type 0
+KeptStaysSound = (bytes : List ℕ) (before after : KeptFields) → IsSound before
+    → replayed bytes before ≡ Some after → IsSound after
+
+abbrev pub NewDisksAreSound : Type 0
+NewDisksAreSound = (disk : NewDiskFields) → is_new_disk disk ≡ true → IsSound (new_disk_kept disk)
