@@ -1,8 +1,7 @@
 -- The bytes of armed faults are an exact format.
-use Rattle.std.proofs.Common.{◌≡◌, ℕ, Bool, true, false, cond, eqb, List, [], ◌∷◌, Option, Some, None, refl, sym, subst}
+use Rattle.std.proofs.Common.{◌≡◌, ℕ, List, Some, refl, sym, subst}
 use Rattle.sg_faults.specs.Faults.{max_faults}
 use Rattle.sg_faults.specs.SenseCode.{each_key, key_code, key_with_code}
-use Rattle.sg_faults.specs.declared.fault.ArmedFault.{ArmedFault}
 use Rattle.sg_faults.specs.declared.outcome.Afterwards.TheVariants as afterwards
 use Rattle.sg_faults.specs.declared.outcome.AtMedium.TheVariants as at_medium
 use Rattle.sg_faults.specs.declared.outcome.OnArrival.TheVariants as on_arrival

@@ -1,20 +1,8 @@
 -- The fields of records are exact formats.
-use Rattle.std.proofs.Common.{◌≡◌, ℕ, Bool, true, false, cond, eqb, List, [], ◌∷◌, Option, Some, None}
+use Rattle.std.proofs.Common.{◌≡◌, ℕ, Bool, cond, eqb, List, [], ◌∷◌, Option, Some}
 use Rattle.std.proofs.Common.{refl, sym, ap, ◌∙◌, inl, inr, arith}
 use Rattle.std.specs.List.{find}
 use Rattle.std.proofs.lemmas.Bool.{cases_Bool, eqb-true}
-use Rattle.sg_faults.specs.Faults.{max_faults}
-use Rattle.sg_faults.specs.SenseCode.{each_key, key_code, key_with_code}
-use Rattle.sg_faults.specs.declared.sense_code.SenseKey.{SenseKey}
-use Rattle.sg_faults.specs.declared.sense_code.SenseKey.TheVariants.{NoSense, RecoveredError}
-use Rattle.sg_faults.specs.declared.sense_code.SenseKey.TheVariants.{NotReady, MediumError}
-use Rattle.sg_faults.specs.declared.sense_code.SenseKey.TheVariants.{HardwareError, IllegalRequest}
-use Rattle.sg_faults.specs.declared.sense_code.SenseKey.TheVariants.{UnitAttention, DataProtect}
-use Rattle.sg_faults.specs.declared.sense_code.SenseKey.TheVariants.{BlankCheck, VendorSpecific}
-use Rattle.sg_faults.specs.declared.sense_code.SenseKey.TheVariants.{CopyAborted, AbortedCommand}
-use Rattle.sg_faults.specs.declared.sense_code.SenseKey.TheVariants.{VolumeOverflow, Miscompare}
-use Rattle.sg_faults.specs.declared.sense_code.SenseKey.TheVariants.{Completed}
-use Rattle.sg_pages.specs.declared.mode_pages.mode_page.PageValues.{PageValues}
 use Rattle.sg_units.specs.Registrations.{max_registrations}
 use Rattle.sg_units.specs.ReservationType.{code_of, each_type, type_of}
 use Rattle.sg_units.specs.declared.types.ReservationType.{ReservationType}
@@ -25,12 +13,12 @@ use Rattle.sg_units.specs.declared.types.ReservationType.TheVariants.{WriteExclu
 use Rattle.sg_units.specs.declared.types.ReservationType.TheVariants.{ExclusiveAccessAllRegistrants}
 use Rattle.sg_wire.specs.Initiator.{initiator_count}
 use Rattle.sg_changes.specs.ExtentFormat.{extent}
-use Rattle.sg_changes.specs.Format.{Format, IsExact, number, number_below, plain, pair, coded, flag}
-use Rattle.sg_changes.specs.Format.{counted, many, optional}
+use Rattle.sg_changes.specs.Format.{Format, IsExact, number, pair, coded}
+use Rattle.sg_changes.specs.Format.{counted, optional}
 use Rattle.sg_changes.specs.ReservationFormat.{initiator, persistent, registration, reservation}
 use Rattle.sg_changes.specs.ReservationFormat.{reservation_type, reservations}
-use Rattle.sg_changes.proofs.FormatLemmas.{before_exact, coded_exact, number_exact, pair_exact, plain_exact}
-use Rattle.sg_changes.proofs.ManyLemmas.{counted_exact, flag_exact, many_exact, number_below_exact}
+use Rattle.sg_changes.proofs.FormatLemmas.{coded_exact, number_exact, pair_exact}
+use Rattle.sg_changes.proofs.ManyLemmas.{counted_exact, number_below_exact}
 use Rattle.sg_changes.proofs.ManyLemmas.{optional_exact}
 
 -- ---- Values that are coded without a test
@@ -50,7 +38,7 @@ pub found_code : {X : Type 0} (code : X → ℕ) (n : ℕ) (xs : List X) (x : X)
 found_code code n [] x e = absurd cc
 found_code code n (y ∷ ys) x e = elim (cases_Bool (eqb (code y) n)) [
   | inl same ↦
-      let is : y ≡ x = cc (ap (λ (b : Bool). cond b (Some y) (find (λ z. eqb (code z) n) ys)) same, e) in
+      let is : y ≡ x = cc (same, e) in
       ap code (sym is) ∙ eqb-true (code y) n same
   | inr other ↦
       found_code code n ys x

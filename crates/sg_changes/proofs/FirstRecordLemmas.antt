@@ -1,12 +1,11 @@
 -- The first record is an exact format.
-use Rattle.std.proofs.Common.{◌≡◌, ℕ, zero, suc, List, Option, Some, None, refl, sym, ap, subst}
-use Rattle.sg_pages.specs.Identity.{IdentityFields}
+use Rattle.std.proofs.Common.{◌≡◌, ℕ, zero, suc, List, Some, refl, sym, subst}
 use Rattle.sg_wire.specs.declared.profile.Profile.{Profile}
 use Rattle.sg_wire.specs.declared.profile.Profile.TheVariants.{Base, Extended}
 use Rattle.sg_changes.specs.FirstRecord.{NewDiskFields, disk_with_tag, first_record, first_record_of}
 use Rattle.sg_changes.specs.FirstRecord.{identity, is_identity, is_new_disk, new_disk, profile, profile_code}
 use Rattle.sg_changes.specs.FirstRecord.{profile_of}
-use Rattle.sg_changes.specs.Format.{Format, IsExact, coded, flag, number, pair, plain}
+use Rattle.sg_changes.specs.Format.{Format, IsExact, flag, number, pair, plain}
 use Rattle.sg_changes.proofs.FieldLemmas.{renamed_exact, table_exact}
 use Rattle.sg_changes.proofs.FormatLemmas.{number_exact, pair_exact, plain_exact}
 use Rattle.sg_changes.proofs.ManyLemmas.{flag_exact, only_exact}

@@ -1,5 +1,5 @@
 -- Values that a loop reads, one after another.
-use Rattle.std.proofs.Common.{◌≡◌, ℕ, zero, suc, ◌+◌, ◌-◌, ◌<◌, ◌≤◌, List, [], ◌∷◌, ◌++◌, length, Option, Some, None}
+use Rattle.std.proofs.Common.{◌≡◌, ℕ, suc, ◌+◌, ◌-◌, ◌<◌, ◌≤◌, List, [], ◌∷◌, ◌++◌, Option, Some, None}
 use Rattle.std.proofs.Common.{refl, sym, ap, ◌∙◌, arith, append_assoc}
 use Rattle.std.proofs.lemmas.List.{append-nil}
 use Rattle.sg_changes.specs.Format.{Format, ◌>>=◌, many_at}
@@ -23,8 +23,8 @@ module _ {X : Type 0} (format : Format X) where
   goes_on front n i bytes x after total lt read so_far =
       let k : n - i ≡ suc (n - (i + 1)) = omega arith in
       let one : with_front front (many_at format (n - i) bytes)
-          ≡ with_front (front ++ x ∷ []) (many_at format (n - (i + 1)) after) =
-          rw (k, read) (regroup front x (many_at format (n - (i + 1)) after)) in
+      ≡ with_front (front ++ x ∷ []) (many_at format (n - (i + 1)) after) =
+      rw (k, read) (regroup front x (many_at format (n - (i + 1)) after)) in
       sym one ∙ so_far
 
   pub ends : (front : List X) (n i : ℕ) (bytes : List ℕ) (total : Option (List X × List ℕ)) → i < n
@@ -41,5 +41,5 @@ module _ {X : Type 0} (format : Format X) where
   is_done front n i bytes total le so_far =
       let k : n - i ≡ 0 = omega arith in
       let one : with_front front (many_at format (n - i) bytes) ≡ Some (front, bytes) =
-          rw k (ap (λ (xs : List X). Some (xs, bytes)) (append-nil front)) in
+      rw k (ap (λ (xs : List X). Some (xs, bytes)) (append-nil front)) in
       sym so_far ∙ one

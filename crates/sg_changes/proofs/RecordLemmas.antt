@@ -1,8 +1,6 @@
 -- The records of changes are an exact format.
-use Rattle.std.proofs.Common.{◌≡◌, ℕ, ◌<◌, ◌*◌, cond, eqb, List, [], ◌∷◌, length, Option, Some, None, refl, sym, subst}
-use Rattle.sg_pages.specs.declared.mode_pages.mode_page.PageValues.{PageValues}
+use Rattle.std.proofs.Common.{◌≡◌, ℕ, ◌<◌, ◌*◌, List, length, Some, refl, sym, subst}
 use Rattle.sg_store.specs.Disk.{block_length}
-use Rattle.sg_wire.specs.declared.extent.Extent.{Extent}
 use Rattle.sg_changes.specs.Change.{Change}
 use Rattle.sg_changes.specs.Change.Change.{Write, Fill, Unmap, Anchor, Pages, Reservations, Faults, Grow}
 use Rattle.sg_changes.specs.ExtentFormat.{extent}

@@ -1,5 +1,5 @@
 -- What records leave, one after another.
-use Rattle.std.proofs.Common.{◌≡◌, ◌≢◌, ℕ, zero, suc, ◌≤◌, ◌<◌, Bool, true, ◌&&◌, List, [], ◌∷◌, ◌++◌, length}
+use Rattle.std.proofs.Common.{◌≡◌, ◌≢◌, ℕ, zero, suc, ◌≤◌, ◌<◌, true, List, [], ◌∷◌, ◌++◌, length}
 use Rattle.std.proofs.Common.{Option, Some, None, refl, sym, ap, ◌∙◌, arith, append_assoc, ◌+◌, take, drop, length-append, subst}
 use Rattle.std.specs.List.{flat_map, list_all}
 use Rattle.std.specs.Prelude.{option_and_then}
@@ -210,7 +210,7 @@ pub so_far_next : (bytes rest after : List ℕ) (old now new : KeptFields) → A
 so_far_next bytes rest after old now new are e so_far =
     let is = applied-parts rest now new after e in
     let left : drop (length so_far.done) bytes ≡ rest =
-        ap (drop (length so_far.done)) so_far.parts ∙ drop_at so_far.done rest (length so_far.done) refl in
+    ap (drop (length so_far.done)) so_far.parts ∙ drop_at so_far.done rest (length so_far.done) refl in
     let rest_are : AreBytes rest = subst AreBytes left (dropped_bytes (length so_far.done) bytes are) in
     let spelled = change_exact.has_one_spelling rest is.change after rest_are is.read in
     let record_bytes : List ℕ = record_of is.change in
@@ -226,7 +226,7 @@ pub so_far_damaged : (bytes rest : List ℕ) (old now : KeptFields) (offset : �
     → IsDamagedAt bytes old offset
 so_far_damaged bytes rest old now offset some size none so_far =
     let count : length so_far.done ≡ offset =
-        omega (arith, size, ap length so_far.parts, length-append so_far.done rest) in
+    omega (arith, size, ap length so_far.parts, length-append so_far.done rest) in
     record {
       before = now;
       within = omega (arith, some, size);
@@ -252,3 +252,22 @@ pub so_far_within : (bytes rest : List ℕ) (old now : KeptFields) → SoFar byt
     → length rest ≤ length bytes
 so_far_within bytes rest old now so_far =
     omega (arith, ap length so_far.parts, length-append so_far.done rest)
+
+-- ---- Cases
+
+by-first : (bytes : List ℕ) (old new : KeptFields) (o : Option (KeptFields × List ℕ)) → length bytes ≢ 0
+    → applied_at bytes old ≡ o → replayed bytes old ≡ Some new → (P : Type 0)
+    → ((middle : KeptFields) (rest : List ℕ) (change : Change) → length rest < length bytes
+    → applied old change ≡ Some middle → replayed rest middle ≡ Some new → P) → P
+by-first bytes old new None some is e P then = absurd (cc (step_none bytes old some is))
+by-first bytes old new (Some r) some is e P then =
+    let parts = applied-parts bytes old r.0 r.1 is in
+    then r.0 r.1 parts.change (applied_shorter bytes old r.0 r.1 is) parts.applies
+    (sym (step_some bytes old r.0 r.1 is) ∙ e)
+
+-- what records leave is what the others leave of what the first one leaves
+pub first_applied : (bytes : List ℕ) (old new : KeptFields) → length bytes ≢ 0 → replayed bytes old ≡ Some new
+    → (P : Type 0)
+    → ((middle : KeptFields) (rest : List ℕ) (change : Change) → length rest < length bytes
+    → applied old change ≡ Some middle → replayed rest middle ≡ Some new → P) → P
+first_applied bytes old new some e P then = by-first bytes old new (applied_at bytes old) some refl e P then

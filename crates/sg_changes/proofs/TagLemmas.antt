@@ -1,8 +1,8 @@
 -- A table of tags is an exact format, if each of its rows is.
-use Rattle.std.proofs.Common.{◌≡◌, ℕ, ◌≤◌, ◌<◌, Bool, true, false, cond, eqb, List, [], ◌∷◌, ◌++◌, length}
-use Rattle.std.proofs.Common.{Option, Some, None, refl, sym, ap, subst, ◌∙◌, arith, inl, inr}
+use Rattle.std.proofs.Common.{◌≡◌, ℕ, ◌≤◌, ◌<◌, Bool, true, cond, eqb, List, [], ◌∷◌, ◌++◌, length}
+use Rattle.std.proofs.Common.{Option, Some, refl, sym, ap, subst, ◌∙◌, arith, inl, inr}
 use Rattle.std.proofs.lemmas.Bool.{cases_Bool, eqb-true}
-use Rattle.sg_changes.specs.Format.{AreBytes, AreBytesOf, Format, IsExact, ◌>>=◌, made, nothing, tagged}
+use Rattle.sg_changes.specs.Format.{AreBytes, AreBytesOf, Format, IsExact, made, nothing, tagged}
 use Rattle.sg_changes.proofs.FormatLemmas.{bind_some, pair_parts}
 use Rattle.sg_changes.proofs.NumberLemmas.{rest_are_bytes}
 

@@ -14,7 +14,6 @@ use Rattle.sg_faults.specs.declared.outcome.Outcome.TheVariants.{OnArrival, AtMe
 use Rattle.sg_faults.specs.declared.sense_code.SenseCode.{SenseCode}
 use Rattle.sg_faults.specs.declared.sense_code.SenseKey.{SenseKey}
 use Rattle.sg_wire.specs.Initiator.{initiator_count}
-use Rattle.sg_wire.specs.declared.extent.Extent.{Extent}
 use Rattle.sg_changes.specs.ExtentFormat.{extent}
 use Rattle.sg_changes.specs.Format.{Format, number, pair, coded, flag, optional, many, nothing, made}
 use Rattle.sg_changes.specs.Format.{tagged}

@@ -1,5 +1,5 @@
 -- The first record of a file: the disk as it was made. No change has its tag.
-use Rattle.std.specs.Prelude.{ℕ, ◌^◌, ◌==◌, Bool, ◌&&◌, nat_le, nat_lt, List, [], ◌∷◌, zero, suc}
+use Rattle.std.specs.Prelude.{ℕ, ◌^◌, ◌==◌, Bool, ◌&&◌, nat_le, nat_lt, List, ◌∷◌, zero, suc}
 use Rattle.std.specs.Prelude.{Option, Some, None, if◌then◌else◌}
 use Rattle.sg_pages.specs.Identity.{IdentityFields}
 use Rattle.sg_pages.specs.NewIdentity.{are_texts}

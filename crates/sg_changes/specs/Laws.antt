@@ -2,7 +2,7 @@
 use Rattle.std.specs.Prelude.{◌≡◌, ◌≤◌, ◌++◌, true, List, ℕ, Some}
 use Rattle.std.specs.FinMap.{len}
 use Rattle.std.specs.List.{flat_map, list_all}
-use Rattle.sg_store.specs.Disk.{IsWellFormed, max_capacity}
+use Rattle.sg_store.specs.Disk.{Disk, IsWellFormed, max_capacity}
 use Rattle.sg_units.specs.Reservations.{IsConsistent}
 use Rattle.sg_changes.specs.Change.{Change, applied, applied_all}
 use Rattle.sg_changes.specs.FirstRecord.{NewDiskFields, first_record, is_new_disk, new_disk_kept}
@@ -31,19 +31,20 @@ pub record RecordsAreReplayed : Type 0 where
   pub joined : (first second : List ℕ) (before after : KeptFields) → replayed first before ≡ Some after
       → replayed (first ++ second) before ≡ replayed second after
 
--- What is kept is what a disk can have: each address with a block of the pool is one of the disk's, and its
--- data is a whole block; no more addresses have a block than the pool has blocks; registrations and
--- reservation are consistent.
+-- A disk has at most 2^40 addresses. No more of them have a block of the pool than the pool has blocks. Each
+-- that has one is below the capacity, and its data is a whole block.
+pub record IsSoundDisk (disk : Disk) : Type 0 where
+  pub capacity : disk.capacity ≤ max_capacity
+  pub pool : len disk.contents ≤ disk.pool
+  pub blocks : IsWellFormed disk.capacity disk.contents
+
+-- What is kept has a sound disk. Its registrations and reservation are consistent.
 pub record IsSound (kept : KeptFields) : Type 0 where
-  pub capacity : kept.disk.capacity ≤ max_capacity
-  pub pool : len kept.disk.contents ≤ kept.disk.pool
-  pub blocks : IsWellFormed kept.disk.capacity kept.disk.contents
+  pub disk : IsSoundDisk kept.disk
   pub reservations : IsConsistent kept.reservations
 
--- It stays so, whatever records say.
-abbrev pub KeptStaysSound : Type 0
-KeptStaysSound = (bytes : List ℕ) (before after : KeptFields) → IsSound before
-    → replayed bytes before ≡ Some after → IsSound after
-
-abbrev pub NewDisksAreSound : Type 0
-NewDisksAreSound = (disk : NewDiskFields) → is_new_disk disk ≡ true → IsSound (new_disk_kept disk)
+-- It is so of a new disk, and stays so, whatever records say.
+pub record KeptStaysSound : Type 0 where
+  pub new : (disk : NewDiskFields) → is_new_disk disk ≡ true → IsSound (new_disk_kept disk)
+  pub after_records : (bytes : List ℕ) (before after : KeptFields) → IsSound before
+      → replayed bytes before ≡ Some after → IsSound after

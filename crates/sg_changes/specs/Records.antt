@@ -1,5 +1,5 @@
 -- The bytes of a change: its record. A record is a tag of one byte, and the fields of its change.
-use Rattle.std.specs.Prelude.{ℕ, ◌*◌, ◌==◌, Bool, List, [], ◌∷◌, Option, Some, None, if◌then◌else◌}
+use Rattle.std.specs.Prelude.{ℕ, ◌*◌, ◌==◌, Bool, List, ◌∷◌, Option, Some, None, if◌then◌else◌}
 use Rattle.sg_pages.specs.declared.mode_pages.mode_page.PageValues.{PageValues}
 use Rattle.sg_store.specs.Disk.{block_length}
 use Rattle.sg_wire.specs.declared.extent.Extent.{Extent}

@@ -1,5 +1,5 @@
 -- The bytes of registrations and a reservation that persist through a power loss.
-use Rattle.std.specs.Prelude.{ℕ, List, Option, Some}
+use Rattle.std.specs.Prelude.{ℕ, Option, Some}
 use Rattle.sg_units.specs.Registrations.{max_registrations}
 use Rattle.sg_units.specs.ReservationType.{code_of, type_of}
 use Rattle.sg_units.specs.declared.registrations.Registration.{Registration}

@@ -1,5 +1,5 @@
 -- What a function that writes to a sink leaves there.
-use Rattle.std.specs.Prelude.{◌≡◌, ◌≤◌, ◌+◌, ◌++◌, ℕ, Bool, true, List, length}
+use Rattle.std.specs.Prelude.{◌≡◌, ◌≤◌, ◌+◌, ◌++◌, ℕ, true, List, length}
 use Rattle.sg_changes.specs.Format.{Format}
 
 -- A sink has taken the bytes of a value, at most this many. The value has bytes.

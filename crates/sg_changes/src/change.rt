@@ -22,16 +22,24 @@ use sg_wire::Extent;
 #[derive(Clone, Copy)]
 pub enum Change<'a> {
     /// The blocks of an extent are replaced by these, which are just as many.
-    Write { extent: Extent, blocks: &'a [u8] },
+    Write {
+        extent: Extent,
+        blocks: &'a [u8],
+    },
     /// Each block of an extent is replaced by this one.
     Fill {
         extent: Extent,
         block: &'a [u8; BLOCK_LENGTH],
     },
     /// The addresses from one on are unmapped.
-    Unmap { lba: u64, count: u64 },
+    Unmap {
+        lba: u64,
+        count: u64,
+    },
     /// The addresses of an extent are anchored.
-    Anchor { extent: Extent },
+    Anchor {
+        extent: Extent,
+    },
     /// The mode pages have these saved values.
     Pages(&'a PageValues),
     /// Registrations and reservation are these. They are kept if they persist through a power loss.
@@ -39,7 +47,9 @@ pub enum Change<'a> {
     /// These faults are armed.
     Faults(&'a Faults),
     /// The disk has grown to this number of addresses.
-    Grow { capacity: u64 },
+    Grow {
+        capacity: u64,
+    },
 }
 
 impl Change<'_> {

@@ -8,8 +8,11 @@ ghost use Rattle.sg_changes.specs.Format.{flag, many_at, number, optional, optio
 ghost use Rattle.sg_changes.specs.Reading.{Gives};
 
 use crate::fields::{extent_at, flag_at, u8_at, u16_at, u32_at};
-use sg_faults::{Afterwards, ArmedFault, AtMedium, BadBlocks, Count, Fault, Faults, MAX_FAULTS};
-use sg_faults::{OnArrival, Outcome, SenseCode, SenseKey};
+use crate::outcome_tag;
+use sg_faults::{
+    Afterwards, ArmedFault, AtMedium, BadBlocks, Count, Fault, Faults, MAX_FAULTS, OnArrival,
+    Outcome, SenseCode, SenseKey,
+};
 use sg_units::Initiators;
 use sg_wire::Initiator;
 
@@ -40,32 +43,35 @@ fn outcome_at(bytes: &[u8]) -> Option<(Outcome, &[u8])>
 {
     let (tag, rest) = bytes.split_first()?;
     match *tag {
-        1 => Some((Outcome::OnArrival(OnArrival::Busy), rest)),
-        2 => Some((Outcome::OnArrival(OnArrival::TaskSetFull), rest)),
-        3 => Some((Outcome::OnArrival(OnArrival::ReservationConflict), rest)),
-        4 => Some((Outcome::OnArrival(OnArrival::NoReply), rest)),
-        5 => {
+        outcome_tag::BUSY => Some((Outcome::OnArrival(OnArrival::Busy), rest)),
+        outcome_tag::TASK_SET_FULL => Some((Outcome::OnArrival(OnArrival::TaskSetFull), rest)),
+        outcome_tag::RESERVATION_CONFLICT => Some((
+            Outcome::OnArrival(OnArrival::ReservationConflict),
+            rest,
+        )),
+        outcome_tag::NO_REPLY => Some((Outcome::OnArrival(OnArrival::NoReply), rest)),
+        outcome_tag::CHECK_CONDITION => {
             let (code, rest) = sense_code_at(rest)?;
             Some((Outcome::OnArrival(OnArrival::CheckCondition(code)), rest))
         }
-        6 => {
+        outcome_tag::DEFERRED_ERROR => {
             let (code, rest) = sense_code_at(rest)?;
             Some((Outcome::OnArrival(OnArrival::DeferredError(code)), rest))
         }
-        7 => {
+        outcome_tag::MEDIUM_ERROR => {
             let (code, rest) = sense_code_at(rest)?;
             Some((Outcome::AtMedium(AtMedium::CheckCondition(code)), rest))
         }
-        8 => {
+        outcome_tag::MOVES_ONLY => {
             let (blocks, rest) = u32_at(rest)?;
             Some((Outcome::AtMedium(AtMedium::MovesOnly(blocks)), rest))
         }
-        9 => Some((Outcome::Afterwards(Afterwards::NoReply), rest)),
-        10 => {
+        outcome_tag::NO_STATUS => Some((Outcome::Afterwards(Afterwards::NoReply), rest)),
+        outcome_tag::LATE_CHECK_CONDITION => {
             let (code, rest) = sense_code_at(rest)?;
             Some((Outcome::Afterwards(Afterwards::CheckCondition(code)), rest))
         }
-        11 => {
+        outcome_tag::SHORT_DATA_IN => {
             let (bytes, rest) = u32_at(rest)?;
             Some((Outcome::Afterwards(Afterwards::ShortDataIn(bytes)), rest))
         }
@@ -171,7 +177,10 @@ fn count_at(bytes: &[u8]) -> Option<(Count, &[u8])>
 fn counts_at(bytes: &[u8]) -> Option<([Count; Initiator::COUNT], &[u8])>
     ensures { Gives (λ f. (f.0, f.1.now)) result (many_at count initiator_count bytes.now) }
 {
-    let mut counts = [Count { skip: 0, times: None }; Initiator::COUNT];
+    let mut counts = [Count {
+        skip: 0,
+        times: None,
+    }; Initiator::COUNT];
     let mut rest = bytes;
     for number in 0..Initiator::COUNT {
         let Some((count, after)) = count_at(rest) else {

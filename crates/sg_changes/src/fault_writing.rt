@@ -8,10 +8,15 @@ ghost use Rattle.sg_changes.specs.FaultFormat.{outcome, sense_code, sense_key};
 ghost use Rattle.sg_changes.specs.Format.{flag, many, optional};
 ghost use Rattle.sg_changes.specs.Writing.{Takes};
 
+use crate::outcome_tag;
 use crate::sink::Sink;
-use crate::writing::{put_extent, put_flag, put_optional_u8, put_optional_u16, put_u8, put_u16, put_u32};
-use sg_faults::{Afterwards, ArmedFault, AtMedium, BadBlocks, Count, Fault, Faults};
-use sg_faults::{OnArrival, Outcome, SenseCode, SenseKey};
+use crate::writing::{
+    put_extent, put_flag, put_optional_u8, put_optional_u16, put_u8, put_u16, put_u32,
+};
+use sg_faults::{
+    Afterwards, ArmedFault, AtMedium, BadBlocks, Count, Fault, Faults, OnArrival, Outcome,
+    SenseCode, SenseKey,
+};
 use sg_units::Initiators;
 use sg_wire::Initiator;
 
@@ -53,16 +58,16 @@ fn put_on_arrival<S: Sink>(sink: &mut S, what: OnArrival)
     ensures { Takes S.contents S.room outcome 5 sink.old sink.new (outcomes.OnArrival what) }
 {
     match what {
-        OnArrival::Busy => put_u8(sink, 1),
-        OnArrival::TaskSetFull => put_u8(sink, 2),
-        OnArrival::ReservationConflict => put_u8(sink, 3),
-        OnArrival::NoReply => put_u8(sink, 4),
+        OnArrival::Busy => put_u8(sink, outcome_tag::BUSY),
+        OnArrival::TaskSetFull => put_u8(sink, outcome_tag::TASK_SET_FULL),
+        OnArrival::ReservationConflict => put_u8(sink, outcome_tag::RESERVATION_CONFLICT),
+        OnArrival::NoReply => put_u8(sink, outcome_tag::NO_REPLY),
         OnArrival::CheckCondition(code) => {
-            put_u8(sink, 5);
+            put_u8(sink, outcome_tag::CHECK_CONDITION);
             put_sense_code(sink, code);
         }
         OnArrival::DeferredError(code) => {
-            put_u8(sink, 6);
+            put_u8(sink, outcome_tag::DEFERRED_ERROR);
             put_sense_code(sink, code);
         }
     }
@@ -75,11 +80,11 @@ fn put_at_medium<S: Sink>(sink: &mut S, what: AtMedium)
 {
     match what {
         AtMedium::CheckCondition(code) => {
-            put_u8(sink, 7);
+            put_u8(sink, outcome_tag::MEDIUM_ERROR);
             put_sense_code(sink, code);
         }
         AtMedium::MovesOnly(blocks) => {
-            put_u8(sink, 8);
+            put_u8(sink, outcome_tag::MOVES_ONLY);
             put_u32(sink, blocks);
         }
     }
@@ -91,13 +96,13 @@ fn put_afterwards<S: Sink>(sink: &mut S, what: Afterwards)
     ensures { Takes S.contents S.room outcome 5 sink.old sink.new (outcomes.Afterwards what) }
 {
     match what {
-        Afterwards::NoReply => put_u8(sink, 9),
+        Afterwards::NoReply => put_u8(sink, outcome_tag::NO_STATUS),
         Afterwards::CheckCondition(code) => {
-            put_u8(sink, 10);
+            put_u8(sink, outcome_tag::LATE_CHECK_CONDITION);
             put_sense_code(sink, code);
         }
         Afterwards::ShortDataIn(bytes) => {
-            put_u8(sink, 11);
+            put_u8(sink, outcome_tag::SHORT_DATA_IN);
             put_u32(sink, bytes);
         }
     }

@@ -85,8 +85,7 @@ impl NewDisk {
     }
 
     /// Reads the first record of a file, and returns the bytes after it. None if it is no first record.
-    #[tactic(auto, unfolding(crate::specs::FirstRecord::disk_with_tag,
-        crate::specs::FirstRecord::new_disk))]
+    #[tactic(auto, unfolding(crate::specs::FirstRecord::disk_with_tag, crate::specs::FirstRecord::new_disk))]
     pub fn read(bytes: &[u8]) -> Option<(NewDisk, &[u8])>
         ensures { Gives (λ f. (f.0, f.1.now)) result (first_record.at bytes.now) }
     {
@@ -169,7 +168,7 @@ fn put_identity<S: Sink>(sink: &mut S, identity: &Identity)
     requires { 46 ≤ S.room sink.old }
     ensures { Takes S.contents S.room identity_format 46 sink.old sink.new identity.now }
 {
-    identity.is_valid();
+    identity.check_invariant();
     put_bytes(sink, identity.vendor());
     put_bytes(sink, identity.product());
     put_bytes(sink, identity.revision());

@@ -1,6 +1,6 @@
 //! Laws of the definitions: each is the contract of a function that does nothing.
-ghost use Rattle.sg_changes.specs.Laws.{FirstRecordsAreExact, KeptStaysSound, NewDisksAreSound};
-ghost use Rattle.sg_changes.specs.Laws.{RecordsAreExact, RecordsAreReplayed};
+ghost use Rattle.sg_changes.specs.Laws.{FirstRecordsAreExact, KeptStaysSound, RecordsAreExact};
+ghost use Rattle.sg_changes.specs.Laws.{RecordsAreReplayed};
 
 /// A record is read as the change that it was written for, whatever follows it. Bytes that are read as a
 /// change are its record, so that no change has a second spelling.
@@ -19,12 +19,8 @@ pub fn records_are_replayed()
     ensures { RecordsAreReplayed }
 {}
 
-/// Whatever records say, what is kept after them keeps the limits of a disk.
+/// Whatever records say, what is kept after them keeps the limits of a disk, as what is kept of a new disk
+/// does.
 pub fn kept_stays_sound()
     ensures { KeptStaysSound }
-{}
-
-/// What is kept of a new disk keeps the limits of a disk.
-pub fn new_disks_are_sound()
-    ensures { NewDisksAreSound }
 {}

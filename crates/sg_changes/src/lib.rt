@@ -9,6 +9,7 @@ mod fault_writing;
 mod fields;
 mod first_record;
 pub mod laws;
+mod outcome_tag;
 mod parts;
 mod reservation_fields;
 mod reservation_writing;
@@ -18,6 +19,5 @@ mod writing;
 
 pub use change::Change;
 pub use first_record::NewDisk;
-pub use sink::Sink;
 pub use parts::{Damaged, KeptParts};
-
+pub use sink::Sink;

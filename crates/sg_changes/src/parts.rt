@@ -1,10 +1,8 @@
 // The parts of a disk that a power cycle leaves, and what records make of them.
-use crate::blocks;
-use crate::NewDisk;
-use crate::fields::{array_at, bytes_at, extent_at, pages_at, u64_at};
 use crate::fault_fields::faults_at;
+use crate::fields::{array_at, bytes_at, extent_at, pages_at, u64_at};
 use crate::reservation_fields::reservations_at;
-use crate::tag;
+use crate::{NewDisk, blocks, tag};
 use sg_faults::Faults;
 use sg_pages::{Identity, ModePages, PageValues};
 use sg_store::{BLOCK_LENGTH, Store};

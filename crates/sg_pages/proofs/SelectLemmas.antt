@@ -1,5 +1,5 @@
 -- Header, block descriptor and pages of a list, checked in turn.
-use Rattle.std.proofs.Common.{◌-◌, map}
+use Rattle.std.proofs.Common.{map}
 use Rattle.std.proofs.Common.{◌≡◌, ◌≤◌, ◌<◌, ℕ, ◌+◌, List, [], ◌∷◌, ◌++◌, length, drop, take, Bool}
 use Rattle.std.proofs.Common.{true, false, cond, ◌||◌, refl, sym, ap, ◌∙◌, arith, inl, inr}
 use Rattle.std.specs.Prelude.{Option, Some, None, Result, Ok, Err, IfErr, nat_lt, ◌==◌}

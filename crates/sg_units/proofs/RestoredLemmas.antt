@@ -1,6 +1,6 @@
 -- The test of registrations and a reservation.
 use Rattle.std.proofs.Common.{◌≡◌, ◌≤◌, ℕ, Bool, true, false, not, ◌&&◌, List, [], ◌∷◌, length, Option}
-use Rattle.std.proofs.Common.{refl, sym, ap, arith, inl, inr, eqb, leb}
+use Rattle.std.proofs.Common.{refl, ap, arith, inl, inr, leb}
 use Rattle.std.specs.List.{list_all}
 use Rattle.std.proofs.lemmas.Bool.{and_parts, cases_Bool, eqb-true, le-leb, leb-true, not-true}
 use Rattle.sg_units.specs.Registrations.{has_key, is_of, is_registered, max_registrations, registrations_of}

@@ -1,6 +1,6 @@
 // Registrations and the persistent reservation for other crates: a value that is always consistent.
-use crate::reservation_state::ReservationState;
 use crate::registrations::Registrations;
+use crate::reservation_state::ReservationState;
 use crate::{OutFault, OutList, Raised, Registration, Reservation, ReservationChange};
 use sg_wire::{Class, Cut, Initiator, OutAction, Rules};
 use std::marker::Model;

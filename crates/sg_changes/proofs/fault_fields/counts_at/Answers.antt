@@ -1,4 +1,4 @@
-use Rattle.std.proofs.Common.{◌≡◌, ◌++◌, ◌∷◌, [], List, Bool, Option, Some, ap, sym, arith, ◌∙◌, ◌-◌, ◌+◌, length, take}
+use Rattle.std.proofs.Common.{List, Some, ap, arith, ◌∙◌, ◌-◌, ◌+◌, take}
 use Rattle.std.proofs.lemmas.List.{length-set, take_all, take_more_set}
 use Rattle.sg_changes.specs.Format.{many_at}
 use Rattle.sg_changes.specs.FaultFormat.{count}
@@ -30,9 +30,9 @@ loop-number-preserved c =
     record {
       read =
           ap (λ (front : List (Count)). with_front front (many_at count (initiator_count - (i + 1)) c.in-Some.after.now))
-    (take_more_set so_far i c.in-Some.count (omega arith))
-    ∙ goes_on count (take i so_far) initiator_count i c.loop-number.rest.now c.in-Some.count
-    c.in-Some.after.now (many_at count initiator_count c.args.bytes.now) c.loop-number-test.true
-    c.in-Some.ensures c.loop-number.invariant.read;
+          (take_more_set so_far i c.in-Some.count (omega arith))
+          ∙ goes_on count (take i so_far) initiator_count i c.loop-number.rest.now c.in-Some.count
+          c.in-Some.after.now (many_at count initiator_count c.args.bytes.now) c.loop-number-test.true
+          c.in-Some.ensures c.loop-number.invariant.read;
       size = length-set so_far i c.in-Some.count ∙ size;
     }

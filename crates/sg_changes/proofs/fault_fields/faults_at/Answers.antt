@@ -1,4 +1,4 @@
-use Rattle.std.proofs.Common.{◌≡◌, ◌++◌, ◌∷◌, [], List, Bool, Option, Some, ap, sym, arith, ◌∙◌, ◌-◌, ◌+◌, length, take}
+use Rattle.std.proofs.Common.{List, Option, Some, ap, sym, arith, ◌∙◌, ◌-◌, ◌+◌, take}
 use Rattle.std.proofs.lemmas.List.{length-set, take_all, take_more_set}
 use Rattle.sg_changes.specs.Format.{many_at, optional}
 use Rattle.sg_changes.specs.FaultFormat.{armed_fault, faults}
@@ -32,9 +32,9 @@ loop-number-preserved c =
     record {
       read =
           ap (λ (front : List (Option ArmedFault)). with_front front (many_at (optional armed_fault) (max_faults - (i + 1)) c.in-Some.after.now))
-    (take_more_set so_far i c.in-Some.slot (omega arith))
-    ∙ goes_on (optional armed_fault) (take i so_far) max_faults i c.loop-number.rest.now c.in-Some.slot
-    c.in-Some.after.now (many_at (optional armed_fault) max_faults c.args.bytes.now) c.loop-number-test.true
-    c.in-Some.ensures c.loop-number.invariant.read;
+          (take_more_set so_far i c.in-Some.slot (omega arith))
+          ∙ goes_on (optional armed_fault) (take i so_far) max_faults i c.loop-number.rest.now c.in-Some.slot
+          c.in-Some.after.now (many_at (optional armed_fault) max_faults c.args.bytes.now) c.loop-number-test.true
+          c.in-Some.ensures c.loop-number.invariant.read;
       size = length-set so_far i c.in-Some.slot ∙ size;
     }

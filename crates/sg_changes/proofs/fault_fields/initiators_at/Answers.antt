@@ -1,4 +1,4 @@
-use Rattle.std.proofs.Common.{◌≡◌, ◌++◌, ◌∷◌, [], List, Bool, Option, Some, ap, sym, arith, ◌∙◌, ◌-◌, ◌+◌, length, take}
+use Rattle.std.proofs.Common.{List, Bool, Some, ap, sym, arith, ◌∙◌, ◌-◌, ◌+◌, take}
 use Rattle.std.proofs.lemmas.List.{length-set, take_all, take_more_set}
 use Rattle.sg_changes.specs.Format.{flag, many_at}
 use Rattle.sg_wire.specs.Initiator.{initiator_count}
@@ -28,9 +28,9 @@ loop-number-preserved c =
     record {
       read =
           ap (λ (front : List (Bool)). with_front front (many_at flag (initiator_count - (i + 1)) c.in-Some.after.now))
-    (take_more_set so_far i c.in-Some.is_member (omega arith))
-    ∙ goes_on flag (take i so_far) initiator_count i c.loop-number.rest.now c.in-Some.is_member
-    c.in-Some.after.now (many_at flag initiator_count c.args.bytes.now) c.loop-number-test.true
-    c.in-Some.ensures c.loop-number.invariant.read;
+          (take_more_set so_far i c.in-Some.is_member (omega arith))
+          ∙ goes_on flag (take i so_far) initiator_count i c.loop-number.rest.now c.in-Some.is_member
+          c.in-Some.after.now (many_at flag initiator_count c.args.bytes.now) c.loop-number-test.true
+          c.in-Some.ensures c.loop-number.invariant.read;
       size = length-set so_far i c.in-Some.is_member ∙ size;
     }

@@ -1,4 +1,4 @@
-use Rattle.std.proofs.Common.{◌≡◌, ◌++◌, ◌∷◌, [], List, ap, arith, ◌∙◌, ◌-◌, ◌+◌}
+use Rattle.std.proofs.Common.{List, ap, arith, ◌∙◌, ◌-◌, ◌+◌}
 use Rattle.sg_units.specs.declared.registrations.Registration.{Registration}
 use Rattle.sg_changes.specs.Format.{many_at}
 use Rattle.sg_changes.specs.ReservationFormat.{registration}

@@ -1,4 +1,4 @@
-use Rattle.std.proofs.Common.{◌≡◌, List, ℕ, ◌∙◌, ap}
+use Rattle.std.proofs.Common.{List, ℕ, ◌∙◌, ap}
 use Rattle.sg_changes.specs.Borrowed.{change_of}
 use Rattle.sg_changes.specs.Replay.{replayed}
 use Rattle.sg_changes.proofs.ReplayLemmas.{replayed_push}

@@ -1,4 +1,4 @@
-use Rattle.std.proofs.Common.{◌≡◌, ◌≢◌, ◌<◌, ◌≤◌, ◌+◌, length, arith, rules}
+use Rattle.std.proofs.Common.{◌≡◌, ◌≢◌, length, arith, rules}
 use Rattle.sg_changes.proofs.ReplayLemmas.{applied_shorter, so_far_all, so_far_damaged, so_far_first}
 use Rattle.sg_changes.proofs.ReplayLemmas.{so_far_next, so_far_none, so_far_within}
 use Rattle.sg_changes.proofs.parts.KeptParts.replay.Goals as goal
@@ -16,7 +16,7 @@ pub returns-in_default-clause-damaged : goal.returns-in_default-clause-damaged
 returns-in_default-clause-damaged g c =
     let some : length c.loop-rest.rest.now ≢ 0 = search rules in
     let within = so_far_within c.args.batch.now c.loop-rest.rest.now c.args.self.now c.loop-rest.self
-        c.loop-rest.invariant in
+    c.loop-rest.invariant in
     so_far_damaged c.args.batch.now c.loop-rest.rest.now c.args.self.now c.loop-rest.self _ some (omega arith)
     c.in_default.ensures c.loop-rest.invariant
 

@@ -1,4 +1,4 @@
-use Rattle.std.proofs.Common.{◌≡◌, length}
+use Rattle.std.proofs.Common.{length}
 use Rattle.sg_changes.proofs.ReplayLemmas.{SoFar}
 use Rattle.sg_changes.proofs.parts.KeptParts.replay.Given as goal
 

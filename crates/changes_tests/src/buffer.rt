@@ -1,0 +1,54 @@
+// A sink in memory.
+use sg_changes::Sink;
+use std::marker::Model;
+
+/// Takes up to 1,024 bytes.
+#[derive(Drop)]
+pub struct Buffer {
+    bytes: [u8; 1024],
+    length: usize,
+}
+
+impl Model for Buffer {
+    ghost use Rattle.std.specs.Prelude.{◌≡◌, ◌≤◌, ℕ, List, length, take};
+
+    ghost Value = { List ℕ };
+
+    ghost view = { λ b. take b.length b.bytes };
+
+    ghost invariant = { λ b. (b.length ≤ 1024) × (length b.bytes ≡ 1024) };
+}
+
+ghost use Rattle.std.specs.Prelude.{◌≡◌, [], length};
+
+impl Buffer {
+    pub fn new() -> Buffer
+        ensures { result ≡ [] }
+    {
+        Buffer {
+            bytes: [0; 1024],
+            length: 0,
+        }
+    }
+
+    /// The bytes that it has taken.
+    pub fn as_slice(&self) -> &[u8]
+        ensures { result.now ≡ self.now }
+    {
+        &self.bytes[..self.length]
+    }
+}
+
+impl Sink for Buffer {
+    ghost use Rattle.std.specs.Prelude.{◌-◌, length};
+
+    ghost contents = { λ b. b };
+
+    ghost room = { λ b. 1024 - length b };
+
+    fn push(&mut self, bytes: &[u8]) {
+        let end = self.length + bytes.len();
+        self.bytes[self.length..end].copy_from_slice(bytes);
+        self.length = end;
+    }
+}
