@@ -10,7 +10,11 @@ use std::test::*;
 #[test]
 fn a_range(rt: HostRuntime) {
     let mut buffer = Buffer::new();
-    Change::Unmap { lba: 0x0102_0304_0506_0708, count: 9 }.write(&mut buffer);
+    Change::Unmap {
+        lba: 0x0102_0304_0506_0708,
+        count: 9,
+    }
+    .write(&mut buffer);
     let bytes = [3, 1, 2, 3, 4, 5, 6, 7, 8, 0, 0, 0, 0, 0, 0, 0, 9];
     assert_eq!(rt; buffer.as_slice(), bytes.as_slice());
 }
@@ -18,7 +22,10 @@ fn a_range(rt: HostRuntime) {
 #[test]
 fn an_extent_and_a_capacity(rt: HostRuntime) {
     let mut buffer = Buffer::new();
-    let extent = Extent { lba: 16, count: 258 };
+    let extent = Extent {
+        lba: 16,
+        count: 258,
+    };
     Change::Anchor { extent }.write(&mut buffer);
     Change::Grow { capacity: 4096 }.write(&mut buffer);
     let bytes = [
@@ -52,9 +59,18 @@ fn a_first_record(rt: HostRuntime) -> Result<(), Fail> {
     let mut buffer = Buffer::new();
     disk.write(&mut buffer);
     assert_eq!(rt; buffer.as_slice().len(), NewDisk::RECORD_LENGTH);
-    assert_eq!(rt; &buffer.as_slice()[..13], [9, 0, 0, 0, 0, 0, 0, 16, 0, 0, 0, 0, 4].as_slice());
-    assert_eq!(rt; &buffer.as_slice()[13..41], b"SGMODEL THIN DISK       0100".as_slice());
-    assert_eq!(rt; &buffer.as_slice()[41..], b"00000001\0\0\0\0\0\0\0\x01\0\0".as_slice());
+    assert_eq!(rt;
+        &buffer.as_slice()[..13],
+        [9, 0, 0, 0, 0, 0, 0, 16, 0, 0, 0, 0, 4].as_slice()
+    );
+    assert_eq!(rt;
+        &buffer.as_slice()[13..41],
+        b"SGMODEL THIN DISK       0100".as_slice()
+    );
+    assert_eq!(rt;
+        &buffer.as_slice()[41..],
+        b"00000001\0\0\0\0\0\0\0\x01\0\0".as_slice()
+    );
     let read = NewDisk::read(buffer.as_slice()).ok_or("it is a first record")?;
     assert_eq!(rt; read.0.capacity(), 4096);
     assert_eq!(rt; read.0.pool(), 4);

@@ -13,9 +13,16 @@ fn blocks_are_there_again(rt: HostRuntime) -> Result<(), Fail> {
     let mut parts = KeptParts::<PlainMap>::new(rt.alloc(), &disk)?;
     let mut buffer = Buffer::new();
     let extent = Extent { lba: 3, count: 1 };
-    Change::Write { extent, blocks: &[0xAB; 512] }.write(&mut buffer);
+    Change::Write {
+        extent,
+        blocks: &[0xAB; 512],
+    }
+    .write(&mut buffer);
     Change::Grow { capacity: 32 }.write(&mut buffer);
-    Change::Anchor { extent: Extent { lba: 31, count: 1 } }.write(&mut buffer);
+    Change::Anchor {
+        extent: Extent { lba: 31, count: 1 },
+    }
+    .write(&mut buffer);
     assert_eq!(rt; parts.replay(buffer.as_slice()), Ok(()));
     let mut block = [0; 512];
     parts.store.restart_counts();
@@ -37,7 +44,10 @@ fn damage_is_found_at_its_record(rt: HostRuntime) -> Result<(), Fail> {
     ];
     assert_eq!(rt; parts.replay(&bytes), Err(Damaged { record: 13 }));
     // A disk does not shrink, a tag has to be known, a record has to be whole.
-    assert_eq!(rt; parts.replay(&[8, 0, 0, 0, 0, 0, 0, 0, 15]), Err(Damaged { record: 0 }));
+    assert_eq!(rt;
+        parts.replay(&[8, 0, 0, 0, 0, 0, 0, 0, 15]),
+        Err(Damaged { record: 0 })
+    );
     assert_eq!(rt; parts.replay(&[9]), Err(Damaged { record: 0 }));
     assert_eq!(rt; parts.replay(&[8, 0]), Err(Damaged { record: 0 }));
     // The pool has two blocks.

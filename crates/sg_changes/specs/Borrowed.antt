@@ -2,7 +2,8 @@
 use Rattle.std.specs.Prelude.{◌≡◌, ◌+◌, ◌*◌, ℕ, length}
 use Rattle.sg_store.specs.Disk.{block_length}
 use Rattle.sg_changes.specs.Change.{Change, persistent_of}
-use Rattle.sg_changes.specs.Change.Change.{Write, Fill, Unmap, Anchor, Pages, Reservations, Faults, Grow}
+use Rattle.sg_changes.specs.Change.Change.{Write, Fill, Unmap, Anchor, Grow}
+use Rattle.sg_changes.specs.Change.Change.{Pages, Reservations, Faults}
 use Rattle.sg_changes.specs.declared.change.Change.{Change as Borrowed}
 use Rattle.sg_changes.specs.declared.change.Change.TheVariants as borrowed
 

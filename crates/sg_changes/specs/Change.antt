@@ -54,8 +54,8 @@ has_range disk lba count = nat_le (lba + count) disk.capacity
 abbrev pub within_pool : Disk → Option Disk
 within_pool disk = if nat_lt disk.pool (len disk.contents) then None else Some disk
 
--- None if an address is past the capacity, if the pool has too few blocks, or if there are fewer or more
--- bytes than the blocks have.
+-- None if an address is past the capacity, if the pool has too few blocks, or if there are fewer or
+-- more bytes than the blocks have.
 abbrev pub written : Disk → Extent → (blocks : List ℕ) → Option Disk
 written disk extent blocks =
     if has_range disk extent.lba extent.count && length blocks == block_length * extent.count

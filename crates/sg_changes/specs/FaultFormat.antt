@@ -82,8 +82,8 @@ bad_blocks =
     (λ (b : BadBlocks). Some (b.extent, b.healed_by_writes))
     (pair extent flag)
 
--- For each initiator, whether the fault meets its commands 1. The operation code 1, if any. The bad blocks,
--- if any. SKIP 2. TIMES 2, if there is a limit. What the fault does.
+-- For each initiator, whether the fault meets its commands 1. The operation code 1, if any. The bad
+-- blocks, if any. SKIP 2. TIMES 2, if there is a limit. What the fault does.
 unfoldable pub fault : Format Fault
 fault =
     coded

@@ -50,8 +50,8 @@ profile_code Extended = 1
 unfoldable pub profile : Format Profile
 profile = coded profile_of (λ p. Some (profile_code p)) (number 1)
 
--- VENDOR 8, PRODUCT 16, REVISION 4, SERIAL NUMBER 8, LOCAL IDENTIFIER 8, PROFILE 1, and whether the disk takes
--- too little data-out 1.
+-- VENDOR 8, PRODUCT 16, REVISION 4, SERIAL NUMBER 8, LOCAL IDENTIFIER 8, PROFILE 1, and whether the
+-- disk takes too little data-out 1.
 unfoldable pub identity : Format IdentityFields
 identity =
     only is_identity

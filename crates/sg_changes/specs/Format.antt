@@ -1,8 +1,9 @@
--- How values are written as bytes, and how they are read from the front of bytes. A format has no second
--- spelling: it reads exactly what it writes. A law below says so of each.
+-- How values are written as bytes, and how they are read from the front of bytes. A format has no
+-- second spelling: it reads exactly what it writes (`IsExact`).
 use Rattle.std.specs.List.{flat_map, list_all}
 use Rattle.std.specs.Option.{option_map_or}
-use Rattle.std.specs.Prelude.{◌≡◌, ◌<◌, ◌≤◌, ℕ, zero, suc, ◌^◌, ◌==◌, Bool, true, false, ◌&&◌, nat_le, nat_lt, List, [], ◌∷◌, ◌++◌}
+use Rattle.std.specs.Prelude.{◌≡◌, ◌<◌, ◌≤◌, ℕ, zero, suc, ◌^◌, ◌==◌, Bool, true, false, ◌&&◌}
+use Rattle.std.specs.Prelude.{nat_le, nat_lt, List, [], ◌∷◌, ◌++◌}
 use Rattle.std.specs.Prelude.{length, take, drop, slice_index, Option, Some, None, if◌then◌else◌}
 use Rattle.byteorder.specs.Endian.{big_bytes, big_number}
 
@@ -127,8 +128,8 @@ many count format = record {
   is_possible = λ xs. (length xs == count) && list_all format.is_possible xs;
 }
 
--- Values, one after another, and before them their number in one byte. There are at most `most`, and `most`
--- is below 256.
+-- Values, one after another, and before them their number in one byte. There are at most `most`,
+-- and `most` is below 256.
 unfoldable pub counted_at : {X : Type 0} → (most : ℕ) → Format X → List ℕ → Option (List X × List ℕ)
 counted_at most format bytes = do
   count ← number_at 1 bytes

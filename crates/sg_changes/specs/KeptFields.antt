@@ -15,14 +15,14 @@ pub record KeptFields : Type 0 where
   pub disk : Disk
   -- The saved values of the mode pages (SPC-4, 7.5).
   pub saved : PageValues
-  -- Registrations and reservation if they persist through a power loss, and otherwise none. PRGENERATION
-  -- is 0 (SPC-4, 5.13).
+  -- Registrations and reservation if they persist through a power loss, and otherwise none.
+  -- PRGENERATION is 0 (SPC-4, 5.13).
   pub reservations : ReservationState
   -- The faults that are armed.
   pub faults : Faults
 
--- A new disk. No block is mapped, the mode pages have their default values, no initiator is registered,
--- and no fault is armed.
+-- A new disk. No block is mapped, the mode pages have their default values, no initiator is
+-- registered, and no fault is armed.
 abbrev pub blank : (capacity pool : ℕ) → IdentityFields → KeptFields
 blank capacity pool identity = record {
   identity = identity;

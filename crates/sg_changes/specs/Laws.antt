@@ -11,7 +11,8 @@ use Rattle.sg_changes.specs.KeptFields.{KeptFields}
 use Rattle.sg_changes.specs.Records.{change, is_possible, record_of}
 use Rattle.sg_changes.specs.Replay.{replayed}
 
--- A record is read as the change that it was written for, whatever follows it, and nothing else is read.
+-- A record is read as the change that it was written for, whatever follows it, and nothing else is
+-- read.
 abbrev pub RecordsAreExact : Type 0
 RecordsAreExact = IsExact change
 
@@ -31,8 +32,8 @@ pub record RecordsAreReplayed : Type 0 where
   pub joined : (first second : List ℕ) (before after : KeptFields) → replayed first before ≡ Some after
       → replayed (first ++ second) before ≡ replayed second after
 
--- A disk has at most 2^40 addresses. No more of them have a block of the pool than the pool has blocks. Each
--- that has one is below the capacity, and its data is a whole block.
+-- A disk has at most 2^40 addresses. No more of them have a block of the pool than the pool has
+-- blocks. Each that has one is below the capacity, and its data is a whole block.
 pub record IsSoundDisk (disk : Disk) : Type 0 where
   pub capacity : disk.capacity ≤ max_capacity
   pub pool : len disk.contents ≤ disk.pool

@@ -6,10 +6,9 @@ pub mod ExtentFormat
 pub mod ReservationFormat
 pub mod FaultFormat
 pub mod Records
-pub mod Borrowed
 pub mod Replay
 pub mod FirstRecord
-pub mod Laws
--- A module that only private contracts cite.
+pub mod Borrowed
 pub mod Reading
 pub mod Writing
+pub mod Laws

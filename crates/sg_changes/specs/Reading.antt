@@ -14,6 +14,7 @@ Gives view None read = read ≡ None
 abbrev pub applied_to : KeptFields → Option (Change × List ℕ) → Option (KeptFields × List ℕ)
 applied_to kept read = read >>= λ r. applied kept r.0 >>= λ after. Some (after, r.1)
 
--- The registrations and the reservation that are restored of what was read, and the bytes after that.
+-- The registrations and the reservation that are restored of what was read, and the bytes after
+-- that.
 abbrev pub restored_to : Option (Option Persistent × List ℕ) → Option (ReservationState × List ℕ)
 restored_to read = read >>= λ r. restored r.0 >>= λ state. Some (state, r.1)

@@ -4,7 +4,8 @@ use Rattle.sg_pages.specs.declared.mode_pages.mode_page.PageValues.{PageValues}
 use Rattle.sg_store.specs.Disk.{block_length}
 use Rattle.sg_wire.specs.declared.extent.Extent.{Extent}
 use Rattle.sg_changes.specs.Change.{Change}
-use Rattle.sg_changes.specs.Change.Change.{Write, Fill, Unmap, Anchor, Pages, Reservations, Faults, Grow}
+use Rattle.sg_changes.specs.Change.Change.{Write, Fill, Unmap, Anchor, Grow}
+use Rattle.sg_changes.specs.Change.Change.{Pages, Reservations, Faults}
 use Rattle.sg_changes.specs.Format.{Format, number, plain, before, pair, coded, made, tagged}
 use Rattle.sg_changes.specs.ExtentFormat.{extent}
 use Rattle.sg_changes.specs.FaultFormat.{faults}
@@ -28,7 +29,12 @@ range = pair (number 8) (number 8)
 unfoldable pub pages : Format PageValues
 pages =
     coded
-    (λ p. Some (record { error_recovery = p.0; caching = p.1.0; control = p.1.1.0; exceptions_control = p.1.1.1 }))
+    (λ p. Some (record {
+      error_recovery = p.0;
+      caching = p.1.0;
+      control = p.1.1.0;
+      exceptions_control = p.1.1.1;
+    }))
     (λ (v : PageValues). Some (v.error_recovery, (v.caching, (v.control, v.exceptions_control))))
     (pair (plain 10) (pair (plain 18) (pair (plain 10) (plain 10))))
 

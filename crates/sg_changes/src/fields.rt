@@ -1,4 +1,5 @@
-// Fields at the front of bytes. Each function returns a field's value, and the bytes after the field.
+// Fields at the front of bytes. Each function returns a field's value, and the bytes after the
+// field.
 ghost use Rattle.std.specs.Prelude.{◌≡◌};
 ghost use Rattle.sg_changes.specs.ExtentFormat.{extent};
 ghost use Rattle.sg_changes.specs.Format.{bytes_at, flag, number_at};

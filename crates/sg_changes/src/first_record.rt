@@ -8,7 +8,8 @@ use sg_store::MAX_CAPACITY;
 use sg_wire::Profile;
 use std::marker::Model;
 
-/// A disk as it is made: its number of addresses, the number of blocks of its pool, and its identity.
+/// A disk as it is made: its number of addresses, the number of blocks of its pool, and its
+/// identity.
 #[derive(Clone, Copy)]
 pub struct NewDisk {
     capacity: u64,
@@ -42,8 +43,9 @@ impl NewDisk {
     /// The length of a first record, in bytes.
     pub const RECORD_LENGTH: usize = 59;
 
-    /// A disk of `capacity` addresses, at most `pool` of which have a block of the pool at once. None if the
-    /// capacity is not 1 to 2^40, or if the profile of the identity does not allow the pool.
+    /// A disk of `capacity` addresses, at most `pool` of which have a block of the pool at once.
+    /// None if the capacity is not 1 to 2^40, or if the profile of the identity does not allow the
+    /// pool.
     pub fn new(capacity: u64, pool: u32, identity: Identity) -> Option<NewDisk>
         ensures { result ≡ passing is_new_disk
             (record { capacity = capacity; pool = pool; identity = identity }) }
@@ -84,7 +86,8 @@ impl NewDisk {
         &self.identity
     }
 
-    /// Reads the first record of a file, and returns the bytes after it. None if it is no first record.
+    /// Reads the first record of a file, and returns the bytes after it. None if it is no first
+    /// record.
     #[tactic(auto, unfolding(crate::specs::FirstRecord::disk_with_tag, crate::specs::FirstRecord::new_disk))]
     pub fn read(bytes: &[u8]) -> Option<(NewDisk, &[u8])>
         ensures { Gives (λ f. (f.0, f.1.now)) result (first_record.at bytes.now) }

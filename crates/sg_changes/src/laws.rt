@@ -2,8 +2,8 @@
 ghost use Rattle.sg_changes.specs.Laws.{FirstRecordsAreExact, KeptStaysSound, RecordsAreExact};
 ghost use Rattle.sg_changes.specs.Laws.{RecordsAreReplayed};
 
-/// A record is read as the change that it was written for, whatever follows it. Bytes that are read as a
-/// change are its record, so that no change has a second spelling.
+/// A record is read as the change that it was written for, whatever follows it. Bytes that are read
+/// as a change are its record, so that no change has a second spelling.
 pub fn records_are_exact()
     ensures { RecordsAreExact }
 {}
@@ -13,14 +13,14 @@ pub fn first_records_are_exact()
     ensures { FirstRecordsAreExact }
 {}
 
-/// Replaying the records of changes applies the changes, one after another. One more record applies one
-/// more change to what the records before it left.
+/// Replaying the records of changes applies the changes, one after another. One more record applies
+/// one more change to what the records before it left.
 pub fn records_are_replayed()
     ensures { RecordsAreReplayed }
 {}
 
-/// Whatever records say, what is kept after them keeps the limits of a disk, as what is kept of a new disk
-/// does.
+/// Whatever records say, what is kept after them keeps the limits of a disk, as what is kept of a
+/// new disk does.
 pub fn kept_stays_sound()
     ensures { KeptStaysSound }
 {}

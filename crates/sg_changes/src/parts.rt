@@ -181,8 +181,8 @@ impl<S: Store> KeptParts<S> {
 }
 
 impl<S: Store> KeptParts<S> {
-    /// The parts of a new disk. No block is mapped, the mode pages have their default values, no initiator is
-    /// registered, and no fault is armed. All memory is taken here.
+    /// The parts of a new disk. No block is mapped, the mode pages have their default values, no
+    /// initiator is registered, and no fault is armed. All memory is taken here.
     ///
     /// # Errors
     /// Memory was refused.
@@ -201,8 +201,8 @@ impl<S: Store> KeptParts<S> {
         })
     }
 
-    /// Applies the records of a batch, one after another. Blocks go from the batch to the store, and no
-    /// memory is taken.
+    /// Applies the records of a batch, one after another. Blocks go from the batch to the store,
+    /// and no memory is taken.
     ///
     /// # Errors
     /// A record cannot be read, or its change does not apply. The records before it are applied.

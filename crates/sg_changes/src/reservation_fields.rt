@@ -1,5 +1,5 @@
-// The fields of registrations and a reservation that persist. Each function returns a field's value, and the
-// bytes after the field.
+// The fields of registrations and a reservation that persist. Each function returns a field's
+// value, and the bytes after the field.
 ghost use Rattle.std.specs.Prelude.{◌≡◌, ◌≤◌};
 ghost use Rattle.sg_units.specs.Registrations.{max_registrations};
 ghost use Rattle.sg_changes.specs.Format.{counted_at, many_at, optional_at};

@@ -26,7 +26,8 @@ module _ (all : List Registration) where
       elim (cases_Bool (is_of i r)) [
         | inl same ↦
             let number : r.initiator ≡ i = eqb-true r.initiator i same in
-            let fits : registrations_of all r.initiator ≤ 1 = leb-true (registrations_of all r.initiator) 1 parts.0 in
+            let fits : registrations_of all r.initiator ≤ 1 =
+            leb-true (registrations_of all r.initiator) 1 parts.0 in
             omega (arith, fits, ap (registrations_of all) number)
         | inr other ↦ registrant rs i parts.1 (cc (other, is))
       ]
@@ -37,7 +38,8 @@ module _ (all : List Registration) where
     | inr absent ↦ omega (arith, registrations_of-none all i absent)
   ]
 
-  each : ((i : ℕ) → registrations_of all i ≤ 1) → (rs : List Registration) → list_all (at-most-one all) rs ≡ true
+  each : ((i : ℕ) → registrations_of all i ≤ 1) → (rs : List Registration)
+      → list_all (at-most-one all) rs ≡ true
   each h [] = refl
   each h (r ∷ rs) =
       both (at-most-one all r) (list_all (at-most-one all) rs)

@@ -1,5 +1,5 @@
--- Registrations and a reservation that persisted through a power loss, and are there again after power on
--- (SPC-4, 5.13, preserving persistent reservations and registrations through power loss).
+-- Registrations and a reservation that persisted through a power loss, and are there again after
+-- power on (SPC-4, 5.13, preserving persistent reservations and registrations through power loss).
 use Rattle.std.specs.Prelude.{Bool, true, ◌&&◌, not, nat_le, if◌then◌else◌}
 use Rattle.std.specs.Prelude.{List, length, Option, Some, None}
 use Rattle.std.specs.List.{list_all}
@@ -22,8 +22,8 @@ are_consistent registrations reservation =
     && (not (has_key registrations 0)
     && (is_held_if_any reservation registrations && names_holder_if_any reservation)))
 
--- The state after power on, in which PRGENERATION is 0. The state persists again. None if registrations and
--- reservation are not consistent.
+-- The state after power on, in which PRGENERATION is 0. The state persists again. None if
+-- registrations and reservation are not consistent.
 abbrev pub restored_state : List Registration → Option Reservation → Option ReservationState
 restored_state registrations reservation =
     if are_consistent registrations reservation

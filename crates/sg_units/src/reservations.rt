@@ -63,10 +63,10 @@ impl Reservations {
         }
     }
 
-    /// The state after power on, with registrations and a reservation that persisted through a power loss.
-    /// PRGENERATION is 0, and the state persists again. None if registrations and reservation are not
-    /// consistent: too many registrations, two of one initiator, one under the key 0, or a reservation
-    /// without the holders that its type asks for.
+    /// The state after power on, with registrations and a reservation that persisted through a power
+    /// loss. PRGENERATION is 0, and the state persists again. None if registrations and reservation
+    /// are not consistent: too many registrations, two of one initiator, one under the key 0, or a
+    /// reservation without the holders that its type asks for.
     pub fn restored(
         registrations: &[Registration],
         reservation: Option<Reservation>,
@@ -252,7 +252,8 @@ impl Reservations {
     }
 }
 
-/// Returns `true` if registrations, of which there is room for as many, and a reservation are consistent.
+/// Returns `true` if registrations, of which there is room for as many, and a reservation are
+/// consistent.
 fn are_consistent(registrations: &Registrations, reservation: &Option<Reservation>) -> bool
     requires { length registrations.now ≤ max_registrations }
     ensures { result ≡ are_consistent registrations.now reservation.now }
