@@ -50,7 +50,8 @@ found_code code n (y ∷ ys) x e = elim (cases_Bool (eqb (code y) n)) [
 pub extent_exact : IsExact extent
 unfolding extent
 extent_exact =
-    renamed_exact (λ p. record { lba = p.0; count = p.1 }) (λ e. (e.lba, e.count)) (pair (number 8) (number 4))
+    renamed_exact (λ p. record { lba = p.0; count = p.1 }) (λ e. (e.lba, e.count))
+    (pair (number 8) (number 4))
     (pair_exact (number 8) (number 4) (number_exact 8) (number_exact 4)) (λ p. refl) (λ e. refl)
 
 -- ---- Registrations and reservation
@@ -98,7 +99,8 @@ reservation-exact =
 persistent-exact : IsExact persistent
 unfolding persistent
 persistent-exact =
-    renamed_exact (λ p. record { registrations = p.0; reservation = p.1 }) (λ s. (s.registrations, s.reservation))
+    renamed_exact (λ p. record { registrations = p.0; reservation = p.1 })
+    (λ s. (s.registrations, s.reservation))
     (pair (counted max_registrations registration) (optional reservation))
     (pair_exact (counted max_registrations registration) (optional reservation)
     (counted_exact registration registration-exact max_registrations (omega arith))

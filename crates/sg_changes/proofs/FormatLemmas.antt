@@ -4,9 +4,11 @@ use Rattle.std.proofs.Common.{List, [], ◌++◌, length, take, drop, Option, So
 use Rattle.std.proofs.Common.{refl, sym, ap, subst, ◌∙◌, arith, append_assoc, length-append, length-drop}
 use Rattle.std.specs.Option.{option_map_or}
 use Rattle.std.proofs.lemmas.Bool.{and_parts, eqb-true, eq-eqb, le-ltb, ltb-false, lt-ltb, ltb-true}
-use Rattle.std.proofs.lemmas.List.{take-append-drop, take-append-le, drop-append-le, get_or-drop, length-take-le, take_at, drop_at}
+use Rattle.std.proofs.lemmas.List.{take-append-drop, take-append-le, drop-append-le, get_or-drop}
+use Rattle.std.proofs.lemmas.List.{length-take-le, take_at, drop_at}
 use Rattle.byteorder.specs.Endian.{big_bytes, big_number}
-use Rattle.byteorder.specs.Numbers.{big_from-append, big_from-lt, big_number-reads_back, length-bytes_high_first}
+use Rattle.byteorder.specs.Numbers.{big_from-append, big_from-lt, big_number-reads_back}
+use Rattle.byteorder.specs.Numbers.{length-bytes_high_first}
 use Rattle.sg_changes.specs.Format.{AreBytes, AreBytesOf, Format, IsExact, ◌>>=◌}
 use Rattle.sg_changes.specs.Format.{number_at, bytes_at, number, plain, before, pair, coded}
 use Rattle.sg_changes.proofs.NumberLemmas.{spelled_number}
@@ -70,7 +72,8 @@ number-spelled size bytes x rest are is = record {
   possible = lt-ltb x (256 ^ size) (subst (λ n. n < 256 ^ size) is.value (big_from-lt 0 size bytes are));
   spelled =
       sym (take-append-drop size bytes)
-      ∙ ap (λ bs. bs ++ drop size bytes) (spelled_number size bytes are is.within ∙ ap (big_bytes size) is.value)
+      ∙ ap (λ bs. bs ++ drop size bytes) (spelled_number size bytes are is.within
+      ∙ ap (big_bytes size) is.value)
       ∙ ap (λ r. big_bytes size x ++ r) is.after;
   rest_bytes = subst AreBytes is.after (dropped_bytes size bytes are);
 }
@@ -85,7 +88,8 @@ number-more size bytes x rest more is =
 pub number_exact : (size : ℕ) → IsExact (number size)
 number_exact size = record {
   reads_back = λ x rest possible. number-again size x rest (ltb-true x (256 ^ size) possible);
-  has_one_spelling = λ bytes x rest are e. number-spelled size bytes x rest are (number-parts size bytes x rest e);
+  has_one_spelling = λ bytes x rest are e. number-spelled size bytes x rest are
+      (number-parts size bytes x rest e);
   ends_within = λ bytes x rest e. let is = number-parts size bytes x rest e in
       omega (arith, ap length is.after, length-drop size bytes);
   ignores_rest = λ bytes x rest more e. number-more size bytes x rest more (number-parts size bytes x rest e);
@@ -123,7 +127,8 @@ bytes-spelled : (n : ℕ) (bytes xs rest : List ℕ) → AreBytes bytes → IsPl
     → AreBytesOf (plain n) bytes xs rest
 bytes-spelled n bytes xs rest are is = record {
   possible = eq-eqb (length xs) n (ap length (sym is.value) ∙ length-take-le n bytes is.within);
-  spelled = sym (take-append-drop n bytes) ∙ ap (λ t. t ++ drop n bytes) is.value ∙ ap (λ r. xs ++ r) is.after;
+  spelled = sym (take-append-drop n bytes) ∙ ap (λ t. t ++ drop n bytes) is.value
+      ∙ ap (λ r. xs ++ r) is.after;
   rest_bytes = subst AreBytes is.after (dropped_bytes n bytes are);
 }
 
@@ -154,7 +159,8 @@ module _ {X Y : Type 0} (first : Format X) (second : X → Format Y) where
     one : first.at bytes ≡ Some (p.0, middle)
     two : (second p.0).at middle ≡ Some (p.1, rest)
 
-  before-parts : (bytes : List ℕ) (p : X × Y) (rest : List ℕ) → (before first second).at bytes ≡ Some (p, rest)
+  before-parts : (bytes : List ℕ) (p : X × Y) (rest : List ℕ)
+      → (before first second).at bytes ≡ Some (p, rest)
       → IsBefore bytes p rest
   before-parts bytes p rest e =
       let a = bind_some (first.at bytes) and-second (p, rest) e in
@@ -199,7 +205,12 @@ module _ {X Y : Type 0} (first : Format X) (second : X → Format Y) where
       reads_back = before-again;
       has_one_spelling = λ bytes p rest are e. before-spelled bytes p rest are (before-parts bytes p rest e);
       ends_within = λ bytes p rest e. let is = before-parts bytes p rest e in
-          omega (arith, one.ends_within bytes p.0 is.middle is.one, (two p.0).ends_within is.middle p.1 rest is.two);
+          omega (
+            arith,
+            one.ends_within bytes p.0 is.middle is.one,
+            (two p.0).ends_within is.middle p.1
+                rest is.two,
+          );
       ignores_rest = λ bytes p rest more e. let is = before-parts bytes p rest e in
           before-is (bytes ++ more) p (rest ++ more) (record {
             middle = is.middle ++ more;
@@ -231,7 +242,8 @@ module _ {X Y : Type 0} (to : X → Option Y) (from : Y → Option X) (format : 
       let a = bind_some (format.at bytes) and-coded (y, rest) e in
       let b = bind_some (to a.0.0) (λ y. Some (y, a.0.1)) (y, rest) a.2 in
       let same : (b.0, a.0.1) ≡ (y, rest) = pair_parts (b.0, a.0.1) (y, rest) b.2 in
-      subst (λ (q : Y × List ℕ). IsCoded bytes q.0 q.1) same (record { code = a.0.0; read = a.1; means = b.1 })
+      subst (λ (q : Y × List ℕ). IsCoded bytes q.0 q.1) same
+      (record { code = a.0.0; read = a.1; means = b.1 })
 
   coded-is : (bytes : List ℕ) (y : Y) (rest : List ℕ) → IsCoded bytes y rest
       → (coded to from format).at bytes ≡ Some (y, rest)

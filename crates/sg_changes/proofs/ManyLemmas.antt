@@ -19,9 +19,11 @@ passing-back test x y e =
     let p = cond_some (test x) x y e in
     subst (λ z. passing test z ≡ Some x) p.1 (ap (λ b. cond b (Some x) None) p.0)
 
-pub only_exact : {X : Type 0} (test : X → Bool) (format : Format X) → IsExact format → IsExact (only test format)
+pub only_exact : {X : Type 0} (test : X → Bool) (format : Format X) → IsExact format
+    → IsExact (only test format)
 only_exact test format exact =
-    coded_exact (passing test) (passing test) format exact (passing-back test) (λ x y e. passing-back test y x e)
+    coded_exact (passing test) (passing test) format exact (passing-back test)
+    (λ x y e. passing-back test y x e)
 
 pub number_below_exact : (limit : ℕ) → IsExact (number_below limit)
 number_below_exact limit = only_exact (λ n. ltb n limit) (number 1) (number_exact 1)
@@ -117,10 +119,12 @@ module _ {X : Type 0} (format : Format X) where
     pub optional_exact : IsExact (optional format)
     optional_exact = record {
       reads_back = optional-again;
-      has_one_spelling = λ bytes o rest are e. optional-spelled bytes o rest are (optional-parts bytes o rest e);
+      has_one_spelling = λ bytes o rest are e. optional-spelled bytes o rest are
+          (optional-parts bytes o rest e);
       ends_within = λ bytes o rest e. optional-within bytes o rest (optional-parts bytes o rest e);
       ignores_rest = λ bytes o rest more e.
-          optional-is (bytes ++ more) o (rest ++ more) (optional-more bytes o rest more (optional-parts bytes o rest e));
+          optional-is (bytes ++ more) o (rest ++ more)
+          (optional-more bytes o rest more (optional-parts bytes o rest e));
     }
 
 -- ---- Several values
@@ -211,7 +215,8 @@ module _ {X : Type 0} (format : Format X) where
         omega (arith, a, b))
 
     many-more : (n : ℕ) (bytes : List ℕ) (xs : List X) (rest more : List ℕ)
-        → many_at format n bytes ≡ Some (xs, rest) → many_at format n (bytes ++ more) ≡ Some (xs, rest ++ more)
+        → many_at format n bytes ≡ Some (xs, rest)
+        → many_at format n (bytes ++ more) ≡ Some (xs, rest ++ more)
     unfolding many_at
     many-more zero bytes xs rest more e =
         none-parts (λ ys r. many_at format zero (bytes ++ more) ≡ Some (ys, r ++ more)) bytes xs rest e refl
@@ -234,7 +239,8 @@ module _ {X : Type 0} (format : Format X) where
     many_exact n = record {
       reads_back = many-counted n;
       has_one_spelling = λ bytes xs rest are e. let is = many-spelled n bytes xs rest are e in record {
-        possible = both_true (eqb (length xs) n) (list_all format.is_possible xs) (eq-eqb (length xs) n is.count)
+        possible = both_true (eqb (length xs) n) (list_all format.is_possible xs)
+            (eq-eqb (length xs) n is.count)
             is.possible;
         spelled = is.spelled;
         rest_bytes = is.rest_bytes;
@@ -256,7 +262,8 @@ module _ {X : Type 0} (format : Format X) where
       abbrev and-many : ℕ × List ℕ → Option (List X × List ℕ)
       and-many n = cond (leb n.0 most) (many_at format n.0 n.1) None
 
-      if-some : {A : Type 0} (b : Bool) (o : Option A) (y : A) → cond b o None ≡ Some y → (b ≡ true) × (o ≡ Some y)
+      if-some : {A : Type 0} (b : Bool) (o : Option A) (y : A) → cond b o None ≡ Some y → (b ≡ true)
+          × (o ≡ Some y)
       if-some true o y e = (refl, e)
       if-some false o y e = absurd cc
 
@@ -285,7 +292,8 @@ module _ {X : Type 0} (format : Format X) where
           ∙ counted-is (big_bytes 1 (length xs) ++ behind) xs rest (record {
             count = length xs;
             middle = behind;
-            number_read = (number_exact 1).reads_back (length xs) behind (lt-ltb (length xs) 256 (omega arith));
+            number_read = (number_exact 1).reads_back (length xs) behind
+                (lt-ltb (length xs) 256 (omega arith));
             within = parts.0;
             read = many-again xs rest parts.1;
           })
@@ -307,7 +315,8 @@ module _ {X : Type 0} (format : Format X) where
       pub counted_exact : IsExact (counted most format)
       counted_exact = record {
         reads_back = counted-again;
-        has_one_spelling = λ bytes xs rest are e. counted-spelled bytes xs rest are (counted-parts bytes xs rest e);
+        has_one_spelling = λ bytes xs rest are e. counted-spelled bytes xs rest are
+            (counted-parts bytes xs rest e);
         ends_within = λ bytes xs rest e. let is = counted-parts bytes xs rest e in
             let a = (number_exact 1).ends_within bytes is.count is.middle is.number_read in
             omega (arith, a, many-within is.count is.middle xs rest is.read);

@@ -45,7 +45,8 @@ same_number (suc size) (x ∷ xs) (y ∷ ys) a b are also e =
     let high : x ≡ y =
     sym (div-mul-add x (256 ^ size) (big_number size xs) low) ∙ ap (λ n. n / 256 ^ size) parts
     ∙ div-mul-add y (256 ^ size) (big_number size ys) low2 in
-    let rest : big_number size xs ≡ big_number size ys = omega (arith, parts, ap (λ n. n * 256 ^ size) high) in
+    let rest : big_number size xs ≡ big_number size ys = omega
+    (arith, parts, ap (λ n. n * 256 ^ size) high) in
     ap (λ b. b ∷ xs) high
     ∙ ap (λ bs. y ∷ bs) (same_number size xs ys (omega arith) (omega arith) (rest_are_bytes x xs are)
     (rest_are_bytes y ys also) rest)

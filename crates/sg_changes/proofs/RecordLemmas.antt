@@ -17,7 +17,8 @@ use Rattle.sg_changes.proofs.TagLemmas.{IsRow, chosen, tagged_exact, tagged_shor
 write-exact : IsExact write
 unfolding write
 write-exact =
-    before_exact extent (λ e. plain (block_length * e.count)) extent_exact (λ e. plain_exact (block_length * e.count))
+    before_exact extent (λ e. plain (block_length * e.count)) extent_exact
+    (λ e. plain_exact (block_length * e.count))
 
 fill-exact : IsExact fill
 unfolding fill
@@ -64,7 +65,13 @@ pages-row = record { exact = pages-exact; spelled = λ x. refl; possible = λ x.
 
 reservations-row : Row reservations (Reservations) 6
 unfolding fields_at
-reservations-row = record { exact = reservations_exact; spelled = λ x. refl; possible = λ x. refl; read = λ fields. refl }
+reservations-row = record {
+  exact = reservations_exact;
+  spelled = λ x. refl;
+  possible = λ x. refl;
+  read
+      = λ fields. refl;
+}
 
 faults-row : Row faults (Faults) 7
 unfolding fields_at
@@ -80,17 +87,21 @@ row-with-tag : (P : Type 0) (tag : ℕ) (fields : List ℕ) (y : Change) (rest :
 unfolding fields_at
 row-with-tag P tag fields y rest e then =
     chosen P tag 1 _ _ (y, rest) e
-    (λ same. then _ write (λ f. Write f.0 f.1) (subst (Row write (λ f. Write f.0 f.1)) (sym same) write-row)) (λ e2.
+    (λ same. then _ write (λ f. Write f.0 f.1)
+    (subst (Row write (λ f. Write f.0 f.1)) (sym same) write-row)) (λ e2.
     chosen P tag 2 _ _ (y, rest) e2
-    (λ same. then _ fill (λ f. Fill f.0 f.1) (subst (Row fill (λ f. Fill f.0 f.1)) (sym same) fill-row)) (λ e3.
+    (λ same. then _ fill (λ f. Fill f.0 f.1) (subst (Row fill (λ f. Fill f.0 f.1)) (sym same) fill-row))
+    (λ e3.
     chosen P tag 3 _ _ (y, rest) e3
-    (λ same. then _ range (λ f. Unmap f.0 f.1) (subst (Row range (λ f. Unmap f.0 f.1)) (sym same) unmap-row)) (λ e4.
+    (λ same. then _ range (λ f. Unmap f.0 f.1)
+    (subst (Row range (λ f. Unmap f.0 f.1)) (sym same) unmap-row)) (λ e4.
     chosen P tag 4 _ _ (y, rest) e4
     (λ same. then _ extent (Anchor) (subst (Row extent (Anchor)) (sym same) anchor-row)) (λ e5.
     chosen P tag 5 _ _ (y, rest) e5
     (λ same. then _ pages (Pages) (subst (Row pages (Pages)) (sym same) pages-row)) (λ e6.
     chosen P tag 6 _ _ (y, rest) e6
-    (λ same. then _ reservations (Reservations) (subst (Row reservations (Reservations)) (sym same) reservations-row)) (λ e7.
+    (λ same. then _ reservations (Reservations)
+    (subst (Row reservations (Reservations)) (sym same) reservations-row)) (λ e7.
     chosen P tag 7 _ _ (y, rest) e7
     (λ same. then _ faults (Faults) (subst (Row faults (Faults)) (sym same) faults-row)) (λ e8.
     chosen P tag 8 _ _ (y, rest) e8
@@ -105,7 +116,8 @@ row-of P (Fill e block) then = then _ fill (λ f. Fill f.0 f.1) 2 fill-row (e, b
 row-of P (Unmap lba count) then = then _ range (λ f. Unmap f.0 f.1) 3 unmap-row (lba, count) refl
 row-of P (Anchor e) then = then _ extent (Anchor) 4 anchor-row e refl
 row-of P (Pages saved) then = then _ pages (Pages) 5 pages-row saved refl
-row-of P (Reservations persistent) then = then _ reservations (Reservations) 6 reservations-row persistent refl
+row-of P (Reservations persistent) then = then _ reservations (Reservations) 6 reservations-row
+    persistent refl
 row-of P (Faults slots) then = then _ faults (Faults) 7 faults-row slots refl
 row-of P (Grow blocks) then = then _ capacity (Grow) 8 grow-row blocks refl
 

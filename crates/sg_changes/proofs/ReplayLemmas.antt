@@ -1,6 +1,7 @@
 -- What records leave, one after another.
 use Rattle.std.proofs.Common.{◌≡◌, ◌≢◌, ℕ, zero, suc, ◌≤◌, ◌<◌, true, List, [], ◌∷◌, ◌++◌, length}
-use Rattle.std.proofs.Common.{Option, Some, None, refl, sym, ap, ◌∙◌, arith, append_assoc, ◌+◌, take, drop, length-append, subst}
+use Rattle.std.proofs.Common.{Option, Some, None, refl, sym, ap, ◌∙◌, arith, append_assoc, ◌+◌, take}
+use Rattle.std.proofs.Common.{drop, length-append, subst}
 use Rattle.std.specs.List.{flat_map, list_all}
 use Rattle.std.specs.Prelude.{option_and_then}
 use Rattle.std.proofs.lemmas.Bool.{and_parts}
@@ -63,7 +64,8 @@ applied-record : (change : Change) (old : KeptFields) (rest : List ℕ) → is_p
     → applied_at (record_of change ++ rest) old ≡ (applied old change >>= λ new. Some (new, rest))
 unfolding applied_at
 applied-record change old rest possible =
-    ap (λ (r : Option (Change × List ℕ)). r >>= and-applied old) (change_exact.reads_back change rest possible)
+    ap (λ (r : Option (Change × List ℕ)). r >>= and-applied old)
+    (change_exact.reads_back change rest possible)
 
 applied-none : (old : KeptFields) → applied_at [] old ≡ None
 unfolding applied_at
@@ -98,7 +100,8 @@ replayed-step : (x : ℕ) (bytes : List ℕ) (kept : KeptFields)
     → replayed (x ∷ bytes) kept ≡ (applied_at (x ∷ bytes) kept >>= λ r. replayed r.1 r.0)
 unfolding replayed
 replayed-step x bytes kept =
-    same-then (and-replayed (length bytes)) (λ r. replayed_by (length r.1) r.1 r.0) (applied_at (x ∷ bytes) kept)
+    same-then (and-replayed (length bytes)) (λ r. replayed_by (length r.1) r.1 r.0)
+    (applied_at (x ∷ bytes) kept)
     (λ r is. let short = applied_shorter (x ∷ bytes) kept r.0 r.1 is in
     same-limit (length bytes) (length r.1) r.1 r.0 (omega arith) (omega arith))
 
@@ -145,7 +148,8 @@ replayed_append xs ys old mid is = append-by (length xs) xs ys old mid (omega ar
 -- ---- Records of changes
 
 by-applied : (o : Option KeptFields) (bytes rest : List ℕ) (old : KeptFields) → length bytes ≢ 0
-    → applied_at bytes old ≡ (o >>= λ new. Some (new, rest)) → replayed bytes old ≡ (o >>= λ new. replayed rest new)
+    → applied_at bytes old ≡ (o >>= λ new. Some (new, rest))
+    → replayed bytes old ≡ (o >>= λ new. replayed rest new)
 by-applied None bytes rest old some is = step_none bytes old some is
 by-applied (Some new) bytes rest old some is = step_some bytes old new rest is
 
@@ -239,13 +243,15 @@ so_far_damaged bytes rest old now offset some size none so_far =
 pub so_far_none : (bytes rest : List ℕ) (old now : KeptFields) → length rest ≢ 0 → applied_at rest now ≡ None
     → SoFar bytes rest old now → replayed bytes old ≡ None
 so_far_none bytes rest old now some none so_far =
-    ap (λ (bs : List ℕ). replayed bs old) so_far.parts ∙ replayed_append so_far.done rest old now so_far.replays
+    ap (λ (bs : List ℕ). replayed bs old) so_far.parts
+    ∙ replayed_append so_far.done rest old now so_far.replays
     ∙ step_none rest now some none
 
 pub so_far_all : (bytes rest : List ℕ) (old now : KeptFields) → length rest ≡ 0 → SoFar bytes rest old now
     → replayed bytes old ≡ Some now
 so_far_all bytes rest old now none so_far =
-    ap (λ (bs : List ℕ). replayed bs old) so_far.parts ∙ replayed_append so_far.done rest old now so_far.replays
+    ap (λ (bs : List ℕ). replayed bs old) so_far.parts
+    ∙ replayed_append so_far.done rest old now so_far.replays
     ∙ step_end rest now none
 
 pub so_far_within : (bytes rest : List ℕ) (old now : KeptFields) → SoFar bytes rest old now

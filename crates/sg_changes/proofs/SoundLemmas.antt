@@ -11,7 +11,8 @@ use Rattle.std.proofs.lemmas.Bool.{and_parts, eqb-true, leb-true, ltb-false}
 use Rattle.std.proofs.lemmas.List.{length-take-le}
 use Rattle.std.proofs.Math.Nat.{mul-le-mul_left, mul-suc}
 use Rattle.sg_store.specs.Disk.{Contents, Disk, HasBlockLength, Mapping, anchored as anchored_contents}
-use Rattle.sg_store.specs.Disk.{block_at, block_length, lies_in, max_capacity, need, remapped, unmapped as unmapped_contents}
+use Rattle.sg_store.specs.Disk.{block_at, block_length, lies_in, max_capacity, need, remapped}
+use Rattle.sg_store.specs.Disk.{unmapped as unmapped_contents}
 use Rattle.sg_store.specs.Disk.Mapping.{Anchored, Data}
 use Rattle.sg_store.proofs.DiskLemmas.{inside}
 use Rattle.sg_store.proofs.NeedLemmas.{len-needed, need-le, need-next, need-none}
@@ -109,7 +110,8 @@ sound-remapped disk new lba count mapping sound range whole e =
 sound-written : (disk new : Disk) (extent : Extent) (blocks : List ℕ) → IsSoundDisk disk
     → written disk extent blocks ≡ Some new → IsSoundDisk new
 sound-written disk new extent blocks sound e =
-    let a = tested (has_range disk extent.lba extent.count && eqb (length blocks) (block_length * extent.count))
+    let a = tested (has_range disk extent.lba extent.count && eqb (length blocks)
+    (block_length * extent.count))
     _ new e in
     let b = and_parts (has_range disk extent.lba extent.count) _ a.0 in
     sound-remapped disk new extent.lba extent.count (λ i. Data (block_at blocks i)) sound

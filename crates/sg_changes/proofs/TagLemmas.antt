@@ -61,7 +61,8 @@ module _ {Y : Type 0} (bytes : Y → List ℕ) (is_possible : Y → Bool)
         → with_tag tag fields ≡ Some (y, rest)
         → AreBytesOf (tagged bytes is_possible with_tag) (tag ∷ fields) y rest
     spelled-by tag fields y rest are e =
-        row_with_tag (AreBytesOf (tagged bytes is_possible with_tag) (tag ∷ fields) y rest) tag fields y rest e
+        row_with_tag (AreBytesOf (tagged bytes is_possible with_tag) (tag ∷ fields) y rest) tag fields y
+        rest e
         (λ X format make row.
         let p = made_some make (format.at fields) y rest (sym (row.read fields) ∙ e) in
         let a = row.exact.has_one_spelling fields p.0 rest (rest_are_bytes tag fields are) p.1 in

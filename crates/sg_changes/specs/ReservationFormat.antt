@@ -38,5 +38,5 @@ persistent =
     (λ (s : Persistent). Some (s.registrations, s.reservation))
     (pair (counted max_registrations registration) (optional reservation))
 
-unfoldable pub reservations : Format (Option Persistent)
+abbrev pub reservations : Format (Option Persistent)
 reservations = optional persistent

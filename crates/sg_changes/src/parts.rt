@@ -205,7 +205,7 @@ impl<S: Store> KeptParts<S> {
     /// and no memory is taken.
     ///
     /// # Errors
-    /// A record cannot be read, or its change does not apply. The records before it are applied.
+    /// A record cannot be read, or its change does not apply. The parts are of no use then.
     pub fn replay(&mut self, batch: &[u8]) -> Result<(), Damaged>
         ensures ok { OnOk result (replayed batch.now self.old ≡ Some self.new) }
         ensures err { OnErr result (replayed batch.now self.old ≡ None) }

@@ -119,7 +119,7 @@ fn held_reservation_at(bytes: &[u8]) -> Option<(Option<Reservation>, &[u8])>
 }
 
 /// Registrations and a reservation, if they persist. None also if they are not consistent.
-#[tactic(auto, unfolding(crate::specs::ReservationFormat::reservations, crate::specs::ReservationFormat::persistent, crate::specs::Format::optional_at))]
+#[tactic(auto, unfolding(crate::specs::ReservationFormat::persistent, crate::specs::Format::optional_at))]
 pub(crate) fn reservations_at(bytes: &[u8]) -> Option<(Reservations, &[u8])>
     ensures { Gives (λ f. (f.0, f.1.now)) result (restored_to (reservations.at bytes.now)) }
 {

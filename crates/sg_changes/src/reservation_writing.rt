@@ -98,7 +98,7 @@ fn put_held_reservation<S: Sink>(sink: &mut S, held: Option<Reservation>)
 }
 
 /// Registrations and reservation, if they persist through a power loss.
-#[tactic(auto, unfolding(crate::specs::ReservationFormat::reservations, crate::specs::ReservationFormat::persistent))]
+#[tactic(auto, unfolding(crate::specs::ReservationFormat::persistent))]
 pub(crate) fn put_reservations<S: Sink>(sink: &mut S, state: &Reservations)
     requires { 60 ≤ S.room sink.old }
     ensures { Takes S.contents S.room reservations 60 sink.old sink.new (persistent_of state.now) }

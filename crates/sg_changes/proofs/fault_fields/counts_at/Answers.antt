@@ -29,7 +29,8 @@ loop-number-preserved c =
     let size = c.loop-number.invariant.size in
     record {
       read =
-          ap (λ (front : List (Count)). with_front front (many_at count (initiator_count - (i + 1)) c.in-Some.after.now))
+          ap (λ (front : List (Count)). with_front front
+          (many_at count (initiator_count - (i + 1)) c.in-Some.after.now))
           (take_more_set so_far i c.in-Some.count (omega arith))
           ∙ goes_on count (take i so_far) initiator_count i c.loop-number.rest.now c.in-Some.count
           c.in-Some.after.now (many_at count initiator_count c.args.bytes.now) c.loop-number-test.true

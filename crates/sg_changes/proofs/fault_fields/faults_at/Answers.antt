@@ -14,14 +14,19 @@ returns c =
     let so_far = c.loop-number.slots in
     let size = c.loop-number.invariant.size in
     is_done (optional armed_fault) (take i so_far) max_faults i c.loop-number.rest.now
-    (many_at (optional armed_fault) max_faults c.args.bytes.now) c.loop-number-test.false c.loop-number.invariant.read
-    ∙ ap (λ (xs : List (Option ArmedFault)). Some (xs, c.loop-number.rest.now)) (take_all i so_far (omega arith)) ∙ ap (λ (xs : List (Option ArmedFault)). Some (xs, c.loop-number.rest.now)) (sym c.restored.ensures)
+    (many_at (optional armed_fault) max_faults c.args.bytes.now) c.loop-number-test.false
+    c.loop-number.invariant.read
+    ∙ ap (λ (xs : List (Option ArmedFault)). Some (xs, c.loop-number.rest.now))
+    (take_all i so_far (omega arith)) ∙ ap (λ (xs : List (Option ArmedFault)). Some
+    (xs, c.loop-number.rest.now)) (sym c.restored.ensures)
 
 pub returns-in_default : goal.returns-in_default
 unfolding faults
 returns-in_default c =
-    ends (optional armed_fault) (take c.loop-number.number c.loop-number.slots) max_faults c.loop-number.number
-    c.loop-number.rest.now (many_at (optional armed_fault) max_faults c.args.bytes.now) c.loop-number-test.true
+    ends (optional armed_fault) (take c.loop-number.number c.loop-number.slots) max_faults
+    c.loop-number.number
+    c.loop-number.rest.now (many_at (optional armed_fault) max_faults c.args.bytes.now)
+    c.loop-number-test.true
     c.in_default.ensures c.loop-number.invariant.read
 
 pub loop-number-preserved : goal.loop-number-preserved
@@ -31,10 +36,12 @@ loop-number-preserved c =
     let size = c.loop-number.invariant.size in
     record {
       read =
-          ap (λ (front : List (Option ArmedFault)). with_front front (many_at (optional armed_fault) (max_faults - (i + 1)) c.in-Some.after.now))
+          ap (λ (front : List (Option ArmedFault)). with_front front
+          (many_at (optional armed_fault) (max_faults - (i + 1)) c.in-Some.after.now))
           (take_more_set so_far i c.in-Some.slot (omega arith))
           ∙ goes_on (optional armed_fault) (take i so_far) max_faults i c.loop-number.rest.now c.in-Some.slot
-          c.in-Some.after.now (many_at (optional armed_fault) max_faults c.args.bytes.now) c.loop-number-test.true
+          c.in-Some.after.now (many_at (optional armed_fault) max_faults c.args.bytes.now)
+          c.loop-number-test.true
           c.in-Some.ensures c.loop-number.invariant.read;
       size = length-set so_far i c.in-Some.slot ∙ size;
     }

@@ -12,7 +12,8 @@ returns c =
     let size = c.loop-number.invariant.size in
     is_done flag (take i so_far) initiator_count i c.loop-number.rest.now
     (many_at flag initiator_count c.args.bytes.now) c.loop-number-test.false c.loop-number.invariant.read
-    ∙ ap (λ (xs : List (Bool)). Some (xs, c.loop-number.rest.now)) (take_all i so_far (omega arith)) ∙ ap (λ (xs : List Bool). Some (xs, c.loop-number.rest.now)) (sym c.of_members.ensures)
+    ∙ ap (λ (xs : List (Bool)). Some (xs, c.loop-number.rest.now)) (take_all i so_far (omega arith))
+    ∙ ap (λ (xs : List Bool). Some (xs, c.loop-number.rest.now)) (sym c.of_members.ensures)
 
 pub returns-in_default : goal.returns-in_default
 returns-in_default c =
@@ -27,7 +28,8 @@ loop-number-preserved c =
     let size = c.loop-number.invariant.size in
     record {
       read =
-          ap (λ (front : List (Bool)). with_front front (many_at flag (initiator_count - (i + 1)) c.in-Some.after.now))
+          ap (λ (front : List (Bool)). with_front front
+          (many_at flag (initiator_count - (i + 1)) c.in-Some.after.now))
           (take_more_set so_far i c.in-Some.is_member (omega arith))
           ∙ goes_on flag (take i so_far) initiator_count i c.loop-number.rest.now c.in-Some.is_member
           c.in-Some.after.now (many_at flag initiator_count c.args.bytes.now) c.loop-number-test.true

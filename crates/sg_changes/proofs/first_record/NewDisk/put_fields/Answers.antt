@@ -16,7 +16,8 @@ returns g c =
     let all = takes_pair g.S.Sink.contents g.S.Sink.room (number 8) (pair (number 4) identity) 8 50
     c.args.sink.now c.put_u64.new.sink c.put_identity.new.sink d.capacity (d.pool, d.identity)
     c.put_u64.ensures last in
-    let fields : Takes g.S.Sink.contents g.S.Sink.room disk_fields 58 c.args.sink.now c.put_identity.new.sink disk =
+    let fields : Takes g.S.Sink.contents g.S.Sink.room disk_fields 58 c.args.sink.now
+    c.put_identity.new.sink disk =
     record { added = all.added; room_left = all.room_left; at_most = all.at_most; possible = all.possible } in
     let whole = takes_only g.S.Sink.contents g.S.Sink.room is_new_disk disk_fields 58 c.args.sink.now
     c.put_identity.new.sink disk valid fields in

@@ -9,7 +9,8 @@ loop-rest-init g c = so_far_first c.args.batch.now c.args.self.now
 pub returns-in_default-clause-err : goal.returns-in_default-clause-err
 returns-in_default-clause-err g c =
     let some : length c.loop-rest.rest.now ≢ 0 = search rules in
-    so_far_none c.args.batch.now c.loop-rest.rest.now c.args.self.now c.loop-rest.self some c.in_default.ensures
+    so_far_none c.args.batch.now c.loop-rest.rest.now c.args.self.now c.loop-rest.self some
+    c.in_default.ensures
     c.loop-rest.invariant
 
 pub returns-in_default-clause-damaged : goal.returns-in_default-clause-damaged
@@ -33,4 +34,5 @@ loop-rest-preserved g c =
 pub returns-clause-ok : goal.returns-clause-ok
 returns-clause-ok g c =
     let none : length c.loop-rest.rest.now ≡ 0 = search rules in
-    so_far_all c.args.batch.now c.loop-rest.rest.now c.args.self.now c.loop-rest.self none c.loop-rest.invariant
+    so_far_all c.args.batch.now c.loop-rest.rest.now c.args.self.now c.loop-rest.self none
+    c.loop-rest.invariant
