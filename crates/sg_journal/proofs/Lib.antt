@@ -1,0 +1,7 @@
+mod Fields
+mod Batches
+mod Written
+mod Heads
+mod Sums
+mod Moments
+mod Changes

@@ -1,0 +1,15 @@
+//! A journal in a file: batches of bytes. Each batch is whole on the disk before it is acknowledged,
+//! whenever a crash comes. This crate knows no commands and no blocks.
+#![tactic(auto)]
+
+mod checksum;
+mod device;
+mod fault;
+mod layout;
+mod source;
+mod steps;
+
+pub use device::{Device, DeviceError};
+pub use fault::Fault;
+pub use layout::{MAX_BATCH, NEW_SECTOR, is_sector_length};
+pub use source::Source;

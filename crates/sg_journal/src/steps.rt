@@ -1,0 +1,52 @@
+// The writes of a journal: each is one change of the file and one sync.
+ghost use Rattle.std.specs.Prelude.{◌≡◌, ◌≤◌, ◌+◌, ◌++◌, length, take, drop, OnOk};
+ghost use Rattle.sg_journal.specs.Device.{Only, LeavesOnly, HasCause};
+ghost use Rattle.sg_journal.specs.Journal.{IsGrown, IsPut, IsCut};
+
+use crate::{Device, DeviceError};
+
+/// Adds bytes at the end. A crash leaves what was there, and some bytes behind it.
+pub(crate) fn append<D: Device>(device: &mut D, at: u64, bytes: &[u8]) -> Result<(), DeviceError>
+    requires at { at ≡ length (D.seen device.old) }
+    requires durable { Only (D.seen device.old) (D.may_leave device.old) }
+    ensures added { OnOk result (D.seen device.new ≡ D.seen device.old ++ bytes.now) }
+    ensures durable { OnOk result (Only (D.seen device.new) (D.may_leave device.new)) }
+    ensures any_moment { LeavesOnly D.moment D.left_since device.old device.new
+        (IsGrown (length bytes.now) (D.seen device.old)) }
+    ensures cause { HasCause (D.failures device.old) (D.failures device.new) result }
+    ensures opening { D.opening device.new ≡ D.opening device.old }
+{
+    device.write_at(at, bytes)?;
+    device.sync()
+}
+
+/// Replaces bytes within the file. A crash leaves any bytes there.
+pub(crate) fn replace<D: Device>(device: &mut D, at: u64, bytes: &[u8]) -> Result<(), DeviceError>
+    requires within { at + length bytes.now ≤ length (D.seen device.old) }
+    requires durable { Only (D.seen device.old) (D.may_leave device.old) }
+    ensures put { OnOk result (D.seen device.new ≡ take at (D.seen device.old) ++ bytes.now
+        ++ drop (at + length bytes.now) (D.seen device.old)) }
+    ensures durable { OnOk result (Only (D.seen device.new) (D.may_leave device.new)) }
+    ensures any_moment { LeavesOnly D.moment D.left_since device.old device.new
+        (IsPut at (length bytes.now) (D.seen device.old)) }
+    ensures cause { HasCause (D.failures device.old) (D.failures device.new) result }
+    ensures opening { D.opening device.new ≡ D.opening device.old }
+{
+    device.write_at(at, bytes)?;
+    device.sync()
+}
+
+/// Cuts the file. A crash leaves some length between.
+pub(crate) fn shorten<D: Device>(device: &mut D, len: u64) -> Result<(), DeviceError>
+    requires len { len ≤ length (D.seen device.old) }
+    requires durable { Only (D.seen device.old) (D.may_leave device.old) }
+    ensures cut { OnOk result (D.seen device.new ≡ take len (D.seen device.old)) }
+    ensures durable { OnOk result (Only (D.seen device.new) (D.may_leave device.new)) }
+    ensures any_moment { LeavesOnly D.moment D.left_since device.old device.new
+        (IsCut len (D.seen device.old)) }
+    ensures cause { HasCause (D.failures device.old) (D.failures device.new) result }
+    ensures opening { D.opening device.new ≡ D.opening device.old }
+{
+    device.cut(len)?;
+    device.sync()
+}
