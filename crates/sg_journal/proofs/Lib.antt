@@ -5,3 +5,4 @@ mod Heads
 mod Sums
 mod Moments
 mod Changes
+mod Buffers

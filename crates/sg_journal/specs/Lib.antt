@@ -2,3 +2,7 @@
 pub mod Layout
 pub mod Journal
 pub mod Device
+pub mod BatchValue
+
+-- What only the types' own files cite.
+pub mod Batch

@@ -1,5 +1,5 @@
 // The format of a file: a first sector, then batches, then a closed gate.
-ghost use Rattle.std.specs.Prelude.{◌≡◌, ◌≤◌, ◌<◌, length};
+ghost use Rattle.std.specs.Prelude.{◌≡◌, ◌≤◌, ◌<◌, ◌+◌, length};
 ghost use Rattle.sg_journal.specs.Layout.{body_size, first_sector};
 ghost use Rattle.sg_journal.specs.Layout.{gate, header, is_sector_length, sector_of};
 
@@ -52,11 +52,22 @@ pub(crate) fn sector_of(header: &[u8; HEADER_LENGTH]) -> Result<usize, Fault>
 }
 
 /// The length of a body whose records have `count` bytes: whole sectors.
-#[tactic(auto, unfolding(crate::specs::Layout::body_size))]
+#[tactic(
+    auto,
+    using(
+        crate::proofs::Fields::body_below,
+        crate::proofs::Fields::body_fits,
+        crate::proofs::Fields::body_some
+    ),
+    unfolding(crate::specs::Layout::body_size)
+)]
 pub(crate) fn body_size(sector: usize, count: usize) -> usize
     requires sector { (0 < sector) × (sector ≤ 65536) }
     requires count { count ≤ MAX_BATCH }
     ensures value { result ≡ body_size sector count }
+    ensures fits { count + FIELDS_LENGTH ≤ result }
+    ensures below { result < count + FIELDS_LENGTH + sector }
+    ensures some { sector ≤ result }
 {
     (count + FIELDS_LENGTH).next_multiple_of(sector)
 }

@@ -2,6 +2,7 @@
 //! whenever a crash comes. This crate knows no commands and no blocks.
 #![tactic(auto)]
 
+mod batch;
 mod checksum;
 mod device;
 mod fault;
@@ -9,6 +10,7 @@ mod layout;
 mod source;
 mod steps;
 
+pub use batch::Batch;
 pub use device::{Device, DeviceError};
 pub use fault::Fault;
 pub use layout::{MAX_BATCH, NEW_SECTOR, is_sector_length};
