@@ -3,6 +3,7 @@ pub mod Layout
 pub mod Journal
 pub mod Device
 pub mod BatchValue
+pub mod Standing
 
 -- What only the types' own files cite.
 pub mod Batch

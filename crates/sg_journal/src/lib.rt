@@ -6,12 +6,15 @@ mod batch;
 mod checksum;
 mod device;
 mod fault;
+mod journal;
 mod layout;
 mod source;
 mod steps;
+mod writes;
 
 pub use batch::Batch;
 pub use device::{Device, DeviceError};
 pub use fault::Fault;
+pub use journal::Journal;
 pub use layout::{MAX_BATCH, NEW_SECTOR, is_sector_length};
 pub use source::Source;
