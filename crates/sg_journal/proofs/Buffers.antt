@@ -1,12 +1,14 @@
 -- What stands in the buffer of a batch.
-use Rattle.std.proofs.Common.{◌≡◌, ℕ, ◌+◌, ◌-◌, ◌≤◌, ◌<◌, List, [], ◌∷◌, ◌++◌, length, take, drop, replicate}
+use Rattle.std.proofs.Common.{◌≡◌, ℕ, ◌+◌, ◌-◌, ◌≤◌, ◌<◌, List, [], ◌∷◌, ◌++◌, length, take, drop, replicate, true, Vec, Global}
 use Rattle.std.proofs.Common.{refl, sym, ◌∙◌, ap, arith, append_assoc, length-append, length-take, length-drop}
 use Rattle.std.proofs.lemmas.List.{take_at, drop_at, drop-append-le, drop-take, take-append-le, length-replicate}
-use Rattle.std.proofs.lemmas.List.{replicate-append-replicate, take-take, length-take-le}
+use Rattle.std.proofs.lemmas.List.{replicate-append-replicate, take-take, length-take-le, with_items_is}
+use Rattle.std.specs.Vec.{with_items}
 use Rattle.byteorder.specs.Endian.{big_bytes}
 use Rattle.byteorder.specs.Numbers.{length-bytes_high_first}
-use Rattle.sg_journal.specs.Layout.{gate, closed_gate, body, body_size, checksum}
+use Rattle.sg_journal.specs.Layout.{gate, closed_gate, body, body_size, checksum, first_sector, is_sector_length}
 use Rattle.sg_journal.proofs.Fields.{body_fits}
+use Rattle.sg_journal.proofs.Heads.{length_first}
 use Rattle.sg_journal.proofs.Written.{length_body, length_gate}
 
 -- a closed gate is zeros
@@ -110,3 +112,44 @@ module _ (sector len size : ℕ) (b fields zeroed : List ℕ) (some : 0 < sector
       ∙ take_at (body sector (take len (drop 16 b)) ++ closed_gate sector) d (size + sector)
       (omega (arith, length-append (body sector (take len (drop 16 b))) (closed_gate sector),
       length_body sector (take len (drop 16 b)), ap (body_size sector) long, is_size, length_gate sector 0 some))
+
+-- ---- The gate's sector
+
+pub gate_is : (v : Vec ℕ Global) (before written : List ℕ) (sector first : ℕ) → before ≡ v.items
+    → written ≡ gate (length before) first → length v.items ≡ sector → 0 < sector
+    → (with_items v written).items ≡ gate sector first
+gate_is v before written sector first was is size some =
+    let e : written ≡ gate sector first = is ∙ ap (λ (n : ℕ). gate n first) (ap length was ∙ size) in
+    with_items_is v written (ap length e ∙ length_gate sector first some ∙ omega (arith, size, v.ok)) ∙ e
+
+pub first_is : (v : Vec ℕ Global) (before written : List ℕ) (sector : ℕ) → before ≡ v.items
+    → written ≡ first_sector (length before) → length v.items ≡ sector → is_sector_length sector ≡ true
+    → (with_items v written).items ≡ first_sector sector
+first_is v before written sector was is size valid =
+    let e : written ≡ first_sector sector = is ∙ ap first_sector (ap length was ∙ size) in
+    with_items_is v written (ap length e ∙ length_first sector valid ∙ omega (arith, size, v.ok)) ∙ e
+
+-- ---- The body
+
+pub body_is_sealed : (v : Vec ℕ Global) (before sealed records : List ℕ) (sector len size : ℕ) → before ≡ v.items
+    → length sealed ≡ length before
+    → take size sealed ≡ body sector (take len (drop 16 before)) ++ closed_gate sector → take len (drop 16 v.items) ≡ records
+    → take size (with_items v sealed).items ≡ body sector records ++ closed_gate sector
+body_is_sealed v before sealed records sector len size was same is held =
+    ap (take size) (with_items_is v sealed (same ∙ ap length was ∙ omega (arith, v.ok)))
+    ∙ is ∙ ap (λ (l : List ℕ). body sector (take len (drop 16 l)) ++ closed_gate sector) was
+    ∙ ap (λ (l : List ℕ). body sector l ++ closed_gate sector) held
+
+pub held_length : (len : ℕ) (b records : List ℕ) → take len (drop 16 b) ≡ records → 16 + len ≤ length b
+    → length records ≡ len
+held_length len b records is fits =
+    sym (ap length is) ∙ length-take-le len (drop 16 b) (omega (arith, length-drop 16 b))
+
+-- the body without the closed gate
+pub body_only : (image records : List ℕ) (sector size : ℕ)
+    → take size image ≡ body sector records ++ closed_gate sector
+    → size ≡ body_size sector (length records) + sector → take (size - sector) image ≡ body sector records
+body_only image records sector size is total =
+    sym (take-take (size - sector) size image (omega arith)) ∙ ap (take (size - sector)) is
+    ∙ take_at (body sector records) (closed_gate sector) (size - sector)
+    (omega (arith, length_body sector records, total))

@@ -6,3 +6,4 @@ mod Sums
 mod Moments
 mod Changes
 mod Buffers
+mod Ends

@@ -1,5 +1,6 @@
 -- How a run of device calls goes on.
 use Rattle.std.proofs.Common.{◌≡◌, ◌⊎◌, inl, inr, ⊎_elim, ℕ, List, sym, subst, arith}
+use Rattle.std.specs.Prelude.{Result, Ok, Err, OnOk}
 use Rattle.sg_journal.specs.Device.{Elapses, LeavesOnly, Only, Follows, NoMore, NoMoreBut}
 
 module _ {D : Type 0} (moment : D → ℕ) (left_since : D → ℕ → List ℕ → Type 0) where
@@ -61,3 +62,13 @@ module _ {D : Type 0} (moment : D → ℕ) (left_since : D → ℕ → List ℕ 
       → P seen → P bytes → LeavesOnly moment left_since old new P
   exchanged seen bytes may_leave after old new P only only_now time crash holds then =
       goes_on old old new P after (nothing_yet seen may_leave old P only only_now holds) time (λ c now. ⊎_elim (λ was. subst P (sym (only c was)) holds) (λ is. subst P (sym is) then) (crash c now))
+
+-- ---- A call that returned Ok
+
+pub on_ok_weaker : {T E P Q : Type 0} (r : Result T E) → (P → Q) → OnOk r P → OnOk r Q
+on_ok_weaker (Ok x) f p = f p
+on_ok_weaker (Err e) f p = p
+
+pub on_ok_both : {T E P Q R : Type 0} (r : Result T E) → (P → Q → R) → OnOk r P → OnOk r Q → OnOk r R
+on_ok_both (Ok x) f p q = f p q
+on_ok_both (Err e) f p q = q

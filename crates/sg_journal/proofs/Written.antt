@@ -19,6 +19,10 @@ pub first_of_gate : (sector first : ℕ) → get_or (gate sector first) 0 0 ≡ 
 unfolding gate
 first_of_gate sector first = refl
 
+pub max_is : max_batch ≡ 4194304
+unfolding max_batch
+max_is = refl
+
 pub max_fits : max_batch < 2 ^ 32
 unfolding max_batch
 max_fits = omega arith
