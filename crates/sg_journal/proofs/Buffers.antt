@@ -7,6 +7,9 @@ use Rattle.std.specs.Vec.{with_items}
 use Rattle.byteorder.specs.Endian.{big_bytes}
 use Rattle.byteorder.specs.Numbers.{length-bytes_high_first}
 use Rattle.sg_journal.specs.Layout.{gate, closed_gate, body, body_size, checksum, first_sector, is_sector_length}
+use Rattle.sg_journal.specs.Batch.{IsBuffer}
+use Rattle.sg_journal.specs.declared.batch.Batch.TheInside.{Inside}
+use Rattle.sg_journal.specs.declared.layout.TheConstants.{MAX_BATCH}
 use Rattle.sg_journal.proofs.Fields.{body_fits}
 use Rattle.sg_journal.proofs.Heads.{length_first}
 use Rattle.sg_journal.proofs.Written.{length_body, length_gate}
@@ -153,3 +156,25 @@ body_only image records sector size is total =
     sym (take-take (size - sector) size image (omega arith)) ∙ ap (take (size - sector)) is
     ∙ take_at (body sector records) (closed_gate sector) (size - sector)
     (omega (arith, length_body sector records, total))
+
+-- ---- A buffer that was written is a buffer
+
+same_size : (v : Vec ℕ Global) (before written : List ℕ) → before ≡ v.items → length written ≡ length before
+    → length (with_items v written).items ≡ length v.items
+same_size v before written was same =
+    ap length (with_items_is v written (same ∙ ap length was ∙ omega (arith, v.ok))) ∙ same ∙ ap length was
+
+pub still_buffer : (b : Inside) (gate_before gate_written body_before body_written : List ℕ) (len : ℕ)
+    → IsBuffer b → gate_before ≡ b.gate.items → length gate_written ≡ length gate_before
+    → body_before ≡ b.body.items → length body_written ≡ length body_before → len ≤ MAX_BATCH
+    → IsBuffer (record { gate = with_items b.gate gate_written; body = with_items b.body body_written; len = len })
+still_buffer b gate_before gate_written body_before body_written len is gate_was gate_same body_was body_same within =
+    let g = same_size b.gate gate_before gate_written gate_was gate_same in
+    let d = same_size b.body body_before body_written body_was body_same in
+    record {
+      valid = ap is_sector_length g ∙ is.valid;
+      least = omega (arith, g, is.least);
+      most = omega (arith, g, is.most);
+      room = omega (arith, g, d, is.room);
+      within = within;
+    }

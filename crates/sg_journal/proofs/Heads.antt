@@ -3,12 +3,13 @@ use Rattle.std.proofs.Common.{◌≡◌, ◌≢◌, inl, inr, ℕ, ◌+◌, ◌-
 use Rattle.std.proofs.Common.{eqb, ltb, nat_eq, List, [], ◌∷◌, ◌++◌, length, take, drop, replicate}
 use Rattle.std.proofs.Common.{refl, sym, ◌∙◌, ap, subst, arith, append_assoc, length-append}
 use Rattle.std.specs.Prelude.{Result, Ok, Err}
-use Rattle.std.proofs.lemmas.Bool.{leb-true}
+use Rattle.std.proofs.lemmas.Bool.{false≢true, leb-true}
 use Rattle.std.proofs.lemmas.Bool.Decides.{nat_tests}
 use Rattle.std.proofs.lemmas.List.{append-nil, take_at, drop_at, length-replicate}
 use Rattle.byteorder.specs.Endian.{big_bytes, big_number}
 use Rattle.byteorder.specs.Numbers.{big_number-reads_back, length-bytes_high_first}
-use Rattle.sg_journal.specs.Layout.{header, first_sector, sector_of, is_sector_length}
+use Rattle.std.specs.List.{starts_with}
+use Rattle.sg_journal.specs.Layout.{magic, format_version, version_in, sector_in, header, first_sector, sector_of, is_sector_length}
 use Rattle.sg_journal.specs.Journal.{Found, after, batches, found, found_behind, IsHead}
 use Rattle.sg_journal.specs.declared.fault.Fault.{Fault}
 use Rattle.sg_journal.specs.declared.fault.Fault.TheVariants.{NotADisk, OtherVersion, Damaged}
@@ -86,3 +87,41 @@ unfolding first_sector
 length_first sector valid =
     let within = sector_within sector valid in
     omega (arith, length-append (header sector) (replicate (sector - 16) 0), length_header sector, length-replicate {A = ℕ} (sector - 16) 0)
+
+-- ---- What a header says
+
+picked : (a b c : Bool) (x y z : Fault) (n s : ℕ)
+    → cond a (Err x) (cond b (Err y) (cond c (Err z) (Ok n))) ≡ Ok s → (c ≡ false) × (n ≡ s)
+picked true b c x y z n s h = absurd (cc)
+picked false true c x y z n s h = absurd (cc)
+picked false false true x y z n s h = absurd (cc)
+picked false false false x y z n s h = (refl, cc)
+
+pub header_valid : (header : List ℕ) (sector : ℕ) → sector_of header ≡ Ok sector
+    → is_sector_length sector ≡ true
+unfolding sector_of
+header_valid header sector is =
+    let p = picked (ltb (length header) 16 || not (starts_with nat_eq header magic))
+    (not (eqb (version_in header) format_version)) (not (is_sector_length (sector_in header)))
+    NotADisk (OtherVersion (version_in header)) (Damaged 12) (sector_in header) sector is in
+    ap is_sector_length (sym p.1) ∙ not_false (is_sector_length (sector_in header)) p.0
+  where
+    not_false : (b : Bool) → not b ≡ false → b ≡ true
+    not_false true h = refl
+    not_false false h = absurd (false≢true (sym h))
+
+pub short_header : (header : List ℕ) → length header < 16 → sector_of header ≡ Err NotADisk
+unfolding sector_of
+short_header header short =
+    let e : ltb (length header) 16 ≡ true = grind (arith, nat_tests) in
+    ap (λ (t : Bool). cond (t || not (starts_with nat_eq header magic)) (Err NotADisk)
+    (cond (not (eqb (version_in header) format_version)) (Err (OtherVersion (version_in header)))
+    (cond (not (is_sector_length (sector_in header))) (Err (Damaged 12)) (Ok (sector_in header))))) e
+
+pub found_nothing : found [] ≡ Ok []
+unfolding found
+found_nothing = refl
+
+pub new_sector : is_sector_length 4096 ≡ true
+unfolding is_sector_length lib.Count.ones
+new_sector = refl

@@ -7,3 +7,6 @@ mod Moments
 mod Changes
 mod Buffers
 mod Ends
+mod Absent
+mod Blocks
+mod Openings

@@ -4,6 +4,8 @@ pub mod Journal
 pub mod Device
 pub mod BatchValue
 pub mod Standing
+pub mod Reading
 
 -- What only the types' own files cite.
 pub mod Batch
+pub mod Reads
