@@ -9,3 +9,7 @@ pub mod Reading
 -- What only the types' own files cite.
 pub mod Batch
 pub mod Reads
+pub mod Record
+pub mod Memory
+pub mod MemoryBytes
+pub mod MemoryLaws
