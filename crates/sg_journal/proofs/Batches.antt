@@ -1,15 +1,15 @@
 -- What lists of bytes stand for, as batches.
-use Rattle.std.proofs.Common.{◌≡◌, inl, inr, ℕ, zero, suc, ◌+◌, ◌≤◌, ◌<◌, Bool, true, false, cond}
-use Rattle.std.proofs.Common.{List, [], ◌∷◌, ◌++◌, length, take, drop, refl, sym, ◌∙◌, ap, subst, arith}
+use Rattle.std.proofs.Common.{◌≡◌, inl, inr, ℕ, zero, suc, ◌+◌, ◌≤◌, Bool, true, false, cond}
+use Rattle.std.proofs.Common.{List, [], ◌∷◌, ◌++◌, length, drop, refl, sym, ◌∙◌, ap, arith}
 use Rattle.std.proofs.Common.{append_assoc, length-append, length-drop}
-use Rattle.std.specs.Prelude.{Result, Ok, Err}
+use Rattle.std.specs.Prelude.{Ok, Err}
 use Rattle.std.proofs.lemmas.Bool.{cases_Bool}
 use Rattle.std.proofs.lemmas.List.{append-nil, drop_at}
 use Rattle.sg_journal.specs.Layout.{body_size, length_in, records_in, size_in, counts, is_sound}
 use Rattle.sg_journal.specs.Journal.{Found, after, batches_by, batches, found, IsHead}
 use Rattle.sg_journal.specs.declared.fault.Fault.TheVariants.{Damaged}
 use Rattle.sg_journal.proofs.Fields.{Counts, has, has_from, body_fits, counts_more, records_more}
-use Rattle.sg_journal.proofs.Fields.{length_more, sound_more, shut, short}
+use Rattle.sg_journal.proofs.Fields.{length_more, sound_more, short}
 
 -- ---- More batches behind some
 
@@ -103,8 +103,8 @@ front_one sector bytes c sound size = record { stands = each }
 pub head_append : (sector : ℕ) (head front : List ℕ) (bs cs : List (List ℕ)) → IsHead sector head bs → IsFront sector front cs → IsHead sector (head ++ front) (bs ++ cs)
 head_append sector head front bs cs h k = record {
   stands = λ rest.
-    ap found (append_assoc head front rest) ∙ h.stands (front ++ rest) ∙ ap (after bs) (k.stands (length head) rest) ∙ after_both bs cs (batches sector (length head + length front) rest)
-    ∙ ap (λ (n : ℕ). after (bs ++ cs) (batches sector n rest)) (sym (length-append head front));
+      ap found (append_assoc head front rest) ∙ h.stands (front ++ rest) ∙ ap (after bs) (k.stands (length head) rest) ∙ after_both bs cs (batches sector (length head + length front) rest)
+      ∙ ap (λ (n : ℕ). after (bs ++ cs) (batches sector n rest)) (sym (length-append head front));
 }
 
 -- ---- A file that ends behind its batches

@@ -1,11 +1,11 @@
 -- A batch that was read: the sector of its gate, and its body at the front of a buffer.
-use Rattle.std.proofs.Common.{◌≡◌, ℕ, ◌+◌, ◌-◌, ◌≤◌, ◌<◌, Bool, true, false, eqb, List, [], ◌∷◌, ◌++◌, length, get_or}
-use Rattle.std.proofs.Common.{take, drop, refl, sym, ◌∙◌, ap, subst, arith, length-append, length-drop, append_assoc, take-append-drop}
+use Rattle.std.proofs.Common.{◌≡◌, ℕ, ◌+◌, ◌-◌, ◌≤◌, ◌<◌, true, false, eqb, List, [], ◌∷◌, ◌++◌, length, get_or}
+use Rattle.std.proofs.Common.{take, drop, sym, ◌∙◌, ap, subst, arith, length-append, length-drop, append_assoc, take-append-drop}
 use Rattle.std.specs.Prelude.{Err}
 use Rattle.std.proofs.lemmas.List.{drop_at, drop-append-le, take-take, drop-take, drop-drop, length-take-le, get_or_append_left}
 use Rattle.byteorder.specs.Endian.{big_number}
 use Rattle.byteorder.specs.Numbers.{big_from-append}
-use Rattle.sg_journal.specs.Layout.{body_size, checksum, max_batch, counts, is_sound, length_in, checksum_in, records_in, size_in}
+use Rattle.sg_journal.specs.Layout.{body_size, checksum, max_batch, is_sound, length_in, checksum_in, records_in, size_in}
 use Rattle.sg_journal.specs.Journal.{found, IsHead}
 use Rattle.sg_journal.specs.declared.fault.Fault.TheVariants.{Damaged}
 use Rattle.sg_journal.proofs.Fields.{Counts, has_from, body_fits, counts_more, sound_more}

@@ -1,7 +1,7 @@
 -- What stands in the buffer of a batch.
-use Rattle.std.proofs.Common.{◌≡◌, ℕ, ◌+◌, ◌-◌, ◌≤◌, ◌<◌, List, [], ◌∷◌, ◌++◌, length, take, drop, replicate, true, Vec, Global}
-use Rattle.std.proofs.Common.{refl, sym, ◌∙◌, ap, arith, append_assoc, length-append, length-take, length-drop}
-use Rattle.std.proofs.lemmas.List.{take_at, drop_at, drop-append-le, drop-take, take-append-le, length-replicate}
+use Rattle.std.proofs.Common.{◌≡◌, ℕ, ◌+◌, ◌-◌, ◌≤◌, ◌<◌, List, ◌++◌, length, take, drop, replicate, true, Vec, Global}
+use Rattle.std.proofs.Common.{sym, ◌∙◌, ap, arith, append_assoc, length-append, length-take, length-drop}
+use Rattle.std.proofs.lemmas.List.{take_at, drop_at, drop-append-le, drop-take}
 use Rattle.std.proofs.lemmas.List.{replicate-append-replicate, take-take, length-take-le, with_items_is}
 use Rattle.std.specs.Vec.{with_items}
 use Rattle.byteorder.specs.Endian.{big_bytes}
@@ -26,8 +26,13 @@ closed_zeros sector some =
 pub put_length : (at : ℕ) (b bytes : List ℕ) → at + length bytes ≤ length b
     → length (take at b ++ bytes ++ drop (at + length bytes) b) ≡ length b
 put_length at b bytes fits =
-    omega (arith, length-append (take at b ++ bytes) (drop (at + length bytes) b), length-append (take at b) bytes,
-    length-take at b, length-drop (at + length bytes) b)
+    omega (
+      arith,
+      length-append (take at b ++ bytes) (drop (at + length bytes) b),
+      length-append (take at b) bytes,
+      length-take at b,
+      length-drop (at + length bytes) b,
+    )
 
 pub pushed : (len : ℕ) (b bytes : List ℕ) → 16 + len + length bytes ≤ length b
     → take (len + length bytes) (drop 16 (take (16 + len) b ++ bytes ++ drop (16 + len + length bytes) b))
@@ -52,69 +57,75 @@ module _ (sector len size : ℕ) (b fields zeroed : List ℕ) (some : 0 < sector
     (is_size : size ≡ body_size sector len) (room : size + sector ≤ length b)
     (is_fields : fields ≡ big_bytes 8 len ++ big_bytes 8 (checksum (take len (drop 16 b))))
     (is_zeroed : zeroed ≡ take (16 + len) b ++ replicate (size + sector - (16 + len)) 0 ++ drop (size + sector) b)
-    where
-  fits : len + 16 ≤ size
-  fits = omega (arith, is_size, body_fits sector len)
+  where
+    fits : len + 16 ≤ size
+    fits = omega (arith, is_size, body_fits sector len)
 
-  records : List ℕ
-  records = take len (drop 16 b)
+    records : List ℕ
+    records = take len (drop 16 b)
 
-  long : length records ≡ len
-  unfolding records
-  long = length-take-le len (drop 16 b) (omega (arith, fits, room, length-drop 16 b))
+    long : length records ≡ len
+    unfolding records
+    long = length-take-le len (drop 16 b) (omega (arith, fits, room, length-drop 16 b))
 
-  zeros : List ℕ
-  zeros = replicate (size + sector - (16 + len)) 0
+    zeros : List ℕ
+    zeros = replicate (size + sector - (16 + len)) 0
 
-  behind : drop 16 zeroed ≡ records ++ (zeros ++ drop (size + sector) b)
-  unfolding records zeros
-  behind =
-      let z : List ℕ = replicate (size + sector - (16 + len)) 0 in
-      let d : List ℕ = drop (size + sector) b in
-      let front : length (take (16 + len) b) ≡ 16 + len = length-take-le (16 + len) b (omega (arith, fits, room)) in
-      ap (drop 16) (is_zeroed ∙ append_assoc (take (16 + len) b) z d)
-      ∙ drop-append-le 16 (take (16 + len) b) (z ++ d) (omega (arith, front))
-      ∙ ap (λ (l : List ℕ). l ++ (z ++ d)) (drop-take 16 len b)
+    behind : drop 16 zeroed ≡ records ++ (zeros ++ drop (size + sector) b)
+    unfolding records zeros
+    behind =
+        let z : List ℕ = replicate (size + sector - (16 + len)) 0 in
+        let d : List ℕ = drop (size + sector) b in
+        let front : length (take (16 + len) b) ≡ 16 + len = length-take-le (16 + len) b (omega (arith, fits, room)) in
+        ap (drop 16) (is_zeroed ∙ append_assoc (take (16 + len) b) z d)
+        ∙ drop-append-le 16 (take (16 + len) b) (z ++ d) (omega (arith, front))
+        ∙ ap (λ (l : List ℕ). l ++ (z ++ d)) (drop-take 16 len b)
 
-  length_fields : length fields ≡ 16
-  length_fields =
-      let c = checksum (take len (drop 16 b)) in
-      omega (arith, ap length is_fields, length-append (big_bytes 8 len) (big_bytes 8 c), length-bytes_high_first 8 len, length-bytes_high_first 8 c)
+    length_fields : length fields ≡ 16
+    length_fields =
+        let c = checksum (take len (drop 16 b)) in
+        omega (arith, ap length is_fields, length-append (big_bytes 8 len) (big_bytes 8 c), length-bytes_high_first 8 len, length-bytes_high_first 8 c)
 
-  pub sealed_keeps : take len (drop 16 (fields ++ drop 16 zeroed)) ≡ take len (drop 16 b)
-  unfolding records
-  sealed_keeps =
-      ap (take len) (drop_at fields (drop 16 zeroed) 16 length_fields ∙ behind)
-      ∙ take_at records (zeros ++ drop (size + sector) b) len long
+    pub sealed_keeps : take len (drop 16 (fields ++ drop 16 zeroed)) ≡ take len (drop 16 b)
+    unfolding records
+    sealed_keeps =
+        ap (take len) (drop_at fields (drop 16 zeroed) 16 length_fields ∙ behind)
+        ∙ take_at records (zeros ++ drop (size + sector) b) len long
 
-  zeros_are : zeros ≡ replicate (size - (len + 16)) 0 ++ closed_gate sector
-  unfolding zeros
-  zeros_are =
-      let e : size + sector - (16 + len) ≡ size - (len + 16) + sector = omega (arith, fits) in
-      ap (λ (n : ℕ). replicate n 0) e ∙ sym (replicate-append-replicate (size - (len + 16)) sector 0)
-      ∙ ap (λ (l : List ℕ). replicate (size - (len + 16)) 0 ++ l) (sym (closed_zeros sector some))
+    zeros_are : zeros ≡ replicate (size - (len + 16)) 0 ++ closed_gate sector
+    unfolding zeros
+    zeros_are =
+        let e : size + sector - (16 + len) ≡ size - (len + 16) + sector = omega (arith, fits) in
+        ap (λ (n : ℕ). replicate n 0) e ∙ sym (replicate-append-replicate (size - (len + 16)) sector 0)
+        ∙ ap (λ (l : List ℕ). replicate (size - (len + 16)) 0 ++ l) (sym (closed_zeros sector some))
 
-  body_is : body sector records ≡ fields ++ records ++ replicate (size - (len + 16)) 0
-  unfolding body records
-  body_is =
-      let r = take len (drop 16 b) in
-      ap (λ (n : ℕ). big_bytes 8 n ++ big_bytes 8 (checksum r) ++ r ++ replicate (body_size sector n - (n + 16)) 0) long
-      ∙ ap (λ (n : ℕ). big_bytes 8 len ++ big_bytes 8 (checksum r) ++ r ++ replicate (n - (len + 16)) 0) (sym is_size)
-      ∙ ap (λ (l : List ℕ). l ++ r ++ replicate (size - (len + 16)) 0) (sym is_fields)
+    body_is : body sector records ≡ fields ++ records ++ replicate (size - (len + 16)) 0
+    unfolding body records
+    body_is =
+        let r = take len (drop 16 b) in
+        ap (λ (n : ℕ). big_bytes 8 n ++ big_bytes 8 (checksum r) ++ r ++ replicate (body_size sector n - (n + 16)) 0) long
+        ∙ ap (λ (n : ℕ). big_bytes 8 len ++ big_bytes 8 (checksum r) ++ r ++ replicate (n - (len + 16)) 0) (sym is_size)
+        ∙ ap (λ (l : List ℕ). l ++ r ++ replicate (size - (len + 16)) 0) (sym is_fields)
 
-  pub sealed_is : take (size + sector) (fields ++ drop 16 zeroed) ≡ body sector (take len (drop 16 b)) ++ closed_gate sector
-  unfolding records
-  sealed_is =
-      let z : List ℕ = replicate (size - (len + 16)) 0 in
-      let d : List ℕ = drop (size + sector) b in
-      let all : fields ++ drop 16 zeroed ≡ (body sector (take len (drop 16 b)) ++ closed_gate sector) ++ d =
-      ap (λ (l : List ℕ). fields ++ l) (behind ∙ ap (λ (l : List ℕ). records ++ (l ++ d)) zeros_are)
-      ∙ regroup fields records z (closed_gate sector) d
-      ∙ ap (λ (l : List ℕ). (l ++ closed_gate sector) ++ d) (sym body_is) in
-      ap (take (size + sector)) all
-      ∙ take_at (body sector (take len (drop 16 b)) ++ closed_gate sector) d (size + sector)
-      (omega (arith, length-append (body sector (take len (drop 16 b))) (closed_gate sector),
-      length_body sector (take len (drop 16 b)), ap (body_size sector) long, is_size, length_gate sector 0 some))
+    pub sealed_is : take (size + sector) (fields ++ drop 16 zeroed) ≡ body sector (take len (drop 16 b)) ++ closed_gate sector
+    unfolding records
+    sealed_is =
+        let z : List ℕ = replicate (size - (len + 16)) 0 in
+        let d : List ℕ = drop (size + sector) b in
+        let all : fields ++ drop 16 zeroed ≡ (body sector (take len (drop 16 b)) ++ closed_gate sector) ++ d =
+        ap (λ (l : List ℕ). fields ++ l) (behind ∙ ap (λ (l : List ℕ). records ++ (l ++ d)) zeros_are)
+        ∙ regroup fields records z (closed_gate sector) d
+        ∙ ap (λ (l : List ℕ). (l ++ closed_gate sector) ++ d) (sym body_is) in
+        ap (take (size + sector)) all
+        ∙ take_at (body sector (take len (drop 16 b)) ++ closed_gate sector) d (size + sector)
+        (omega (
+          arith,
+          length-append (body sector (take len (drop 16 b))) (closed_gate sector),
+          length_body sector (take len (drop 16 b)),
+          ap (body_size sector) long,
+          is_size,
+          length_gate sector 0 some,
+        ))
 
 -- ---- The gate's sector
 

@@ -1,12 +1,12 @@
 -- What a crash leaves of the end of a file, and of a file that is written afresh.
-use Rattle.std.proofs.Common.{◌≡◌, ◌≢◌, inl, inr, ℕ, ◌+◌, ◌-◌, ◌≤◌, ◌<◌, true, false, List, [], ◌∷◌, ◌++◌}
-use Rattle.std.proofs.Common.{length, get_or, take, drop, refl, sym, ◌∙◌, ap, subst, arith, append_assoc}
-use Rattle.std.proofs.Common.{length-append, length-drop, take-append-drop}
+use Rattle.std.proofs.Common.{◌≡◌, ◌≢◌, inl, inr, ℕ, ◌+◌, ◌-◌, ◌≤◌, ◌<◌, false, List, [], ◌∷◌, ◌++◌}
+use Rattle.std.proofs.Common.{length, get_or, take, drop, sym, ◌∙◌, ap, arith, append_assoc}
+use Rattle.std.proofs.Common.{length-append}
 use Rattle.std.specs.Prelude.{Ok}
 use Rattle.std.proofs.Math.Seq.{take-append-add}
 use Rattle.std.proofs.lemmas.Bool.{cases_eq}
-use Rattle.std.proofs.lemmas.List.{take_at, drop_at, get_or_append_left, take-take, drop-take}
-use Rattle.sg_journal.specs.Layout.{gate, closed_gate, open_gate, body, body_size, counts, max_batch}
+use Rattle.std.proofs.lemmas.List.{take_at, drop_at, get_or_append_left}
+use Rattle.sg_journal.specs.Layout.{closed_gate, open_gate, body, body_size, counts, max_batch}
 use Rattle.sg_journal.specs.Journal.{found, IsHead, IsGrown, IsPut, IsCut, IsBeforeOrAfter}
 use Rattle.sg_journal.specs.Standing.{IsTorn, IsClosed}
 use Rattle.sg_journal.proofs.Fields.{shut, short, none_in_prefix}
@@ -104,8 +104,14 @@ module _ (sector end : ℕ) (file : List ℕ) (bs : List (List ℕ)) (h : IsClos
         is_closed sector (end + (body_size sector (length records) + sector)) new
         (h.head ++ (g ++ body sector records)) (bs ++ records ∷ []) (head_added g size (first_of_gate sector 1))
         (is ∙ with_gate g ∙ all_added g size (first_of_gate sector 1))
-        (omega (arith, length-append h.head (g ++ body sector records), length-append g (body sector records),
-        length_body sector records, size, h.place)) some
+        (omega (
+          arith,
+          length-append h.head (g ++ body sector records),
+          length-append g (body sector records),
+          length_body sector records,
+          size,
+          h.place,
+        )) some
 
     pub added_found : (new : List ℕ) → new ≡ take end (file ++ image) ++ open_gate sector ++ drop (end + sector) (file ++ image)
         → found new ≡ Ok (bs ++ records ∷ [])

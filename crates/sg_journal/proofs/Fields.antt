@@ -1,12 +1,11 @@
 -- The fields of a batch, whatever stands behind it.
 use Rattle.std.proofs.Common.{◌≡◌, ◌≢◌, inl, inr, ℕ, ◌+◌, ◌-◌, ◌%◌, ◌≤◌, ◌<◌, Bool, true, false, ◌&&◌}
-use Rattle.std.proofs.Common.{cond, eqb, leb, nat_le, List, [], ◌∷◌, ◌++◌, length, get_or, take, drop}
-use Rattle.std.proofs.Common.{refl, sym, ◌∙◌, ap, subst, arith, length-append, length-drop, length-take}
+use Rattle.std.proofs.Common.{eqb, List, ◌++◌, length, get_or, take, drop}
+use Rattle.std.proofs.Common.{refl, sym, ◌∙◌, ap, subst, arith, length-append, length-drop}
 use Rattle.std.proofs.Common.{take-append-drop}
 use Rattle.std.proofs.Math.Nat.{mod-eq_of_lt}
 use Rattle.std.proofs.lemmas.Bool.{cases_Bool, cases_lt, false≢true, eqb-true, leb-true, eq-eqb, le-leb}
 use Rattle.std.proofs.lemmas.List.{drop-append-le, take-append-le, get_or_append_left}
-use Rattle.std.specs.Int.{next_multiple_of}
 use Rattle.byteorder.specs.Numbers.{big_from-append}
 use Rattle.sg_journal.specs.Layout.{body_size, max_batch, length_in, checksum_in, records_in, size_in}
 use Rattle.sg_journal.specs.Layout.{counts, is_sound, checksum}
@@ -110,11 +109,11 @@ counts_more sector bytes rest c =
     let same = length_more sector bytes rest (omega (arith, c.whole, fits)) in
     record {
       open_gate =
-        get_or_append_left bytes rest 0 0 (omega (arith, c.whole, fits)) ∙ c.open_gate;
+          get_or_append_left bytes rest 0 0 (omega (arith, c.whole, fits)) ∙ c.open_gate;
       within = omega (arith, same, c.within);
       whole =
-        subst (λ (n : ℕ). sector + body_size sector n ≤ length (bytes ++ rest)) (sym same)
-        (omega (arith, c.whole, length-append bytes rest));
+          subst (λ (n : ℕ). sector + body_size sector n ≤ length (bytes ++ rest)) (sym same)
+          (omega (arith, c.whole, length-append bytes rest));
     }
 
 pub sound_more : (sector : ℕ) (bytes rest : List ℕ) → Counts sector bytes

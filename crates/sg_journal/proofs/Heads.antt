@@ -1,16 +1,16 @@
 -- What the first sector of a file says.
-use Rattle.std.proofs.Common.{◌≡◌, ◌≢◌, inl, inr, ℕ, ◌+◌, ◌-◌, ◌≤◌, ◌<◌, ◌^◌, Bool, true, false, cond, not, ◌||◌}
-use Rattle.std.proofs.Common.{eqb, ltb, nat_eq, List, [], ◌∷◌, ◌++◌, length, take, drop, replicate}
+use Rattle.std.proofs.Common.{◌≡◌, ℕ, ◌+◌, ◌-◌, ◌≤◌, ◌<◌, Bool, true, false, cond, not, ◌||◌}
+use Rattle.std.proofs.Common.{eqb, ltb, nat_eq, List, [], ◌++◌, length, take, drop, replicate}
 use Rattle.std.proofs.Common.{refl, sym, ◌∙◌, ap, subst, arith, append_assoc, length-append}
 use Rattle.std.specs.Prelude.{Result, Ok, Err}
 use Rattle.std.proofs.lemmas.Bool.{false≢true, leb-true}
 use Rattle.std.proofs.lemmas.Bool.Decides.{nat_tests}
 use Rattle.std.proofs.lemmas.List.{append-nil, take_at, drop_at, length-replicate}
 use Rattle.byteorder.specs.Endian.{big_bytes, big_number}
-use Rattle.byteorder.specs.Numbers.{big_number-reads_back, length-bytes_high_first}
+use Rattle.byteorder.specs.Numbers.{big_number-reads_back}
 use Rattle.std.specs.List.{starts_with}
 use Rattle.sg_journal.specs.Layout.{magic, format_version, version_in, sector_in, header, first_sector, sector_of, is_sector_length}
-use Rattle.sg_journal.specs.Journal.{Found, after, batches, found, found_behind, IsHead}
+use Rattle.sg_journal.specs.Journal.{after, batches, found, found_behind, IsHead}
 use Rattle.sg_journal.specs.declared.fault.Fault.{Fault}
 use Rattle.sg_journal.specs.declared.fault.Fault.TheVariants.{NotADisk, OtherVersion, Damaged}
 use Rattle.sg_journal.proofs.Fields.{both}

@@ -1,12 +1,12 @@
 -- What is written of a batch reads back as the batch.
-use Rattle.std.proofs.Common.{◌≡◌, ℕ, ◌+◌, ◌-◌, ◌*◌, ◌%◌, ◌^◌, ◌≤◌, ◌<◌, Bool, true, List, [], ◌∷◌, ◌++◌}
+use Rattle.std.proofs.Common.{◌≡◌, ℕ, ◌+◌, ◌-◌, ◌^◌, ◌≤◌, ◌<◌, true, List, [], ◌∷◌, ◌++◌}
 use Rattle.std.proofs.Common.{length, get_or, take, drop, replicate, refl, sym, ◌∙◌, ap, subst, arith}
 use Rattle.std.proofs.Common.{append_assoc, length-append}
 use Rattle.std.proofs.lemmas.Bool.{eq-eqb}
 use Rattle.std.proofs.lemmas.List.{take_at, drop_at, get_or_append_left, drop-drop, length-replicate}
 use Rattle.byteorder.specs.Endian.{big_bytes, big_number}
 use Rattle.byteorder.specs.Numbers.{big_number-reads_back, length-bytes_high_first}
-use Rattle.sg_journal.specs.Layout.{gate, body, body_size, max_batch, checksum, sum_of_sums}
+use Rattle.sg_journal.specs.Layout.{gate, body, body_size, max_batch, checksum}
 use Rattle.sg_journal.specs.Layout.{length_in, checksum_in, records_in, size_in, is_sound}
 use Rattle.sg_journal.proofs.Fields.{Counts, body_fits}
 use Rattle.sg_journal.proofs.Batches.{IsFront, front_one}
@@ -38,18 +38,26 @@ length_body sector records =
     let a : List ℕ = big_bytes 8 (length records) in
     let b : List ℕ = big_bytes 8 (checksum records) in
     let z : List ℕ = replicate (body_size sector (length records) - (length records + 16)) 0 in
-    omega (arith, length-append (a ++ b ++ records) z, length-append (a ++ b) records, length-append a b,
-    length-bytes_high_first 8 (length records), length-bytes_high_first 8 (checksum records),
-    length-replicate {A = ℕ} (body_size sector (length records) - (length records + 16)) 0,
-    body_fits sector (length records))
+    omega (
+      arith,
+      length-append (a ++ b ++ records) z,
+      length-append (a ++ b) records,
+      length-append a b,
+      length-bytes_high_first 8 (length records),
+      length-bytes_high_first 8 (checksum records),
+      length-replicate {A = ℕ} (body_size sector (length records) - (length records + 16)) 0,
+      body_fits sector (length records),
+    )
 
 -- ---- The fields of a sector and a body behind it
 
 module _ (sector : ℕ) (g records : List ℕ) (size : length g ≡ sector) (within : length records ≤ max_batch) where
   a : List ℕ
   a = big_bytes 8 (length records)
+
   b : List ℕ
   b = big_bytes 8 (checksum records)
+
   z : List ℕ
   z = replicate (body_size sector (length records) - (length records + 16)) 0
 
@@ -60,6 +68,7 @@ module _ (sector : ℕ) (g records : List ℕ) (size : length g ≡ sector) (wit
   long_a : length a ≡ 8
   unfolding a
   long_a = length-bytes_high_first 8 (length records)
+
   long_b : length b ≡ 8
   unfolding b
   long_b = length-bytes_high_first 8 (checksum records)

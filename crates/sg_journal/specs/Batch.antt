@@ -1,5 +1,5 @@
 -- A batch in memory.
-use Rattle.std.specs.Prelude.{◌≡◌, ◌≤◌, ℕ, ◌+◌, ◌*◌, List, length, take, drop, true, Vec}
+use Rattle.std.specs.Prelude.{◌≡◌, ◌≤◌, ◌+◌, ◌*◌, length, take, drop, true}
 use Rattle.sg_journal.specs.Layout.{is_sector_length}
 use Rattle.sg_journal.specs.declared.batch.Batch.TheInside.{Inside}
 use Rattle.sg_journal.specs.BatchValue.{BatchValue}

@@ -5,7 +5,6 @@ pub mod Device
 pub mod BatchValue
 pub mod Standing
 pub mod Reading
-
 -- What only the types' own files cite.
 pub mod Batch
 pub mod Reads

@@ -1,5 +1,5 @@
 -- A file in memory, by a record of what it held before each change.
-use Rattle.std.specs.Prelude.{◌≡◌, ◌⊎◌, ◌≤◌, ℕ, ◌+◌, Bool, true, false, List, [], ◌∷◌, length, if◌then◌else◌}
+use Rattle.std.specs.Prelude.{◌≡◌, ◌⊎◌, ◌≤◌, ℕ, ◌+◌, List, [], ◌∷◌, length, if◌then◌else◌}
 use Rattle.sg_journal.specs.Record.{Event}
 
 -- What the file held at some moment from that one on, before now.

@@ -1,6 +1,6 @@
 -- The laws of a file in memory.
-use Rattle.std.specs.Prelude.{◌≡◌, ◌⊎◌, ◌≤◌, ◌<◌, ℕ, List, [], ◌∷◌, length}
-use Rattle.std.proofs.Common.{inl, inr, ⊎_elim, arith}
+use Rattle.std.specs.Prelude.{◌≡◌, ℕ, List, [], ◌∷◌, length}
+use Rattle.std.proofs.Common.{⊎_elim, arith}
 use Rattle.sg_journal.specs.Record.{Event}
 use Rattle.sg_journal.specs.Memory.{HadSince, LeftSince}
 

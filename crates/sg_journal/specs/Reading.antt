@@ -1,5 +1,5 @@
 -- How far a file was read, and which batches were found on the way.
-use Rattle.std.specs.Prelude.{◌≡◌, ◌<◌, ◌≤◌, ℕ, ◌+◌, ◌^◌, List, [], ◌++◌, length, true, false}
+use Rattle.std.specs.Prelude.{◌≡◌, ◌<◌, ◌≤◌, ℕ, ◌+◌, ◌^◌, List, ◌++◌, length, true, false}
 use Rattle.std.specs.Prelude.{Option, Some, None, Result, IsErrOf, Err}
 use Rattle.sg_journal.specs.Layout.{counts, is_sector_length}
 use Rattle.sg_journal.specs.Journal.{found, IsHead}

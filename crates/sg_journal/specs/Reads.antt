@@ -78,6 +78,11 @@ abbrev pub IsFirstRead : {F : Type 0} → (F → List ℕ) → (F → ℕ) → F
 IsFirstRead taken left old new (Some sector) = TookFirst taken left old new sector
 IsFirstRead taken left old new None = (new ≡ old) × (left old ≡ 0)
 
+-- Fewer bytes are left behind a batch that was read.
+abbrev pub LeavesLess : (before now : ℕ) → Next → Type 0
+LeavesLess before now (Batch len) = now < before
+LeavesLess before now (End tail) = Unit {0}
+
 -- A batch that was read is within the limit.
 abbrev pub IsWithin : Next → Type 0
 IsWithin (Batch len) = len ≤ MAX_BATCH

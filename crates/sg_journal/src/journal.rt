@@ -139,7 +139,11 @@ impl<D: Device> Journal<D> {
         let size = seal(&mut batch.body, self.sector, batch.len);
         write_gate(&mut batch.gate, 1);
         self.drafted += size as u64;
-        draft_batch(&mut self.device, &batch.gate, &batch.body[..size - self.sector])
+        draft_batch(
+            &mut self.device,
+            &batch.gate,
+            &batch.body[..size - self.sector],
+        )
     }
 
     /// Puts the draft in the place of the file. The batch lends its memory.

@@ -52,15 +52,7 @@ pub(crate) fn sector_of(header: &[u8; HEADER_LENGTH]) -> Result<usize, Fault>
 }
 
 /// The length of a body whose records have `count` bytes: whole sectors.
-#[tactic(
-    auto,
-    using(
-        crate::proofs::Fields::body_below,
-        crate::proofs::Fields::body_fits,
-        crate::proofs::Fields::body_some
-    ),
-    unfolding(crate::specs::Layout::body_size)
-)]
+#[tactic(auto, using(crate::proofs::Fields::body_below, crate::proofs::Fields::body_fits, crate::proofs::Fields::body_some), unfolding(crate::specs::Layout::body_size))]
 pub(crate) fn body_size(sector: usize, count: usize) -> usize
     requires sector { (0 < sector) × (sector ≤ 65536) }
     requires count { count ≤ MAX_BATCH }

@@ -6,7 +6,7 @@ ghost use Rattle.sg_journal.specs.Device.{HasCause};
 ghost use Rattle.sg_journal.specs.Layout.{checksum, sector_of};
 ghost use Rattle.sg_journal.specs.Journal.{IsHead};
 ghost use Rattle.sg_journal.specs.Reading.{IsFaulty, IsHonest};
-ghost use Rattle.sg_journal.specs.Reads.{TookMore, IsGateRead, IsBodyRead, IsFirstRead, IsNextRead, IsWithin, Took};
+ghost use Rattle.sg_journal.specs.Reads.{TookMore, IsGateRead, IsBodyRead, IsFirstRead, IsNextRead, IsWithin, LeavesLess, Took};
 ghost use Rattle.sg_journal.specs.declared.fault.Fault.{Fault};
 ghost use Rattle.sg_journal.specs.declared.reader.OpenError.TheVariants.{File};
 
@@ -171,6 +171,7 @@ pub(crate) fn read_batch<F: Source>(
         IsHead (length gate.old) (F.taken source.old) bs → end ≡ length (F.taken source.old) →
         IsNextRead F.taken F.left source.new (length gate.old) end body.new bs next) }
     ensures within { IfOk result (λ next. IsWithin next) }
+    ensures less { IfOk result (λ next. LeavesLess (F.left source.old) (F.left source.new) next) }
     ensures fault { (fault : Fault) → IsErrOf result (File fault) → (bs : List (List ℕ)) →
         IsHead (length gate.old) (F.taken source.old) bs → end ≡ length (F.taken source.old) →
         IsFaulty (F.taken source.new) (F.left source.new) fault }

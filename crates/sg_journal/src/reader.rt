@@ -106,6 +106,8 @@ impl<F: Source + Drop> Reader<F> {
         ensures ended { IfOk result (λ more. IsFalse more → (bs : List (List ℕ)) →
             HasFound F.taken F.left self.old bs →
             HasFound F.taken F.left self.new bs × IsSome self.new.ended) }
+        ensures less { IfOk result (λ more. IsTrue more →
+            F.left self.new.source < F.left self.old.source) }
         ensures fault { (fault : Fault) → IsErrOf result (File fault) →
             IsFaulty (F.taken self.new.source) (F.left self.new.source) fault }
         ensures honest { IsHonest (F.failures self.old.source) (F.failures self.new.source) result }
@@ -140,6 +142,9 @@ impl<F: Source + Drop> Reader<F> {
         ensures stands { IfOk result (λ j. (bs : List (List ℕ)) → HasFound F.taken F.left self bs →
             StandsFor F.Device.seen F.Device.may_leave j bs) }
         ensures opening { IfOk result (λ j. F.Device.seen j.device ≡ F.Device.opening j.device) }
+        ensures found { IfOk result (λ j. (bs : List (List ℕ)) → HasFound F.taken F.left self bs →
+            found (F.Device.opening j.device) ≡ Ok bs) }
+        ensures moment { IfOk result (λ j. F.Device.moment j.device ≡ 0) }
         ensures sector { IfOk result (λ j. j.sector ≡ self.sector) }
         ensures end { IfOk result (λ j. j.end ≡ self.end) }
         ensures cause { IfErr result (λ e. F.failures self.source < F.failures e.1) }

@@ -34,5 +34,6 @@ pub trait Source {
         requires { left self ≡ 0 }
         ensures seen { Self.Device.seen result ≡ taken self }
         ensures opening { Self.Device.opening result ≡ taken self }
-        ensures durable { Only (taken self) (Self.Device.may_leave result) };
+        ensures durable { Only (taken self) (Self.Device.may_leave result) }
+        ensures moment { Self.Device.moment result ≡ 0 };
 }

@@ -1,4 +1,4 @@
-use Rattle.std.proofs.Common.{◌≡◌, ◌≤◌, ◌+◌, ◌-◌, ◌++◌, ℕ, ◌∙◌, ap, arith, take, drop}
+use Rattle.std.proofs.Common.{◌≡◌, ◌+◌, ◌-◌, ◌++◌, ℕ, ◌∙◌, ap, arith, take, drop}
 use Rattle.byteorder.specs.Endian.{big_bytes}
 use Rattle.sg_journal.specs.Layout.{checksum}
 use Rattle.sg_journal.proofs.Buffers.{sealed_is, sealed_keeps}

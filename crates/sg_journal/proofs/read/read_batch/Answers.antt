@@ -1,8 +1,8 @@
-use Rattle.std.proofs.Common.{◌≡◌, ℕ, ◌+◌, ◌-◌, ◌≤◌, ◌<◌, false, List, [], ◌∷◌, ◌++◌, length, take, drop, refl, sym, ◌∙◌, ap, subst, arith}
+use Rattle.std.proofs.Common.{◌≡◌, ℕ, ◌+◌, ◌≤◌, false, List, [], ◌∷◌, ◌++◌, length, take, drop, refl, sym, ◌∙◌, ap, subst, arith}
 use Rattle.std.proofs.Common.{append_assoc, length-append}
 use Rattle.std.proofs.lemmas.List.{length-take-le}
-use Rattle.std.specs.Prelude.{Some, None, Ok, Err, IsErrOf}
-use Rattle.sg_journal.specs.Layout.{body_size, counts, max_batch}
+use Rattle.std.specs.Prelude.{Err}
+use Rattle.sg_journal.specs.Layout.{body_size, counts}
 use Rattle.sg_journal.specs.Journal.{found, IsHead}
 use Rattle.sg_journal.specs.Reads.{IsGateRead, IsBodyRead, TookOpen, TookBody, TookNone}
 use Rattle.sg_journal.specs.declared.fault.Fault.TheVariants.{Damaged}
@@ -134,12 +134,19 @@ returns-clause-read g c bs whole place =
     head_read (length gate) len gate b (omega (arith, size)) refl opened.is_open body.is body.within room
     (taken old) bs here (sym c.is_sound.ensures ∙ c.if-not-is_sound.false) in
     let total : length (taken new) ≡ c.args.end + (length gate + body_size (length gate) len) =
-    omega (arith, ap length all, length-append (taken old ++ gate) front, length-append (taken old) gate,
-    length-take-le (body_size (length gate) len) b room, place) in
-    (subst (λ (n : ℕ). IsHead n (taken new) (bs ++ take len (drop 16 b) ∷ [])) size
-    (subst (λ (l : List ℕ). IsHead (length gate) l (bs ++ take len (drop 16 b) ∷ [])) (sym all) head),
-    subst (λ (n : ℕ). length (taken new) ≡ c.args.end + (n + body_size n len)) size total,
-    body.within)
+    omega (
+      arith,
+      ap length all,
+      length-append (taken old ++ gate) front,
+      length-append (taken old) gate,
+      length-take-le (body_size (length gate) len) b room,
+      place,
+    ) in (
+      subst (λ (n : ℕ). IsHead n (taken new) (bs ++ take len (drop 16 b) ∷ [])) size
+          (subst (λ (l : List ℕ). IsHead (length gate) l (bs ++ take len (drop 16 b) ∷ [])) (sym all) head),
+      subst (λ (n : ℕ). length (taken new) ≡ c.args.end + (n + body_size n len)) size total,
+      body.within,
+    )
 
 pub returns-clause-within : goal.returns-clause-within
 returns-clause-within g c =
@@ -158,3 +165,24 @@ returns-clause-within g c =
     let room : body_size (length gate) len ≤ length b =
     omega (arith, below, body.within, max_is, size, c.read_body.auto.body) in
     omega (arith, body.within, max_is)
+
+pub returns-clause-less : goal.returns-clause-less
+returns-clause-less g c =
+    let taken = g.F.Source.taken in
+    let left = g.F.Source.left in
+    let old = c.args.source.now in
+    let mid = c.read_gate.new.source in
+    let new = c.read_body.new.source in
+    let gate : List ℕ = c.read_gate.new.gate in
+    let size : length gate ≡ length c.args.gate.now = c.read_gate.auto.gate in
+    let opened : TookOpen taken left old mid gate =
+    subst (IsGateRead taken left old mid (length c.args.gate.now) gate) c.in_default.is
+    c.in_ok-tail.ensures.read in
+    let len : ℕ = c.in-Some-2.len in
+    let b : List ℕ = c.read_body.new.body in
+    let body : TookBody taken left mid new (length gate) b len =
+    subst (IsBodyRead taken left mid new (length gate) b) c.in-Some-2.is c.in_ok-len.ensures.read in
+    let below = body_below (length gate) len (omega (arith, size)) in
+    let room : body_size (length gate) len ≤ length b =
+    omega (arith, below, body.within, max_is, size, c.read_body.auto.body) in
+    omega (arith, opened.took.rest, body.took.rest, size, c.requires.sector.0)

@@ -1,9 +1,9 @@
-use Rattle.std.proofs.Common.{◌≡◌, ℕ, ◌+◌, ◌-◌, ◌≤◌, ◌<◌, false, List, [], ◌++◌, length, take, drop, refl, sym, ◌∙◌, ap, arith}
+use Rattle.std.proofs.Common.{◌≡◌, ℕ, ◌-◌, false, List, [], ◌++◌, length, take, drop, sym, ◌∙◌, ap, arith}
 use Rattle.std.proofs.Common.{append_assoc, length-append, length-take}
-use Rattle.std.proofs.lemmas.List.{append-nil, take_at}
+use Rattle.std.proofs.lemmas.List.{append-nil}
 use Rattle.byteorder.specs.Endian.{big_number}
 use Rattle.byteorder.specs.Numbers.{big_from-append}
-use Rattle.sg_journal.specs.Layout.{body_size, counts, max_batch}
+use Rattle.sg_journal.specs.Layout.{body_size, counts}
 use Rattle.sg_journal.proofs.Written.{max_is}
 use Rattle.sg_journal.proofs.Absent.{no_body, too_long, cut_short, front_two}
 use Rattle.sg_journal.proofs.read.read_body.Goals as goal
@@ -34,7 +34,7 @@ returns-then-len-clause-read g c gate size =
       bytes = first;
       took = record { is = whole.0; rest = whole.1 };
       nothing = λ rest e.
-        too_long c.args.sector gate first rest size (omega arith) (omega (arith, is, max_is));
+          too_long c.args.sector gate first rest size (omega arith) (omega (arith, is, max_is));
     }
 
 pub returns-then-not-branch-2-clause-read : goal.returns-then-not-branch-2-clause-read
@@ -53,8 +53,8 @@ returns-then-not-branch-2-clause-read g c gate size =
         rest = omega (arith, ap g.F.Source.left none.0, whole.1);
       };
       nothing = λ rest e.
-        cut_short c.args.sector gate first rest size (omega arith)
-        (omega (arith, total, long, e, ap g.F.Source.left none.0, none.1, length-take (c.body_size-size.result - c.args.sector) c.split_at_mut-first.result.1.now));
+          cut_short c.args.sector gate first rest size (omega arith)
+          (omega (arith, total, long, e, ap g.F.Source.left none.0, none.1, length-take (c.body_size-size.result - c.args.sector) c.split_at_mut-first.result.1.now));
     }
 
 pub returns-clause-read : goal.returns-clause-read

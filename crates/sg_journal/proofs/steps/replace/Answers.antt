@@ -1,4 +1,4 @@
-use Rattle.std.proofs.Common.{ℕ, List, length}
+use Rattle.std.proofs.Common.{length}
 use Rattle.sg_journal.specs.Device.{Torn}
 use Rattle.sg_journal.specs.Journal.{IsPut}
 use Rattle.sg_journal.proofs.Moments.{called, goes_on}

@@ -1,4 +1,3 @@
-use Rattle.std.proofs.Common.{ℕ, List, length}
 use Rattle.sg_journal.specs.Device.{Cut}
 use Rattle.sg_journal.specs.Journal.{IsCut}
 use Rattle.sg_journal.proofs.Moments.{called, goes_on}

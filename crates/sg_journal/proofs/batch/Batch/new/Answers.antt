@@ -1,4 +1,4 @@
-use Rattle.std.proofs.Common.{◌≡◌, true, length, ◌≤◌, ◌+◌, ℕ, ◌∙◌, ap, arith}
+use Rattle.std.proofs.Common.{◌≡◌, length, ◌∙◌, ap, arith}
 use Rattle.sg_journal.specs.Layout.{is_sector_length}
 use Rattle.sg_journal.proofs.Heads.{sector_within}
 use Rattle.sg_journal.proofs.batch.Batch.new.Goals as goal

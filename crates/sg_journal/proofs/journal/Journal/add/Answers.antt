@@ -1,7 +1,7 @@
-use Rattle.std.proofs.Common.{◌≡◌, ⊎_elim, inl, inr, ℕ, ◌+◌, ◌-◌, ◌<◌, ◌≤◌, List, [], ◌∷◌, ◌++◌, length, take, drop, sym, ◌∙◌, ap, subst, arith}
+use Rattle.std.proofs.Common.{◌≡◌, ⊎_elim, inl, ℕ, ◌+◌, ◌<◌, ◌≤◌, List, [], ◌∷◌, ◌++◌, length, take, drop, sym, ◌∙◌, ap, subst, arith}
 use Rattle.sg_journal.specs.BatchValue.{BatchValue}
 use Rattle.sg_journal.specs.Layout.{open_gate, closed_gate, body, body_size, max_batch}
-use Rattle.sg_journal.specs.Journal.{found, IsBeforeOrAfter, IsPut}
+use Rattle.sg_journal.specs.Journal.{IsBeforeOrAfter, IsPut}
 use Rattle.sg_journal.specs.Standing.{HasTail, IsClosed}
 use Rattle.sg_journal.proofs.Buffers.{gate_is, body_is_sealed, held_length}
 use Rattle.sg_journal.proofs.Written.{length_gate, max_is}

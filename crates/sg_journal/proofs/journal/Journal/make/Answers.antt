@@ -1,10 +1,10 @@
-use Rattle.std.proofs.Common.{◌≡◌, ⊎_elim, inl, inr, ℕ, ◌+◌, ◌≤◌, List, [], ◌∷◌, ◌++◌, length, sym, ◌∙◌, ap, subst, arith}
+use Rattle.std.proofs.Common.{◌≡◌, ⊎_elim, inl, inr, ℕ, List, [], ◌∷◌, ◌++◌, sym, ◌∙◌, ap, subst, arith}
 use Rattle.std.specs.Prelude.{Ok}
 use Rattle.sg_journal.specs.BatchValue.{BatchValue}
 use Rattle.sg_journal.specs.Journal.{found, IsBeforeOrAfter}
 use Rattle.sg_journal.specs.Standing.{HasTail, IsUnmade, StandsFor}
 use Rattle.sg_journal.proofs.Heads.{sector_within}
-use Rattle.sg_journal.proofs.Moments.{weaker, then_leaves, on_ok_weaker}
+use Rattle.sg_journal.proofs.Moments.{then_leaves, on_ok_weaker}
 use Rattle.sg_journal.proofs.journal.Journal.make.Goals as goal
 
 pub rewrite-requires-clause-room : goal.rewrite-requires-clause-room

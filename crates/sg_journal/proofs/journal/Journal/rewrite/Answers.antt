@@ -57,8 +57,15 @@ returns-clause-added g c =
           (head_append j.sector old (open_gate j.sector ++ body j.sector b.records) drafted
           (b.records ∷ []) s.drafts front);
       length =
-          omega (arith, ap length all, length-append old (open_gate j.sector ++ body j.sector b.records),
-          length-append (open_gate j.sector) (body j.sector b.records), length_gate j.sector 1 some,
-          length_body j.sector b.records, size, s.length);
+          omega (
+            arith,
+            ap length all,
+            length-append old (open_gate j.sector ++ body j.sector b.records),
+            length-append (open_gate j.sector) (body j.sector b.records),
+            length_gate j.sector 1 some,
+            length_body j.sector b.records,
+            size,
+            s.length,
+          );
     })
     c.draft_batch.ensures.draft

@@ -1,4 +1,4 @@
-use Rattle.std.proofs.Common.{◌≡◌, ℕ, List, ◌++◌, length, refl, sym, ◌∙◌, ap, subst, arith}
+use Rattle.std.proofs.Common.{◌≡◌, ℕ, List, ◌++◌, length, sym, ◌∙◌, ap, subst}
 use Rattle.sg_journal.specs.Device.{Only}
 use Rattle.sg_journal.specs.Journal.{found}
 use Rattle.sg_journal.specs.Standing.{HasTail}
@@ -23,3 +23,13 @@ returns-in-Ok-clause-stands g c bs h =
           (subst (λ t. HasTail t r.sector r.end (taken ++ more.more) bs) (sym c.unwrap_or.ensures) tail);
       durable = subst (λ (l : List ℕ). Only l (g.F.Device.Device.may_leave d)) (sym c.into_device.ensures.seen) c.into_device.ensures.durable;
     }
+
+pub returns-in-Ok-clause-found : goal.returns-in-Ok-clause-found
+returns-in-Ok-clause-found g c bs h =
+    let r = c.args.self in
+    let taken = g.F.Source.taken r.source in
+    let left = g.F.Source.left r.source in
+    let more = c.in-Ok.ensures.taken in
+    let size : length more.more ≡ left = more.size ∙ c.left-left.ensures in
+    ap found (c.into_device.ensures.opening ∙ more.is)
+    ∙ ended_found r.ended taken more.more left r.sector r.end bs c.requires.ended size h.place

@@ -1,4 +1,4 @@
-use Rattle.std.proofs.Common.{◌≡◌, ℕ, ◌≤◌, sym, subst, arith}
+use Rattle.std.proofs.Common.{subst}
 use Rattle.sg_journal.specs.Reads.{IsWithin}
 use Rattle.sg_journal.proofs.Buffers.{still_buffer}
 use Rattle.sg_journal.proofs.reader.Reader.next.Goals as goal

@@ -1,5 +1,4 @@
-use Rattle.std.proofs.Common.{◌≡◌, ℕ, ◌+◌, ◌<◌, ◌^◌, List, [], ◌++◌, length, refl, sym, ◌∙◌, ap, subst, arith}
-use Rattle.std.specs.Prelude.{Some, None}
+use Rattle.std.proofs.Common.{◌≡◌, ℕ, [], length, refl, sym, ◌∙◌, ap, subst, arith}
 use Rattle.sg_journal.specs.Reads.{IsFirstRead, TookFirst}
 use Rattle.sg_journal.proofs.Heads.{new_sector}
 use Rattle.sg_journal.proofs.reader.Reader.open.Goals as goal
