@@ -15,7 +15,7 @@ use Rattle.sg_journal.proofs.Written.{length_gate, first_of_gate, length_body, f
 
 -- ---- A closed gate
 
-closed_first : (sector : ℕ) → get_or (closed_gate sector) 0 0 ≢ 1
+pub closed_first : (sector : ℕ) → get_or (closed_gate sector) 0 0 ≢ 1
 closed_first sector one =
     let e : 0 ≡ 1 = sym (first_of_gate sector 0) ∙ one in
     omega (arith, e)

@@ -10,3 +10,4 @@ mod Ends
 mod Absent
 mod Blocks
 mod Openings
+mod Whole

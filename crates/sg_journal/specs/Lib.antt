@@ -5,6 +5,7 @@ pub mod Device
 pub mod BatchValue
 pub mod Standing
 pub mod Reading
+pub mod Laws
 -- What only the types' own files cite.
 pub mod Batch
 pub mod Reads

@@ -7,6 +7,7 @@ mod checksum;
 mod device;
 mod fault;
 mod journal;
+pub mod laws;
 mod layout;
 mod memory;
 mod read;
@@ -14,6 +15,8 @@ mod reader;
 mod record;
 mod source;
 mod steps;
+#[cfg(test)]
+mod tests;
 mod writes;
 
 pub use batch::Batch;
