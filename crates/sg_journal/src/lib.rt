@@ -15,8 +15,6 @@ mod reader;
 mod record;
 mod source;
 mod steps;
-#[cfg(test)]
-mod tests;
 mod writes;
 
 pub use batch::Batch;

@@ -1,0 +1,55 @@
+// Files that are written and read again.
+use crate::files::{file_of_one_batch, opened};
+use std::test::Fail;
+
+#[test]
+fn a_file_is_made_by_the_first_flush(rt: HostRuntime) -> Result<(), Fail> {
+    let alloc = rt.alloc();
+    let (mut journal, mut batch) = opened(alloc, Vec::new(alloc))?;
+    batch.clear();
+    batch.push(&[7, 8]);
+    journal.flush(&mut batch)?;
+    let file = journal.device.bytes();
+    assert_eq!(rt; file.len(), 4 * 4096);
+    assert!(rt; file.starts_with(b"MEHDDISK\0\0\0\x01\0\0\x10\0\0"));
+    assert!(rt; file.get(4096..4098) == Some([1, 0].as_slice()));
+    let body = [0, 0, 0, 0, 0, 0, 0, 2, 0, 0, 0, 22, 0, 0, 0, 15, 7, 8, 0];
+    assert!(rt; file.get(8192..8211) == Some(body.as_slice()));
+    assert_eq!(rt; file.get(3 * 4096), Some(&0));
+    let (journal, batch) = opened(alloc, file.to_vec(alloc)?)?;
+    assert!(rt; batch.records() == [7, 8].as_slice());
+    assert_eq!(rt; journal.end, 3 * 4096);
+    Ok(())
+}
+
+#[test]
+fn a_torn_end_is_repaired_by_the_first_flush(rt: HostRuntime) -> Result<(), Fail> {
+    let alloc = rt.alloc();
+    let mut file = file_of_one_batch(alloc)?;
+    file[1536] = 1;
+    let (mut journal, mut batch) = opened(alloc, file)?;
+    batch.clear();
+    batch.push(&[7, 9]);
+    journal.flush(&mut batch)?;
+    let file = journal.device.bytes();
+    assert_eq!(rt; file.len(), 3072);
+    let (journal, batch) = opened(alloc, file.to_vec(alloc)?)?;
+    assert!(rt; batch.records() == [7, 9].as_slice());
+    assert_eq!(rt; journal.end, 2560);
+    Ok(())
+}
+
+#[test]
+fn a_file_is_written_afresh(rt: HostRuntime) -> Result<(), Fail> {
+    let alloc = rt.alloc();
+    let (mut journal, mut batch) = opened(alloc, file_of_one_batch(alloc)?)?;
+    batch.clear();
+    batch.push(&[5]);
+    journal.begin_rewrite(&mut batch)?;
+    journal.rewrite(&mut batch)?;
+    journal.finish_rewrite(&mut batch)?;
+    let (journal, batch) = opened(alloc, journal.device.bytes().to_vec(alloc)?)?;
+    assert!(rt; batch.records() == [5].as_slice());
+    assert_eq!(rt; journal.end, 1536);
+    Ok(())
+}
