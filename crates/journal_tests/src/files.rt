@@ -1,15 +1,15 @@
 // A file that was laid out by hand from the description of the format, and its end.
-ghost use Rattle.std.specs.Prelude.{◌≡◌, ◌≤◌, ◌^◌, ℕ, List, IfOk, OnOk, IsSome, vec_len};
+ghost use Rattle.std.specs.Prelude.{◌≡◌, ◌≤◌, ◌^◌, ℕ, List, IfOk, OnOk, vec_len};
 ghost use Rattle.sg_journal.specs.MemoryBytes.{source_left, source_taken};
-ghost use Rattle.sg_journal.specs.Reading.{HasFound};
-ghost use Rattle.sg_journal.specs.Standing.{StandsFor};
+ghost use Rattle.sg_journal.specs.Reading.{HasEnded, HasFound};
+ghost use Rattle.sg_journal.specs.JournalState.{HasBatches};
 
 use sg_journal::{Batch, Device, Journal, Memory, MemorySource, OpenError, Reader};
 use std::alloc::{AllocError, Global};
 use std::test::Fail;
 
-/// A file with sectors of 512 bytes: one batch, whose records are the bytes 7 and 8, and a gate. The
-/// sum of the records is 15, and the sum of the sums of their prefixes is 22.
+/// A file with sectors of 512 bytes. It has one batch, whose records are the bytes 7 and 8, and a
+/// gate. The sum of the records is 15, and the sum of the sums of their prefixes is 22.
 pub(crate) fn file_of_one_batch(alloc: Global) -> Result<Vec<u8>, AllocError>
     ensures { IfOk result (λ file. vec_len file ≡ 2048) }
 {
@@ -28,7 +28,7 @@ pub(crate) fn file_of_one_batch(alloc: Global) -> Result<Vec<u8>, AllocError>
 fn read_all(reader: &mut Reader<MemorySource>, batch: &mut Batch) -> Result<(), OpenError>
     requires found { (bs : List (List ℕ)) × HasFound source_taken source_left reader.old bs }
     requires sector { batch.old.sector ≡ reader.old.sector }
-    ensures ended { OnOk result (IsSome reader.new.ended) }
+    ensures ended { OnOk result (HasEnded reader.new) }
     ensures found { OnOk result ((bs : List (List ℕ)) ×
         HasFound source_taken source_left reader.new bs) }
     ensures sector { batch.new.sector ≡ reader.new.sector }
@@ -42,8 +42,8 @@ fn read_all(reader: &mut Reader<MemorySource>, batch: &mut Batch) -> Result<(), 
 
 /// Reads a file to its end. Returns its journal, and its last batch.
 pub(crate) fn opened(alloc: Global, bytes: Vec<u8>) -> Result<(Journal<Memory>, Batch), Fail>
-    ensures stands { IfOk result (λ r. (bs : List (List ℕ)) ×
-        StandsFor ⟦<Memory as Device>⟧.seen ⟦<Memory as Device>⟧.may_leave r.0 bs) }
+    ensures batches { IfOk result (λ r. (bs : List (List ℕ)) ×
+        HasBatches ⟦<Memory as Device>⟧.seen ⟦<Memory as Device>⟧.may_leave r.0 bs) }
     ensures sector { IfOk result (λ r. r.1.sector ≡ r.0.sector) }
     ensures end { IfOk result (λ r. r.0.end ≤ 2 ^ 62) }
 {

@@ -18,7 +18,8 @@ pub no_body : (sector : ℕ) (bytes : List ℕ) → 0 < sector → length bytes 
     → counts sector bytes ≡ false
 no_body sector bytes some short =
     refuted sector bytes
-    (λ c. let least = body_some sector (length_in sector bytes) some in omega (arith, c.whole, least))
+    (λ c. let least = body_some sector (length_in sector bytes) some in
+    omega (arith, c.whole, least))
 
 pub too_long : (sector : ℕ) (g bytes rest : List ℕ) → length g ≡ sector → 8 ≤ length bytes
     → max_batch < big_number 8 bytes → counts sector (g ++ (bytes ++ rest)) ≡ false
@@ -32,7 +33,15 @@ pub cut_short : (sector : ℕ) (g bytes rest : List ℕ) → length g ≡ sector
 cut_short sector g bytes rest size long short =
     refuted sector (g ++ (bytes ++ rest)) (λ c.
     let e = ap (body_size sector) (length_read sector g bytes rest size long) in
-    omega (arith, c.whole, e, short, length-append g (bytes ++ rest), length-append bytes rest, size))
+    omega (
+      arith,
+      c.whole,
+      e,
+      short,
+      length-append g (bytes ++ rest),
+      length-append bytes rest,
+      size,
+    ))
 
 -- ---- Two reads in a row
 

@@ -32,7 +32,8 @@ put_none at n old within = record {
   is = three at n old;
 }
 
-pub torn_put : (at n : ℕ) (old c : List ℕ) → at + n ≤ length old → Torn at n old c → IsPut at n old c
+pub torn_put : (at n : ℕ) (old c : List ℕ) → at + n ≤ length old → Torn at n old c
+    → IsPut at n old c
 torn_put at n old c within torn = record {
   bytes = take n (drop at c);
   size = omega (arith, length-take n (drop at c), length-drop at c, torn.no_shorter);
@@ -44,7 +45,12 @@ torn_put at n old c within torn = record {
 
 pub cut_none : (n : ℕ) (old : List ℕ) → n ≤ length old → IsCut n old old
 cut_none n old within =
-    record { left = length old; no_less = within; is = sym (take_all (length old) old (omega arith)) }
+    record {
+      left = length old;
+      no_less = within;
+      is =
+          sym (take_all (length old) old (omega arith));
+    }
 
 pub cut_is : (n : ℕ) (old c : List ℕ) → Cut n old c → IsCut n old c
 cut_is n old c cut = record { left = length c; no_less = cut.no_shorter; is = sym cut.front }

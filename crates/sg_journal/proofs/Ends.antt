@@ -8,7 +8,7 @@ use Rattle.std.proofs.lemmas.Bool.{cases_eq}
 use Rattle.std.proofs.lemmas.List.{take_at, drop_at, get_or_append_left}
 use Rattle.sg_journal.specs.Layout.{closed_gate, open_gate, body, body_size, counts, max_batch}
 use Rattle.sg_journal.specs.Journal.{found, IsHead, IsGrown, IsPut, IsCut, IsBeforeOrAfter}
-use Rattle.sg_journal.specs.Standing.{IsTorn, IsClosed}
+use Rattle.sg_journal.specs.JournalState.{IsTorn, IsClosed}
 use Rattle.sg_journal.proofs.Fields.{shut, short, none_in_prefix}
 use Rattle.sg_journal.proofs.Batches.{head_append, head_ends}
 use Rattle.sg_journal.proofs.Written.{length_gate, first_of_gate, length_body, front_written}
@@ -33,7 +33,8 @@ closed_ends sector head bs whole =
     (shut sector (closed_gate sector) (closed_first sector))
 
 pub is_closed : (sector end : ℕ) (file head : List ℕ) (bs : List (List ℕ)) → IsHead sector head bs
-    → file ≡ head ++ closed_gate sector → end ≡ length head → 0 < sector → IsClosed sector end file bs
+    → file ≡ head ++ closed_gate sector → end ≡ length head → 0 < sector
+    → IsClosed sector end file bs
 is_closed sector end file head bs whole is place some = record {
   head = head;
   gate = closed_gate sector;
@@ -51,7 +52,8 @@ module _ (sector end : ℕ) (file : List ℕ) (bs : List (List ℕ)) (h : IsClos
   -- in each outcome of the first write, the closed gate stands
   pub grown_behind : (n : ℕ) (c : List ℕ) → IsGrown n file c → found c ≡ Ok bs
   grown_behind n c grown =
-      ap found (grown.is ∙ ap (λ (l : List ℕ). l ++ grown.more) h.is ∙ append_assoc h.head h.gate grown.more)
+      ap found (grown.is ∙ ap (λ (l : List ℕ). l ++ grown.more) h.is
+      ∙ append_assoc h.head h.gate grown.more)
       ∙ head_ends sector h.head (h.gate ++ grown.more) bs h.whole
       (shut_behind sector h.gate grown.more h.size some h.closed)
 
@@ -59,14 +61,19 @@ module _ (sector end : ℕ) (file : List ℕ) (bs : List (List ℕ)) (h : IsClos
     abbrev pub image : List ℕ
     image = body sector records ++ closed_gate sector
 
-    pub with_gate : (g : List ℕ) → take end (file ++ image) ++ g ++ drop (end + sector) (file ++ image) ≡ h.head ++ (g ++ image)
+    pub with_gate : (g : List ℕ) → take end (file ++ image) ++ g ++ drop (end + sector)
+        (file ++ image) ≡ h.head ++ (g ++ image)
     with_gate g =
-        let full : file ++ image ≡ h.head ++ (h.gate ++ image) = ap (λ (l : List ℕ). l ++ image) h.is ∙ append_assoc h.head h.gate image in
-        let front : take end (file ++ image) ≡ h.head = ap (take end) full ∙ take_at h.head (h.gate ++ image) end (sym h.place) in
-        let two : file ++ image ≡ (h.head ++ h.gate) ++ image = ap (λ (l : List ℕ). l ++ image) h.is in
+        let full : file ++ image ≡ h.head ++ (h.gate ++ image) =
+        ap (λ (l : List ℕ). l ++ image) h.is ∙ append_assoc h.head h.gate image in
+        let front : take end (file ++ image) ≡ h.head = ap (take end) full
+        ∙ take_at h.head (h.gate ++ image) end (sym h.place) in
+        let two : file ++ image ≡ (h.head ++ h.gate) ++ image =
+        ap (λ (l : List ℕ). l ++ image) h.is in
         let back : drop (end + sector) (file ++ image) ≡ image =
         ap (drop (end + sector)) two
-        ∙ drop_at (h.head ++ h.gate) image (end + sector) (omega (arith, length-append h.head h.gate, h.place, h.size)) in
+        ∙ drop_at (h.head ++ h.gate) image (end + sector)
+        (omega (arith, length-append h.head h.gate, h.place, h.size)) in
         ap (λ (l : List ℕ). l ++ g ++ drop (end + sector) (file ++ image)) front
         ∙ ap (λ (l : List ℕ). h.head ++ g ++ l) back ∙ append_assoc h.head g image
 
@@ -77,9 +84,11 @@ module _ (sector end : ℕ) (file : List ℕ) (bs : List (List ℕ)) (h : IsClos
           head_append sector h.head (g ++ body sector records) bs (records ∷ []) h.whole
           (front_written sector g records size within some is_open)
 
-      pub all_added : h.head ++ (g ++ image) ≡ (h.head ++ (g ++ body sector records)) ++ closed_gate sector
+      pub all_added : h.head ++ (g ++ image) ≡ (h.head ++ (g ++ body sector records)) ++ closed_gate
+          sector
       all_added =
-          ap (λ (l : List ℕ). h.head ++ l) (sym (append_assoc g (body sector records) (closed_gate sector)))
+          ap (λ (l : List ℕ). h.head ++ l)
+          (sym (append_assoc g (body sector records) (closed_gate sector)))
           ∙ sym (append_assoc h.head (g ++ body sector records) (closed_gate sector))
 
     -- in each outcome of the second write, the batch stands whole
@@ -96,13 +105,16 @@ module _ (sector end : ℕ) (file : List ℕ) (bs : List (List ℕ)) (h : IsClos
     ]
 
     -- and after it, the new batch is acknowledged
-    pub added : (new : List ℕ) → new ≡ take end (file ++ image) ++ open_gate sector ++ drop (end + sector) (file ++ image)
-        → IsClosed sector (end + (body_size sector (length records) + sector)) new (bs ++ records ∷ [])
+    pub added : (new : List ℕ) → new ≡ take end (file ++ image) ++ open_gate sector ++ drop
+        (end + sector) (file ++ image)
+        → IsClosed sector (end + (body_size sector (length records) + sector)) new
+        (bs ++ records ∷ [])
     added new is =
         let g = open_gate sector in
         let size = length_gate sector 1 some in
         is_closed sector (end + (body_size sector (length records) + sector)) new
-        (h.head ++ (g ++ body sector records)) (bs ++ records ∷ []) (head_added g size (first_of_gate sector 1))
+        (h.head ++ (g ++ body sector records)) (bs ++ records ∷ [])
+        (head_added g size (first_of_gate sector 1))
         (is ∙ with_gate g ∙ all_added g size (first_of_gate sector 1))
         (omega (
           arith,
@@ -113,7 +125,8 @@ module _ (sector end : ℕ) (file : List ℕ) (bs : List (List ℕ)) (h : IsClos
           h.place,
         )) some
 
-    pub added_found : (new : List ℕ) → new ≡ take end (file ++ image) ++ open_gate sector ++ drop (end + sector) (file ++ image)
+    pub added_found : (new : List ℕ)
+        → new ≡ take end (file ++ image) ++ open_gate sector ++ drop (end + sector) (file ++ image)
         → found new ≡ Ok (bs ++ records ∷ [])
     added_found new is =
         let g = open_gate sector in
@@ -135,19 +148,24 @@ module _ (sector end : ℕ) (file : List ℕ) (bs : List (List ℕ)) (h : IsTorn
       let left : cut.left ≡ length h.head + k = omega (arith, cut.no_less, h.place) in
       ap found (cut.is ∙ ap (take cut.left) h.is ∙ ap (λ (n : ℕ). take n (h.head ++ h.rest)) left
       ∙ take-append-add h.head h.rest k)
-      ∙ head_ends sector h.head (take k h.rest) bs h.whole (none_in_prefix sector h.rest k h.nothing)
+      ∙ head_ends sector h.head (take k h.rest) bs h.whole
+      (none_in_prefix sector h.rest k h.nothing)
 
   pub grown_keeps : (c : List ℕ) → IsGrown sector (take end file) c → found c ≡ Ok bs
   grown_keeps c grown =
       ap found (grown.is ∙ ap (λ (l : List ℕ). l ++ grown.more) front)
       ∙ head_ends sector h.head grown.more bs h.whole (short sector grown.more grown.short)
 
-  pub repaired : (new : List ℕ) → new ≡ take end file ++ closed_gate sector → IsClosed sector end new bs
+  pub repaired : (new : List ℕ) → new ≡ take end file ++ closed_gate sector
+      → IsClosed sector end new bs
   repaired new is =
-      is_closed sector end new h.head bs h.whole (is ∙ ap (λ (l : List ℕ). l ++ closed_gate sector) front) h.place some
+      is_closed sector end new h.head bs h.whole (is
+      ∙ ap (λ (l : List ℕ). l ++ closed_gate sector) front) h.place some
 
-  pub repaired_found : (new : List ℕ) → new ≡ take end file ++ closed_gate sector → found new ≡ Ok bs
-  repaired_found new is = ap found (is ∙ ap (λ (l : List ℕ). l ++ closed_gate sector) front) ∙ closed_ends sector h.head bs h.whole
+  pub repaired_found : (new : List ℕ) → new ≡ take end file ++ closed_gate sector
+      → found new ≡ Ok bs
+  repaired_found new is = ap found (is ∙ ap (λ (l : List ℕ). l ++ closed_gate sector) front)
+      ∙ closed_ends sector h.head bs h.whole
 
   pub within_file : end ≤ length file
   within_file = omega (arith, ap length h.is, length-append h.head h.rest, h.place)

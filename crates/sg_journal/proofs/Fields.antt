@@ -1,13 +1,16 @@
 -- The fields of a batch, whatever stands behind it.
-use Rattle.std.proofs.Common.{◌≡◌, ◌≢◌, inl, inr, ℕ, ◌+◌, ◌-◌, ◌%◌, ◌≤◌, ◌<◌, Bool, true, false, ◌&&◌}
+use Rattle.std.proofs.Common.{◌≡◌, ◌≢◌, inl, inr, ℕ, ◌+◌, ◌-◌, ◌%◌, ◌≤◌, ◌<◌, Bool, true, false}
+use Rattle.std.proofs.Common.{◌&&◌}
 use Rattle.std.proofs.Common.{eqb, List, ◌++◌, length, get_or, take, drop}
 use Rattle.std.proofs.Common.{refl, sym, ◌∙◌, ap, subst, arith, length-append, length-drop}
 use Rattle.std.proofs.Common.{take-append-drop}
 use Rattle.std.proofs.Math.Nat.{mod-eq_of_lt}
-use Rattle.std.proofs.lemmas.Bool.{cases_Bool, cases_lt, false≢true, eqb-true, leb-true, eq-eqb, le-leb}
+use Rattle.std.proofs.lemmas.Bool.{cases_Bool, cases_lt, false≢true, eqb-true, leb-true, eq-eqb}
+use Rattle.std.proofs.lemmas.Bool.{le-leb}
 use Rattle.std.proofs.lemmas.List.{drop-append-le, take-append-le, get_or_append_left}
 use Rattle.byteorder.specs.Numbers.{big_from-append}
-use Rattle.sg_journal.specs.Layout.{body_size, max_batch, length_in, checksum_in, records_in, size_in}
+use Rattle.sg_journal.specs.Layout.{body_size, max_batch, length_in, checksum_in, records_in}
+use Rattle.sg_journal.specs.Layout.{size_in}
 use Rattle.sg_journal.specs.Layout.{counts, is_sound, checksum}
 
 -- ---- The length of a body
@@ -33,6 +36,8 @@ body_some sector count some = elim (cases_lt (count + 16) sector) [
       omega (arith, e)
   | inr large ↦ omega arith
 ]
+
+pub ruleset body_sizes = (body_fits, body_below, body_some)
 
 -- ---- The test whether a batch counts
 
@@ -65,7 +70,8 @@ has_from sector bytes c =
     (both_from _ _ (le-leb (length_in sector bytes) max_batch c.within)
     (le-leb (size_in sector bytes) (length bytes) c.whole))
 
-pub refuted : (sector : ℕ) (bytes : List ℕ) → (Counts sector bytes → ⊥) → counts sector bytes ≡ false
+pub refuted : (sector : ℕ) (bytes : List ℕ) → (Counts sector bytes → ⊥)
+    → counts sector bytes ≡ false
 refuted sector bytes none = elim (cases_Bool (counts sector bytes)) [
   | inl here ↦ absurd (none (has sector bytes here))
   | inr gone ↦ gone

@@ -1,9 +1,11 @@
 -- What is written of a batch reads back as the batch.
 use Rattle.std.proofs.Common.{◌≡◌, ℕ, ◌+◌, ◌-◌, ◌^◌, ◌≤◌, ◌<◌, true, List, [], ◌∷◌, ◌++◌}
-use Rattle.std.proofs.Common.{length, get_or, take, drop, replicate, refl, sym, ◌∙◌, ap, subst, arith}
+use Rattle.std.proofs.Common.{length, get_or, take, drop, replicate, refl, sym, ◌∙◌, ap, subst}
+use Rattle.std.proofs.Common.{arith}
 use Rattle.std.proofs.Common.{append_assoc, length-append}
 use Rattle.std.proofs.lemmas.Bool.{eq-eqb}
-use Rattle.std.proofs.lemmas.List.{take_at, drop_at, get_or_append_left, drop-drop, length-replicate}
+use Rattle.std.proofs.lemmas.List.{take_at, drop_at, get_or_append_left, drop-drop}
+use Rattle.std.proofs.lemmas.List.{length-replicate}
 use Rattle.byteorder.specs.Endian.{big_bytes, big_number}
 use Rattle.byteorder.specs.Numbers.{big_number-reads_back, length-bytes_high_first}
 use Rattle.sg_journal.specs.Layout.{gate, body, body_size, max_batch, checksum}
@@ -51,7 +53,8 @@ length_body sector records =
 
 -- ---- The fields of a sector and a body behind it
 
-module _ (sector : ℕ) (g records : List ℕ) (size : length g ≡ sector) (within : length records ≤ max_batch) where
+module _ (sector : ℕ) (g records : List ℕ) (size : length g ≡ sector) (within
+    : length records ≤ max_batch) where
   a : List ℕ
   a = big_bytes 8 (length records)
 
@@ -93,7 +96,8 @@ module _ (sector : ℕ) (g records : List ℕ) (size : length g ≡ sector) (wit
 
   behind_checksum : drop (sector + 16) (g ++ body sector records) ≡ records ++ z
   behind_checksum =
-      ap (λ (n : ℕ). drop n (g ++ body sector records)) (let e : sector + 16 ≡ sector + 8 + 8 = omega arith in e)
+      ap (λ (n : ℕ). drop n (g ++ body sector records)) (let e : sector + 16 ≡ sector + 8 + 8 =
+      omega arith in e)
       ∙ sym (drop-drop 8 (sector + 8) (g ++ body sector records)) ∙ ap (drop 8) behind_length
       ∙ drop_at b (records ++ z) 8 long_b
 

@@ -5,11 +5,11 @@ use Rattle.sg_journal.specs.declared.batch.Batch.TheInside.{Inside}
 use Rattle.sg_journal.specs.BatchValue.{BatchValue}
 use Rattle.sg_journal.specs.declared.layout.TheConstants.{MAX_BATCH}
 
--- The records stand behind the fields of a body.
+-- The records follow the fields of a body.
 abbrev pub batch_of : Inside → BatchValue
 batch_of b = record { sector = length b.gate.items; records = take b.len (drop 16 b.body.items) }
 
--- There is room for a gate, for a body with the most records, and for a closed gate behind it.
+-- There is room for a gate, for a body with the most records, and for a closed gate after it.
 pub record IsBuffer (b : Inside) : Type 0 where
   pub valid : is_sector_length (length b.gate.items) ≡ true
   pub least : 512 ≤ length b.gate.items

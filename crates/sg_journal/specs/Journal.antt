@@ -1,5 +1,6 @@
 -- What a file stands for, whatever a crash made of it.
-use Rattle.std.specs.Prelude.{◌≡◌, ℕ, zero, suc, ◌+◌, ◌≤◌, nat_lt, List, [], ◌∷◌, ◌++◌, length, take, drop}
+use Rattle.std.specs.Prelude.{◌≡◌, ℕ, zero, suc, ◌+◌, ◌≤◌, nat_lt, List, [], ◌∷◌, ◌++◌, length}
+use Rattle.std.specs.Prelude.{take, drop}
 use Rattle.std.specs.Prelude.{Result, Ok, Err, if◌then◌else◌, ◌==◌, ◌⊎◌}
 use Rattle.sg_journal.specs.Layout.{sector_of, counts, is_sound, records_in, size_in}
 use Rattle.sg_journal.specs.declared.fault.Fault.{Fault}
@@ -29,7 +30,7 @@ batches_by (suc most) sector offset bytes =
 unfoldable pub batches : (sector offset : ℕ) → List ℕ → Found
 batches sector offset bytes = batches_by (length bytes) sector offset bytes
 
--- The batches behind the first sector of this length.
+-- The batches after a first sector of this length.
 abbrev pub found_behind : List ℕ → Result ℕ Fault → Found
 found_behind file (Err fault) = Err fault
 found_behind file (Ok sector) =
@@ -42,17 +43,17 @@ found file =
     if length file == 0 then Ok []
     else found_behind file (sector_of (take 16 file))
 
--- These bytes are a first sector and whole batches, whatever stands behind them.
+-- These bytes are a first sector and whole batches, whatever follows them.
 pub record IsHead (sector : ℕ) (head : List ℕ) (bs : List (List ℕ)) : Type 0 where
   pub stands : (rest : List ℕ) → found (head ++ rest) ≡ after bs (batches sector (length head) rest)
 
--- The file stands for the batches, with one more or without it.
+-- The file has these batches, or one more.
 abbrev pub IsBeforeOrAfter : (bs : List (List ℕ)) → (batch : List ℕ) → (file : List ℕ) → Type 0
 IsBeforeOrAfter bs batch file = (found file ≡ Ok bs) ⊎ (found file ≡ Ok (bs ++ batch ∷ []))
 
 -- ---- Cited only by private contracts
 
--- Some bytes were added at the end, at most so many.
+-- At most this number of bytes was added at the end.
 pub record IsGrown (most : ℕ) (old new : List ℕ) : Type 0 where
   pub more : List ℕ
   pub is : new ≡ old ++ more

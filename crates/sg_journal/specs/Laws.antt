@@ -1,7 +1,8 @@
 -- Laws of the format.
 use Rattle.std.specs.Prelude.{◌≡◌, ◌<◌, ◌≤◌, ℕ, List, [], ◌++◌, length, take, true, false, Ok, Err}
 use Rattle.std.specs.List.{All, flat_map}
-use Rattle.sg_journal.specs.Layout.{first_sector, whole_batch, closed_gate, counts, is_sector_length}
+use Rattle.sg_journal.specs.Layout.{first_sector, whole_batch, closed_gate, counts}
+use Rattle.sg_journal.specs.Layout.{is_sector_length}
 use Rattle.sg_journal.specs.Layout.{is_sound, max_batch}
 use Rattle.sg_journal.specs.Journal.{found}
 use Rattle.sg_journal.specs.declared.fault.Fault.TheVariants.{Damaged}

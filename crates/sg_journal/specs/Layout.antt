@@ -1,5 +1,6 @@
 -- The format of a file: a first sector, then batches, then a closed gate. Numbers are big-endian.
-use Rattle.std.specs.Prelude.{ℕ, ◌+◌, ◌-◌, ◌*◌, ◌%◌, ◌^◌, Bool, ◌&&◌, ◌||◌, not, nat_eq, nat_le, nat_lt}
+use Rattle.std.specs.Prelude.{ℕ, ◌+◌, ◌-◌, ◌*◌, ◌%◌, ◌^◌, Bool, ◌&&◌, ◌||◌, not, nat_eq, nat_le}
+use Rattle.std.specs.Prelude.{nat_lt}
 use Rattle.std.specs.Prelude.{List, [], ◌∷◌, ◌++◌, length, take, drop, replicate, sum, slice_index}
 use Rattle.std.specs.Prelude.{Result, Ok, Err, if◌then◌else◌, ◌==◌}
 use Rattle.std.specs.Int.{is_power_of_two, next_multiple_of}
@@ -69,17 +70,17 @@ sum_of_sums (byte ∷ bytes) = byte * (length bytes + 1) + sum_of_sums bytes
 unfoldable pub checksum : (records : List ℕ) → ℕ
 checksum records = sum_of_sums records % 2 ^ 32 * 2 ^ 32 + sum records % 2 ^ 32
 
--- The length of a body whose records have so many bytes.
+-- The length of a body, by the length of its records.
 unfoldable pub body_size : (sector count : ℕ) → ℕ
 body_size sector count = next_multiple_of (count + 16) sector
 
--- The records behind their length and their checksum, and zeros up to whole sectors.
+-- The length of the records, their checksum, the records, and zeros up to whole sectors.
 unfoldable pub body : (sector : ℕ) → (records : List ℕ) → List ℕ
 body sector records =
     big_bytes 8 (length records) ++ big_bytes 8 (checksum records) ++ records
     ++ replicate (body_size sector (length records) - (length records + 16)) 0
 
--- An open gate, and the body behind it.
+-- An open gate, and a body.
 abbrev pub whole_batch : (sector : ℕ) → (records : List ℕ) → List ℕ
 whole_batch sector records = open_gate sector ++ body sector records
 

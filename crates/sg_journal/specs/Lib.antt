@@ -3,7 +3,7 @@ pub mod Layout
 pub mod Journal
 pub mod Device
 pub mod BatchValue
-pub mod Standing
+pub mod JournalState
 pub mod Reading
 pub mod Laws
 -- What only the types' own files cite.

@@ -8,5 +8,6 @@ none_since : (log : List Event) (c : List ℕ) → HadSince log (length log) c �
 none_since [] c had = had
 none_since (e ∷ log) c had = omega (arith, had.0)
 
-pub only_now : (log : List Event) (bytes c : List ℕ) → LeftSince log bytes (length log) c → c ≡ bytes
+pub only_now : (log : List Event) (bytes c : List ℕ) → LeftSince log bytes (length log) c
+    → c ≡ bytes
 only_now log bytes c left = ⊎_elim (λ now. now) (λ had. absurd (none_since log c had)) left

@@ -1,9 +1,9 @@
 -- How far a file was read, and which batches were found on the way.
 use Rattle.std.specs.Prelude.{◌≡◌, ◌<◌, ◌≤◌, ℕ, ◌+◌, ◌^◌, List, ◌++◌, length, true, false}
-use Rattle.std.specs.Prelude.{Option, Some, None, Result, IsErrOf, Err}
+use Rattle.std.specs.Prelude.{Option, Some, None, IsSome, Result, IsErrOf, Err}
 use Rattle.sg_journal.specs.Layout.{counts, is_sector_length}
 use Rattle.sg_journal.specs.Journal.{found, IsHead}
-use Rattle.sg_journal.specs.Standing.{IsClosed, IsUnmade}
+use Rattle.sg_journal.specs.JournalState.{IsClosed, IsUnmade}
 use Rattle.sg_journal.specs.declared.fault.Fault.{Fault}
 use Rattle.sg_journal.specs.declared.reader.OpenError.{OpenError}
 use Rattle.sg_journal.specs.declared.reader.OpenError.TheVariants.{Device}
@@ -48,6 +48,10 @@ pub record HasFound {F D : Type 0} (taken : F → List ℕ) (left : F → ℕ) (
   pub total : length (taken reader.source) + left reader.source < 2 ^ 64
   pub place :
       IsPlace reader.ended (taken reader.source) (left reader.source) reader.sector reader.end bs
+
+-- The reader came to the end of the batches.
+abbrev pub HasEnded : {F D : Type 0} → Reader F D → Type 0
+HasEnded reader = IsSome reader.ended
 
 -- Whatever is still to be read, the file has this fault.
 abbrev pub IsFaulty : (taken : List ℕ) → (left : ℕ) → Fault → Type 0

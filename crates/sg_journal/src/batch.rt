@@ -1,5 +1,6 @@
 // The buffer in which a batch is built, written and read. All memory is taken when it is made.
-ghost use Rattle.std.specs.Prelude.{◌≡◌, ◌≤◌, ◌<◌, ◌+◌, ◌-◌, ◌*◌, ◌++◌, [], length, take, drop, replicate};
+ghost use Rattle.std.specs.Prelude.{◌≡◌, ◌≤◌, ◌<◌, ◌+◌, ◌-◌, ◌*◌, ◌++◌, [], length, take, drop};
+ghost use Rattle.std.specs.Prelude.{replicate};
 ghost use Rattle.std.specs.Prelude.{true, IfOk};
 ghost use Rattle.byteorder.specs.Endian.{big_bytes};
 ghost use Rattle.sg_journal.specs.Layout.{body, body_size, closed_gate, is_sector_length};
@@ -16,7 +17,7 @@ use std::marker::Model;
 pub struct Batch {
     /// One sector: a gate, or the first sector of a file.
     pub(crate) gate: Vec<u8>,
-    /// The body, and room for a closed gate behind it.
+    /// The body, and room for a closed gate after it.
     pub(crate) body: Vec<u8>,
     /// The length of the records.
     pub(crate) len: usize,
@@ -79,7 +80,7 @@ impl Batch {
         self.len += bytes.len();
     }
 
-    /// Drops all records behind the first `len` bytes.
+    /// Drops all but the first `len` bytes of the records.
     pub fn truncate(&mut self, len: usize)
         requires { len ≤ length self.old.records }
         ensures { self.new ≡ record self.old { records = take len self.old.records } }
@@ -98,7 +99,8 @@ impl Batch {
 /// Writes over the bytes from an offset on.
 fn put(buffer: &mut [u8], at: usize, bytes: &[u8])
     requires { at + length bytes.now ≤ length buffer.old }
-    ensures { buffer.new ≡ take at buffer.old ++ bytes.now ++ drop (at + length bytes.now) buffer.old }
+    ensures { buffer.new
+        ≡ take at buffer.old ++ bytes.now ++ drop (at + length bytes.now) buffer.old }
 {
     buffer[at..at + bytes.len()].copy_from_slice(bytes);
 }

@@ -1,6 +1,7 @@
 // A file as the journal sees it: what a crash at any moment may leave of it.
 ghost use Rattle.std.specs.Prelude.{◌≡◌, ◌≤◌, ℕ, List, [], ◌++◌, length, take, OnOk};
-ghost use Rattle.sg_journal.specs.Device.{Cut, Elapses, Follows, HasCause, Holds, NoMore, NoMoreBut};
+ghost use Rattle.sg_journal.specs.Device.{Cut, Elapses, Follows, HasCause, Holds, NoMore};
+ghost use Rattle.sg_journal.specs.Device.{NoMoreBut};
 ghost use Rattle.sg_journal.specs.Device.{Only, Torn};
 
 use thiserror::Error;
@@ -36,12 +37,13 @@ pub trait Device {
     /// The bytes of the draft.
     ghost draft: { Self → List ℕ };
 
-    /// Writes over the bytes from an offset on, and past the end. Until a sync, a crash may leave any
-    /// bytes in the range.
+    /// Writes over the bytes from an offset on, and past the end. Until a sync, a crash may leave
+    /// any bytes in the range.
     fn write_at(&mut self, at: u64, bytes: &[u8]) -> Result<(), DeviceError>
         requires { at ≤ length (seen self.old) }
         ensures written { OnOk result (Holds (seen self.old) at bytes.now (seen self.new)) }
-        ensures crash { Follows (Torn at (length bytes.now)) (may_leave self.old) (may_leave self.new) }
+        ensures crash { Follows (Torn at (length bytes.now))
+            (may_leave self.old) (may_leave self.new) }
         ensures time { Elapses (moment self.old) (moment self.new) (left_since self.old)
             (left_since self.new) (may_leave self.new) }
         ensures cause { HasCause (failures self.old) (failures self.new) result }
@@ -103,5 +105,6 @@ pub trait Device {
         left_since file t c };
 
     /// Since this moment there is no other.
-    ghost only_now: { (file : Self) (c : List ℕ) → left_since file (moment file) c → may_leave file c };
+    ghost only_now: { (file : Self) (c : List ℕ) → left_since file (moment file) c →
+        may_leave file c };
 }

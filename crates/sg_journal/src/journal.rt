@@ -1,10 +1,11 @@
 // A journal, which adds batches to the end of a file, or writes the file afresh.
-ghost use Rattle.std.specs.Prelude.{◌≡◌, ◌⊎◌, ◌≤◌, ◌<◌, ◌+◌, ◌*◌, ◌^◌, ◌++◌, [], ◌∷◌, ℕ, List, length};
+ghost use Rattle.std.specs.Prelude.{◌≡◌, ◌⊎◌, ◌≤◌, ◌<◌, ◌+◌, ◌*◌, ◌^◌, ◌++◌, [], ◌∷◌, ℕ, List};
+ghost use Rattle.std.specs.Prelude.{length};
 ghost use Rattle.std.specs.Prelude.{OnOk, Ok};
 ghost use Rattle.sg_journal.specs.Device.{HasCause, LeavesOnly};
 ghost use Rattle.sg_journal.specs.Journal.{found, IsBeforeOrAfter};
 ghost use Rattle.sg_journal.specs.Layout.{body_size};
-ghost use Rattle.sg_journal.specs.Standing.{Drafts, StandsFor};
+ghost use Rattle.sg_journal.specs.JournalState.{Drafts, HasBatches};
 ghost use Rattle.sg_journal.specs.declared.journal.Tail.TheVariants.{Unmade, Torn, Closed};
 
 use crate::batch::seal;
@@ -12,7 +13,7 @@ use crate::layout::{write_first_sector, write_gate};
 use crate::writes::{add_batch, begin_draft_with, close_and_exchange, cut_and_close, draft_batch};
 use crate::{Batch, Device, DeviceError};
 
-/// What stands behind the batches of a file.
+/// What follows the batches of a file.
 #[derive(Clone, Copy)]
 pub(crate) enum Tail {
     /// The file has no bytes: it was not made yet.
@@ -28,7 +29,8 @@ pub(crate) enum Tail {
 /// After an error of a call the journal is of no use: the file has to be opened again.
 #[derive(Drop)]
 pub struct Journal<D: Device> {
-    /// The file. A write to it that is not the journal's makes the journal stand for nothing.
+    /// The file. Only the journal may write to it: each contract requires that the file is as the
+    /// journal left it.
     pub device: D,
     /// The length of the file's sectors, in bytes.
     pub sector: usize,
@@ -48,20 +50,20 @@ impl<D: Device> Journal<D> {
     ///
     /// The device failed. The file has the batches from before, or the new one too.
     pub fn flush(&mut self, batch: &mut Batch) -> Result<(), DeviceError>
-        requires stands { (bs : List (List ℕ)) × StandsFor D.seen D.may_leave self.old bs }
+        requires batches { (bs : List (List ℕ)) × HasBatches D.seen D.may_leave self.old bs }
         requires sector { batch.old.sector ≡ self.old.sector }
         requires some { 0 < length batch.old.records }
         requires end { self.old.end ≤ 2 ^ 62 }
 
         ensures acknowledged { OnOk result ((bs : List (List ℕ)) →
-            StandsFor D.seen D.may_leave self.old bs →
-            StandsFor D.seen D.may_leave self.new (bs ++ batch.old.records ∷ [])) }
-        ensures end { OnOk result (self.new.end
-            ≤ self.old.end + 2 * self.old.sector + body_size self.old.sector (length batch.old.records)) }
+            HasBatches D.seen D.may_leave self.old bs →
+            HasBatches D.seen D.may_leave self.new (bs ++ batch.old.records ∷ [])) }
+        ensures end { OnOk result (self.new.end ≤ self.old.end + 2 * self.old.sector
+            + body_size self.old.sector (length batch.old.records)) }
 
         // A crash at any moment of the call leaves the batches from before it, with the new one or
         // without.
-        ensures any_moment { (bs : List (List ℕ)) → StandsFor D.seen D.may_leave self.old bs →
+        ensures any_moment { (bs : List (List ℕ)) → HasBatches D.seen D.may_leave self.old bs →
             LeavesOnly D.moment D.left_since self.old.device self.new.device
             (IsBeforeOrAfter bs batch.old.records) }
         ensures cause { HasCause (D.failures self.old.device) (D.failures self.new.device) result }
@@ -80,22 +82,25 @@ impl<D: Device> Journal<D> {
         }
     }
 
-    /// Begins to write the file afresh, in a draft beside it. The batch lends its memory.
+    /// Begins to write the file afresh, in a draft beside it. The call borrows the batch's memory,
+    /// and keeps its records.
     ///
     /// # Errors
     ///
     /// The device failed. The file is as it was.
     pub fn begin_rewrite(&mut self, batch: &mut Batch) -> Result<(), DeviceError>
-        requires stands { (bs : List (List ℕ)) × StandsFor D.seen D.may_leave self.old bs }
+        requires batches { (bs : List (List ℕ)) × HasBatches D.seen D.may_leave self.old bs }
         requires sector { batch.old.sector ≡ self.old.sector }
 
         ensures begun { OnOk result ((bs : List (List ℕ)) →
-            StandsFor D.seen D.may_leave self.old bs → Drafts D.seen D.may_leave D.draft self.new bs []) }
+            HasBatches D.seen D.may_leave self.old bs →
+            Drafts D.seen D.may_leave D.draft self.new bs []) }
         ensures drafted { self.new.drafted ≡ self.old.sector }
 
         // A crash at any moment of the call leaves the batches from before it.
-        ensures any_moment { (bs : List (List ℕ)) → StandsFor D.seen D.may_leave self.old bs →
-            LeavesOnly D.moment D.left_since self.old.device self.new.device (λ c. found c ≡ Ok bs) }
+        ensures any_moment { (bs : List (List ℕ)) → HasBatches D.seen D.may_leave self.old bs →
+            LeavesOnly D.moment D.left_since self.old.device self.new.device
+            (λ c. found c ≡ Ok bs) }
         ensures cause { HasCause (D.failures self.old.device) (D.failures self.new.device) result }
 
         ensures batch { batch.new ≡ batch.old }
@@ -128,7 +133,8 @@ impl<D: Device> Journal<D> {
         // A crash at any moment of the call leaves the batches from before the draft.
         ensures any_moment { (bs drafted : List (List ℕ)) →
             Drafts D.seen D.may_leave D.draft self.old bs drafted →
-            LeavesOnly D.moment D.left_since self.old.device self.new.device (λ c. found c ≡ Ok bs) }
+            LeavesOnly D.moment D.left_since self.old.device self.new.device
+            (λ c. found c ≡ Ok bs) }
         ensures cause { HasCause (D.failures self.old.device) (D.failures self.new.device) result }
 
         ensures batch { batch.new ≡ batch.old }
@@ -146,11 +152,13 @@ impl<D: Device> Journal<D> {
         )
     }
 
-    /// Puts the draft in the place of the file. The batch lends its memory.
+    /// Puts the draft in the place of the file. The call borrows the batch's memory, and keeps its
+    /// records.
     ///
     /// # Errors
     ///
-    /// The device failed. The file has the batches from before the draft, or those of the draft.
+    /// The device failed. The file has the batches from before the draft, or the batches of the
+    /// draft.
     pub fn finish_rewrite(&mut self, batch: &mut Batch) -> Result<(), DeviceError>
         requires drafts { (bs drafted : List (List ℕ)) ×
             Drafts D.seen D.may_leave D.draft self.old bs drafted }
@@ -158,10 +166,11 @@ impl<D: Device> Journal<D> {
 
         ensures exchanged { OnOk result ((bs drafted : List (List ℕ)) →
             Drafts D.seen D.may_leave D.draft self.old bs drafted →
-            StandsFor D.seen D.may_leave self.new drafted) }
+            HasBatches D.seen D.may_leave self.new drafted) }
         ensures end { self.new.end ≡ self.old.drafted }
 
-        // A crash at any moment of the call leaves the batches from before the draft, or the draft's.
+        // A crash at any moment of the call leaves the batches from before the draft, or the batches
+        // of the draft.
         ensures any_moment { (bs drafted : List (List ℕ)) →
             Drafts D.seen D.may_leave D.draft self.old bs drafted →
             LeavesOnly D.moment D.left_since self.old.device self.new.device
@@ -180,15 +189,15 @@ impl<D: Device> Journal<D> {
 
     /// Makes the file, with a first batch.
     fn make(&mut self, batch: &mut Batch) -> Result<(), DeviceError>
-        requires stands { (bs : List (List ℕ)) × StandsFor D.seen D.may_leave self.old bs }
+        requires batches { (bs : List (List ℕ)) × HasBatches D.seen D.may_leave self.old bs }
         requires sector { batch.old.sector ≡ self.old.sector }
         requires unmade { self.old.tail ≡ Unmade }
         ensures acknowledged { OnOk result ((bs : List (List ℕ)) →
-            StandsFor D.seen D.may_leave self.old bs →
-            StandsFor D.seen D.may_leave self.new (bs ++ batch.old.records ∷ [])) }
+            HasBatches D.seen D.may_leave self.old bs →
+            HasBatches D.seen D.may_leave self.new (bs ++ batch.old.records ∷ [])) }
         ensures end { OnOk result (self.new.end
             ≡ 2 * self.old.sector + body_size self.old.sector (length batch.old.records)) }
-        ensures any_moment { (bs : List (List ℕ)) → StandsFor D.seen D.may_leave self.old bs →
+        ensures any_moment { (bs : List (List ℕ)) → HasBatches D.seen D.may_leave self.old bs →
             LeavesOnly D.moment D.left_since self.old.device self.new.device
             (IsBeforeOrAfter bs batch.old.records) }
         ensures cause { HasCause (D.failures self.old.device) (D.failures self.new.device) result }
@@ -201,15 +210,16 @@ impl<D: Device> Journal<D> {
         self.finish_rewrite(batch)
     }
 
-    /// Cuts what no batch has off the end, and closes the gate there. The batch lends its memory.
+    /// Cuts off all bytes after the last batch, and writes a closed gate there.
     fn repair(&mut self, batch: &mut Batch) -> Result<(), DeviceError>
-        requires stands { (bs : List (List ℕ)) × StandsFor D.seen D.may_leave self.old bs }
+        requires batches { (bs : List (List ℕ)) × HasBatches D.seen D.may_leave self.old bs }
         requires sector { batch.old.sector ≡ self.old.sector }
         requires torn { self.old.tail ≡ Torn }
         ensures repaired { OnOk result ((bs : List (List ℕ)) →
-            StandsFor D.seen D.may_leave self.old bs → StandsFor D.seen D.may_leave self.new bs) }
-        ensures any_moment { (bs : List (List ℕ)) → StandsFor D.seen D.may_leave self.old bs →
-            LeavesOnly D.moment D.left_since self.old.device self.new.device (λ c. found c ≡ Ok bs) }
+            HasBatches D.seen D.may_leave self.old bs → HasBatches D.seen D.may_leave self.new bs) }
+        ensures any_moment { (bs : List (List ℕ)) → HasBatches D.seen D.may_leave self.old bs →
+            LeavesOnly D.moment D.left_since self.old.device self.new.device
+            (λ c. found c ≡ Ok bs) }
         ensures cause { HasCause (D.failures self.old.device) (D.failures self.new.device) result }
         ensures closed { self.new.tail ≡ Closed }
         ensures batch { batch.new ≡ batch.old }
@@ -222,18 +232,18 @@ impl<D: Device> Journal<D> {
         cut_and_close(&mut self.device, self.end, &batch.gate)
     }
 
-    /// Adds a batch behind a closed gate.
+    /// Writes a batch after a closed gate, and opens the gate.
     fn add(&mut self, batch: &mut Batch) -> Result<(), DeviceError>
-        requires stands { (bs : List (List ℕ)) × StandsFor D.seen D.may_leave self.old bs }
+        requires batches { (bs : List (List ℕ)) × HasBatches D.seen D.may_leave self.old bs }
         requires sector { batch.old.sector ≡ self.old.sector }
         requires closed { self.old.tail ≡ Closed }
         requires room { self.old.end ≤ 2 ^ 62 }
         ensures acknowledged { OnOk result ((bs : List (List ℕ)) →
-            StandsFor D.seen D.may_leave self.old bs →
-            StandsFor D.seen D.may_leave self.new (bs ++ batch.old.records ∷ [])) }
+            HasBatches D.seen D.may_leave self.old bs →
+            HasBatches D.seen D.may_leave self.new (bs ++ batch.old.records ∷ [])) }
         ensures end { self.new.end ≡ self.old.end + self.old.sector
             + body_size self.old.sector (length batch.old.records) }
-        ensures any_moment { (bs : List (List ℕ)) → StandsFor D.seen D.may_leave self.old bs →
+        ensures any_moment { (bs : List (List ℕ)) → HasBatches D.seen D.may_leave self.old bs →
             LeavesOnly D.moment D.left_since self.old.device self.new.device
             (IsBeforeOrAfter bs batch.old.records) }
         ensures cause { HasCause (D.failures self.old.device) (D.failures self.new.device) result }

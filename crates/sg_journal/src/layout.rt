@@ -52,7 +52,7 @@ pub(crate) fn sector_of(header: &[u8; HEADER_LENGTH]) -> Result<usize, Fault>
 }
 
 /// The length of a body whose records have `count` bytes: whole sectors.
-#[tactic(auto, using(crate::proofs::Fields::body_below, crate::proofs::Fields::body_fits, crate::proofs::Fields::body_some), unfolding(crate::specs::Layout::body_size))]
+#[tactic(auto, using(crate::proofs::Fields::body_sizes), unfolding(crate::specs::Layout::body_size))]
 pub(crate) fn body_size(sector: usize, count: usize) -> usize
     requires sector { (0 < sector) × (sector ≤ 65536) }
     requires count { count ≤ MAX_BATCH }
@@ -79,10 +79,11 @@ pub(crate) fn write_gate(sector: &mut [u8], first: u8)
 fn header(sector: u32) -> [u8; HEADER_LENGTH]
     ensures { result ≡ header sector }
 {
-    let [a, b, c, d] = FORMAT_VERSION.to_be_bytes();
-    let [e, f, g, h] = sector.to_be_bytes();
-    let [m, n, o, p, q, r, s, t] = MAGIC;
-    [m, n, o, p, q, r, s, t, a, b, c, d, e, f, g, h]
+    let mut header = [0; HEADER_LENGTH];
+    header[..8].copy_from_slice(&MAGIC);
+    header[8..12].copy_from_slice(&FORMAT_VERSION.to_be_bytes());
+    header[12..].copy_from_slice(&sector.to_be_bytes());
+    header
 }
 
 /// Makes a sector the first of a file.

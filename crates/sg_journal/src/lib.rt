@@ -1,5 +1,5 @@
-//! A journal in a file: batches of bytes. Each batch is whole on the disk before it is acknowledged,
-//! whenever a crash comes. This crate knows no commands and no blocks.
+//! A journal: a file of batches of bytes over a device that may crash at any moment. A batch that is
+//! acknowledged is whole on the disk. This crate knows no commands and no blocks.
 #![tactic(auto)]
 
 mod batch;

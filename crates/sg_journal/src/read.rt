@@ -1,12 +1,15 @@
 // The reads of a reader, over slices.
-ghost use Rattle.std.specs.Prelude.{◌≡◌, ◌≢◌, ◌≤◌, ◌<◌, ◌+◌, ◌*◌, ◌^◌, ◌++◌, [], ◌∷◌, ℕ, List, length, take, drop};
-ghost use Rattle.std.specs.Prelude.{true, false, IfOk, OnOk, IsTrue, IsFalse, slice_index, ◌==◌, IsErrOf, Ok};
+ghost use Rattle.std.specs.Prelude.{◌≡◌, ◌≢◌, ◌≤◌, ◌<◌, ◌+◌, ◌*◌, ◌^◌, ◌++◌, [], ◌∷◌, ℕ, List};
+ghost use Rattle.std.specs.Prelude.{length, take, drop};
+ghost use Rattle.std.specs.Prelude.{true, false, IfOk, OnOk, IsTrue, IsFalse, slice_index, ◌==◌};
+ghost use Rattle.std.specs.Prelude.{IsErrOf, Ok};
 ghost use Rattle.byteorder.specs.Endian.{big_number};
 ghost use Rattle.sg_journal.specs.Device.{HasCause};
 ghost use Rattle.sg_journal.specs.Layout.{checksum, sector_of};
 ghost use Rattle.sg_journal.specs.Journal.{IsHead};
 ghost use Rattle.sg_journal.specs.Reading.{IsFaulty, IsHonest};
-ghost use Rattle.sg_journal.specs.Reads.{TookMore, IsGateRead, IsBodyRead, IsFirstRead, IsNextRead, IsWithin, LeavesLess, Took};
+ghost use Rattle.sg_journal.specs.Reads.{TookMore, IsGateRead, IsBodyRead, IsFirstRead, IsNextRead};
+ghost use Rattle.sg_journal.specs.Reads.{IsWithin, LeavesLess, Took};
 ghost use Rattle.sg_journal.specs.declared.fault.Fault.{Fault};
 ghost use Rattle.sg_journal.specs.declared.reader.OpenError.TheVariants.{File};
 
@@ -18,7 +21,7 @@ use byteorder::{BigEndian, ByteOrder};
 
 /// What a reader comes to.
 pub(crate) enum Next {
-    /// A batch that counts, whose records have so many bytes.
+    /// A batch that counts, with the length of its records.
     Batch(usize),
     /// The end of the batches.
     End(Tail),
@@ -44,7 +47,8 @@ pub(crate) fn skip<F: Source>(source: &mut F, count: u64) -> Result<(), DeviceEr
 fn read_header<F: Source>(source: &mut F) -> Result<usize, OpenError>
     requires fresh { F.taken source.old ≡ [] }
     requires some { 0 < F.left source.old }
-    ensures header { IfOk result (λ sector. (header : List ℕ) × Took F.taken F.left source.old source.new header
+    ensures header { IfOk result (λ sector. (header : List ℕ) ×
+        Took F.taken F.left source.old source.new header
         × (length header ≡ 16) × (sector_of header ≡ Ok sector)) }
     ensures fault { (fault : Fault) → IsErrOf result (File fault) →
         IsFaulty (F.taken source.new) (F.left source.new) fault }
@@ -83,7 +87,7 @@ pub(crate) fn read_first_sector<F: Source>(source: &mut F) -> Result<Option<usiz
     Ok(Some(sector))
 }
 
-/// Reads into a slice if there are enough bytes for it, and else nothing.
+/// Fills a slice if enough bytes are left, and otherwise reads nothing.
 pub(crate) fn read_whole<F: Source>(source: &mut F, into: &mut [u8]) -> Result<bool, DeviceError>
     ensures whole { IfOk result (λ whole. IsTrue whole →
         (F.taken source.new ≡ F.taken source.old ++ into.new)
@@ -99,7 +103,7 @@ pub(crate) fn read_whole<F: Source>(source: &mut F, into: &mut [u8]) -> Result<b
     Ok(true)
 }
 
-/// Reads a gate. Returns nothing if it is open, and else what stands behind the batches.
+/// Reads a gate. Returns nothing if it is open, and otherwise what follows the batches.
 pub(crate) fn read_gate<F: Source>(
     source: &mut F,
     gate: &mut [u8],
@@ -121,8 +125,8 @@ pub(crate) fn read_gate<F: Source>(
     Ok(Some(Tail::Closed))
 }
 
-/// Reads a body behind an open gate. Returns the length of its records, or nothing if the batch does
-/// not count.
+/// Reads a body after an open gate. Returns the length of its records, or nothing if the batch
+/// does not count.
 pub(crate) fn read_body<F: Source>(
     source: &mut F,
     sector: usize,
@@ -149,7 +153,7 @@ pub(crate) fn read_body<F: Source>(
     Ok(Some(len as usize))
 }
 
-/// Whether the checksum of a body is that of its records, which have `len` bytes.
+/// Whether a body has the checksum of its records, which have `len` bytes.
 pub(crate) fn is_sound(body: &[u8], len: usize) -> bool
     requires len { len ≤ MAX_BATCH }
     requires room { len + 16 ≤ length body.now }

@@ -1,10 +1,11 @@
 // Opening: a file is read once, batch by batch, and nothing is written.
 ghost use Rattle.std.specs.Prelude.{◌≡◌, ◌≤◌, ◌<◌, ◌+◌, ◌++◌, [], ◌∷◌, ℕ, List, length};
-ghost use Rattle.std.specs.Prelude.{IfOk, IfErr, OnOk, IsErrOf, IsTrue, IsFalse, IsSome, Ok, is_some, true};
+ghost use Rattle.std.specs.Prelude.{IfOk, IfErr, OnOk, IsErrOf, IsTrue, IsFalse, Ok};
+ghost use Rattle.std.specs.Prelude.{is_some, true};
 ghost use Rattle.sg_journal.specs.Device.{HasCause};
 ghost use Rattle.sg_journal.specs.Journal.{found};
-ghost use Rattle.sg_journal.specs.Reading.{HasFound, IsFaulty, IsHonest};
-ghost use Rattle.sg_journal.specs.Standing.{StandsFor};
+ghost use Rattle.sg_journal.specs.Reading.{HasEnded, HasFound, IsFaulty, IsHonest};
+ghost use Rattle.sg_journal.specs.JournalState.{HasBatches};
 ghost use Rattle.sg_journal.specs.declared.fault.Fault.{Fault};
 ghost use Rattle.sg_journal.specs.declared.reader.OpenError.TheVariants.{Device, File};
 
@@ -36,17 +37,6 @@ impl From<DeviceError> for OpenError {
     }
 }
 
-impl From<Fault> for OpenError {
-    ghost use Rattle.std.specs.Prelude.{◌≡◌};
-    ghost use Rattle.sg_journal.specs.declared.reader.OpenError.TheVariants.{File};
-
-    ghost from_gives = { λ fault e. e ≡ File fault };
-
-    fn from(fault: Fault) -> Self {
-        OpenError::File(fault)
-    }
-}
-
 /// A file that is being read. Its batches come one after the other.
 #[derive(Drop)]
 pub struct Reader<F: Source + Drop> {
@@ -65,10 +55,11 @@ impl<F: Source + Drop> Reader<F> {
     ///
     /// # Errors
     ///
-    /// The device failed, or the file is no journal, whatever is behind what was read.
+    /// The device failed, or the file is no journal, whatever its other bytes are.
     pub fn open(source: F) -> Result<Reader<F>, (OpenError, F)>
         requires fresh { F.taken source ≡ [] }
         ensures found { IfOk result (λ reader. HasFound F.taken F.left reader []) }
+        ensures new { F.left source ≡ 0 → IfOk result (λ reader. reader.sector ≡ NEW_SECTOR) }
         ensures fault { IfErr result (λ e. (fault : Fault) → e.0 ≡ File fault →
             IsFaulty (F.taken e.1) (F.left e.1) fault) }
         ensures cause { IfErr result (λ e. e.0 ≡ Device → F.failures source < F.failures e.1) }
@@ -95,7 +86,7 @@ impl<F: Source + Drop> Reader<F> {
     ///
     /// # Errors
     ///
-    /// The device failed, or the batch is damaged, whatever is behind it.
+    /// The device failed, or the batch is damaged, whatever follows it.
     pub fn next(&mut self, batch: &mut Batch) -> Result<bool, OpenError>
         requires found { (bs : List (List ℕ)) × HasFound F.taken F.left self.old bs }
         requires sector { batch.old.sector ≡ self.old.sector }
@@ -105,7 +96,7 @@ impl<F: Source + Drop> Reader<F> {
             HasFound F.taken F.left self.new (bs ++ batch.new.records ∷ [])) }
         ensures ended { IfOk result (λ more. IsFalse more → (bs : List (List ℕ)) →
             HasFound F.taken F.left self.old bs →
-            HasFound F.taken F.left self.new bs × IsSome self.new.ended) }
+            HasFound F.taken F.left self.new bs × HasEnded self.new) }
         ensures less { IfOk result (λ more. IsTrue more →
             F.left self.new.source < F.left self.old.source) }
         ensures fault { (fault : Fault) → IsErrOf result (File fault) →
@@ -137,10 +128,10 @@ impl<F: Source + Drop> Reader<F> {
     ///
     /// The device failed.
     pub fn into_journal(self) -> Result<Journal<F::Device>, (DeviceError, F)>
-        requires ended { IsSome self.ended }
+        requires ended { HasEnded self }
         requires found { (bs : List (List ℕ)) × HasFound F.taken F.left self bs }
-        ensures stands { IfOk result (λ j. (bs : List (List ℕ)) → HasFound F.taken F.left self bs →
-            StandsFor F.Device.seen F.Device.may_leave j bs) }
+        ensures batches { IfOk result (λ j. (bs : List (List ℕ)) → HasFound F.taken F.left self bs →
+            HasBatches F.Device.seen F.Device.may_leave j bs) }
         ensures opening { IfOk result (λ j. F.Device.seen j.device ≡ F.Device.opening j.device) }
         ensures found { IfOk result (λ j. (bs : List (List ℕ)) → HasFound F.taken F.left self bs →
             found (F.Device.opening j.device) ≡ Ok bs) }

@@ -1,4 +1,5 @@
-// A record of calls that only proofs read. It takes no bytes, and its functions do nothing at run time.
+// A record of calls that only proofs read. It takes no bytes, and its functions do nothing at run
+// time.
 ghost use Rattle.std.specs.Prelude.{◌≡◌, List, [], ◌∷◌};
 ghost use Rattle.std.specs.Borrow.{ftrue};
 ghost use Rattle.sg_journal.specs.Record.{Event, event_of};

@@ -5,9 +5,9 @@ ghost use Rattle.sg_journal.specs.Journal.{IsGrown, IsPut, IsCut};
 
 use crate::{Device, DeviceError};
 
-/// Adds bytes at the end. A crash leaves what was there, and some bytes behind it.
-pub(crate) fn append<D: Device>(device: &mut D, at: u64, bytes: &[u8]) -> Result<(), DeviceError>
-    requires at { at ≡ length (D.seen device.old) }
+/// Adds bytes at the end. A crash leaves what was there, and some more bytes.
+pub(crate) fn append<D: Device>(device: &mut D, end: u64, bytes: &[u8]) -> Result<(), DeviceError>
+    requires end { end ≡ length (D.seen device.old) }
     requires durable { Only (D.seen device.old) (D.may_leave device.old) }
     ensures added { OnOk result (D.seen device.new ≡ D.seen device.old ++ bytes.now) }
     ensures durable { OnOk result (Only (D.seen device.new) (D.may_leave device.new)) }
@@ -16,7 +16,7 @@ pub(crate) fn append<D: Device>(device: &mut D, at: u64, bytes: &[u8]) -> Result
     ensures cause { HasCause (D.failures device.old) (D.failures device.new) result }
     ensures opening { D.opening device.new ≡ D.opening device.old }
 {
-    device.write_at(at, bytes)?;
+    device.write_at(end, bytes)?;
     device.sync()
 }
 

@@ -6,7 +6,7 @@ ghost use Rattle.sg_journal.specs.Journal.{IsGrown, IsPut, IsCut};
 use crate::steps::{append, replace, shorten};
 use crate::{Device, DeviceError};
 
-/// Writes a body behind the closed gate at the end of a file, and then opens the gate.
+/// Writes a body after the closed gate at the end of a file, and then opens the gate.
 pub(crate) fn add_batch<D: Device>(
     device: &mut D,
     end: u64,
@@ -71,7 +71,8 @@ pub(crate) fn draft_batch<D: Device>(
     body: &[u8],
 ) -> Result<(), DeviceError>
     requires durable { Only (D.seen device.old) (D.may_leave device.old) }
-    ensures draft { OnOk result (D.draft device.new ≡ D.draft device.old ++ (gate.now ++ body.now)) }
+    ensures draft { OnOk result (D.draft device.new
+        ≡ D.draft device.old ++ (gate.now ++ body.now)) }
     ensures seen { D.seen device.new ≡ D.seen device.old }
     ensures durable { Only (D.seen device.new) (D.may_leave device.new) }
     ensures any_moment { LeavesOnly D.moment D.left_since device.old device.new

@@ -10,7 +10,9 @@ loop-byte-preserved c =
     let xs = c.args.records.now in
     let i = c.loop-byte.byte-index in
     let one = sum_by_more (λ (n : ℕ). n) xs i 0 c.loop-byte-test.true in
-    let next : sum_of_sums (take (i + 1) xs) ≡ _ = ap sum_of_sums (take_more xs i 0 c.loop-byte-test.true) ∙ sums_push (take i xs) (get_or xs i 0) in
+    let next : sum_of_sums (take (i + 1) xs) ≡ _ =
+    ap sum_of_sums (take_more xs i 0 c.loop-byte-test.true)
+    ∙ sums_push (take i xs) (get_or xs i 0) in
     record {
       sum = omega (arith, one);
       sums = omega (arith, next);

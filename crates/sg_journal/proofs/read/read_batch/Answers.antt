@@ -1,4 +1,5 @@
-use Rattle.std.proofs.Common.{◌≡◌, ℕ, ◌+◌, ◌≤◌, false, List, [], ◌∷◌, ◌++◌, length, take, drop, refl, sym, ◌∙◌, ap, subst, arith}
+use Rattle.std.proofs.Common.{◌≡◌, ℕ, ◌+◌, ◌≤◌, false, List, [], ◌∷◌, ◌++◌, length, take, drop}
+use Rattle.std.proofs.Common.{refl, sym, ◌∙◌, ap, subst, arith}
 use Rattle.std.proofs.Common.{append_assoc, length-append}
 use Rattle.std.proofs.lemmas.List.{length-take-le}
 use Rattle.std.specs.Prelude.{Err}
@@ -29,7 +30,8 @@ returns-in_default-2-clause-read g c bs whole place =
     let nothing : (rest : List ℕ) → length rest ≡ left new
     → counts (length c.args.gate.now) ((gate ++ none.bytes) ++ rest) ≡ false =
     λ rest e. ap (counts (length c.args.gate.now)) (append_assoc gate none.bytes rest)
-    ∙ subst (λ (n : ℕ). counts n (gate ++ (none.bytes ++ rest)) ≡ false) size (none.nothing rest e) in
+    ∙ subst (λ (n : ℕ). counts n (gate ++ (none.bytes ++ rest)) ≡ false) size
+    (none.nothing rest e) in
     record {
       head = taken old;
       behind = gate ++ none.bytes;
@@ -102,7 +104,8 @@ returns-then-not-is_sound-clause-fault g c fault is bs whole place rest e =
     ∙ ap (λ (l : List ℕ). l ++ take (body_size (length gate) len) b) opened.took.is in
     let same : Damaged (length (taken old)) ≡ fault = ap Damaged (sym place) ∙ cc in
     ap (λ (l : List ℕ). found (l ++ rest)) all
-    ∙ damage_read (length gate) len gate b (omega (arith, size)) refl opened.is_open body.is body.within
+    ∙ damage_read (length gate) len gate b (omega (arith, size)) refl opened.is_open body.is
+    body.within
     room (taken old) bs here (sym c.is_sound.ensures ∙ c.if-not-is_sound.true) rest
     ∙ ap (λ f. Err f) same
 
@@ -130,8 +133,10 @@ returns-clause-read g c bs whole place =
     let front : List ℕ = take (body_size (length gate) len) b in
     let all : taken new ≡ (taken old ++ gate) ++ front =
     body.took.is ∙ ap (λ (l : List ℕ). l ++ front) opened.took.is in
-    let head : IsHead (length gate) ((taken old ++ gate) ++ front) (bs ++ take len (drop 16 b) ∷ []) =
-    head_read (length gate) len gate b (omega (arith, size)) refl opened.is_open body.is body.within room
+    let head : IsHead (length gate) ((taken old ++ gate) ++ front) (bs ++ take len (drop 16 b) ∷ [])
+    =
+    head_read (length gate) len gate b (omega (arith, size)) refl opened.is_open body.is body.within
+    room
     (taken old) bs here (sym c.is_sound.ensures ∙ c.if-not-is_sound.false) in
     let total : length (taken new) ≡ c.args.end + (length gate + body_size (length gate) len) =
     omega (
@@ -143,7 +148,8 @@ returns-clause-read g c bs whole place =
       place,
     ) in (
       subst (λ (n : ℕ). IsHead n (taken new) (bs ++ take len (drop 16 b) ∷ [])) size
-          (subst (λ (l : List ℕ). IsHead (length gate) l (bs ++ take len (drop 16 b) ∷ [])) (sym all) head),
+          (subst (λ (l : List ℕ). IsHead (length gate) l (bs ++ take len (drop 16 b) ∷ []))
+          (sym all) head),
       subst (λ (n : ℕ). length (taken new) ≡ c.args.end + (n + body_size n len)) size total,
       body.within,
     )

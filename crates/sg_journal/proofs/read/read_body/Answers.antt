@@ -1,4 +1,5 @@
-use Rattle.std.proofs.Common.{◌≡◌, ℕ, ◌-◌, false, List, [], ◌++◌, length, take, drop, sym, ◌∙◌, ap, arith}
+use Rattle.std.proofs.Common.{◌≡◌, ℕ, ◌-◌, false, List, [], ◌++◌, length, take, drop, sym, ◌∙◌, ap}
+use Rattle.std.proofs.Common.{arith}
 use Rattle.std.proofs.Common.{append_assoc, length-append, length-take}
 use Rattle.std.proofs.lemmas.List.{append-nil}
 use Rattle.byteorder.specs.Endian.{big_number}
@@ -28,7 +29,8 @@ pub returns-then-len-clause-read : goal.returns-then-len-clause-read
 returns-then-len-clause-read g c gate size =
     let first : List ℕ = c.read_whole.new.into in
     let whole = c.in_ok-read_whole.ensures.whole c.if-not-branch.false in
-    let long : length first ≡ c.args.sector = c.read_whole.auto.into ∙ c.split_at_mut-first.ensures.front_len in
+    let long : length first ≡ c.args.sector = c.read_whole.auto.into
+    ∙ c.split_at_mut-first.ensures.front_len in
     let is : c.read_u64-len.result ≡ big_number 8 first = c.read_u64-len.ensures in
     record {
       bytes = first;
@@ -42,7 +44,8 @@ returns-then-not-branch-2-clause-read g c gate size =
     let first : List ℕ = c.read_whole.new.into in
     let whole = c.in_ok-read_whole.ensures.whole c.if-not-branch.false in
     let none = c.in_ok-read_whole-2.ensures.none c.if-not-branch-2.true in
-    let long : length first ≡ c.args.sector = c.read_whole.auto.into ∙ c.split_at_mut-first.ensures.front_len in
+    let long : length first ≡ c.args.sector = c.read_whole.auto.into
+    ∙ c.split_at_mut-first.ensures.front_len in
     let is : c.read_u64-len.result ≡ big_number 8 first = c.read_u64-len.ensures in
     let total : c.body_size-size.result ≡ body_size c.args.sector (big_number 8 first) =
     c.body_size-size.ensures.value ∙ ap (body_size c.args.sector) is in
@@ -54,7 +57,16 @@ returns-then-not-branch-2-clause-read g c gate size =
       };
       nothing = λ rest e.
           cut_short c.args.sector gate first rest size (omega arith)
-          (omega (arith, total, long, e, ap g.F.Source.left none.0, none.1, length-take (c.body_size-size.result - c.args.sector) c.split_at_mut-first.result.1.now));
+          (omega (
+            arith,
+            total,
+            long,
+            e,
+            ap g.F.Source.left none.0,
+            none.1,
+            length-take
+                (c.body_size-size.result - c.args.sector) c.split_at_mut-first.result.1.now,
+          ));
     }
 
 pub returns-clause-read : goal.returns-clause-read
@@ -64,12 +76,24 @@ returns-clause-read g c =
     let len : ℕ = c.read_u64-len.result in
     let whole = c.in_ok-read_whole.ensures.whole c.if-not-branch.false in
     let more = c.in_ok-read_whole-2.ensures.whole c.if-not-branch-2.false in
-    let long : length first ≡ c.args.sector = c.read_whole.auto.into ∙ c.split_at_mut-first.ensures.front_len in
+    let long : length first ≡ c.args.sector = c.read_whole.auto.into
+    ∙ c.split_at_mut-first.ensures.front_len in
     let size = c.body_size-size.ensures.value in
-    let behind : List ℕ = drop (c.body_size-size.result - c.args.sector) c.split_at_mut-first.result.1.now in
+    let behind : List ℕ = drop (c.body_size-size.result - c.args.sector)
+    c.split_at_mut-first.result.1.now in
     let both : take (body_size c.args.sector len) (first ++ (second ++ behind)) ≡ first ++ second =
     front_two first second behind (body_size c.args.sector len)
-    (omega (arith, long, size, c.read_whole-2.auto.into, length-take (c.body_size-size.result - c.args.sector) c.split_at_mut-first.result.1.now, c.split_at_mut-first.ensures.back_len, c.body_size-size.ensures.below, c.body_size-size.ensures.some)) in
+    (omega (
+      arith,
+      long,
+      size,
+      c.read_whole-2.auto.into,
+      length-take
+          (c.body_size-size.result - c.args.sector) c.split_at_mut-first.result.1.now,
+      c.split_at_mut-first.ensures.back_len,
+      c.body_size-size.ensures.below,
+      c.body_size-size.ensures.some,
+    )) in
     record {
       took = record {
         is =

@@ -1,4 +1,5 @@
-use Rattle.std.proofs.Common.{◌≡◌, ℕ, ◌+◌, List, [], ◌++◌, length, sym, ◌∙◌, ap, subst, arith, length-append}
+use Rattle.std.proofs.Common.{◌≡◌, ℕ, ◌+◌, List, [], ◌++◌, length, sym, ◌∙◌, ap, subst, arith}
+use Rattle.std.proofs.Common.{length-append}
 use Rattle.std.proofs.lemmas.List.{take_at}
 use Rattle.std.specs.Prelude.{Err}
 use Rattle.sg_journal.specs.Layout.{sector_of}
@@ -19,11 +20,14 @@ returns-then-left-rest-clause-fault g c fault is rest size =
     let sector : ℕ = c.in_ok-sector.sector in
     let header : List ℕ = h.0 in
     let same : NotADisk ≡ fault = cc in
-    let taken : g.F.Source.taken c.read_header.new.source ≡ header = h.1.is ∙ ap (λ (l : List ℕ). l ++ header) c.requires.fresh in
-    let all : length (header ++ rest) ≡ 16 + length rest = length-append header rest ∙ ap (λ (n : ℕ). n + length rest) h.2 in
+    let taken : g.F.Source.taken c.read_header.new.source ≡ header = h.1.is
+    ∙ ap (λ (l : List ℕ). l ++ header) c.requires.fresh in
+    let all : length (header ++ rest) ≡ 16 + length rest = length-append header rest
+    ∙ ap (λ (n : ℕ). n + length rest) h.2 in
     ap (λ (l : List ℕ). found (l ++ rest)) taken
     ∙ short_first (header ++ rest) sector (omega arith)
-    (ap sector_of (take_at header rest 16 h.2) ∙ h.3) (omega (arith, all, size, c.left-2.ensures, c.if-left-rest.true))
+    (ap sector_of (take_at header rest 16 h.2)
+    ∙ h.3) (omega (arith, all, size, c.left-2.ensures, c.if-left-rest.true))
     ∙ ap (λ f. Err f) same
 
 pub returns-clause-read : goal.returns-clause-read
@@ -35,8 +39,10 @@ returns-clause-read g c =
     let within = sector_within sector valid in
     let more = c.in_ok-skip.ensures.taken in
     let taken : g.F.Source.taken c.skip.new.source ≡ header ++ more.more =
-    more.is ∙ ap (λ (l : List ℕ). l ++ more.more) (h.1.is ∙ ap (λ (l : List ℕ). l ++ header) c.requires.fresh) in
-    let size : length (header ++ more.more) ≡ sector = omega (arith, length-append header more.more, h.2, more.size) in
+    more.is ∙ ap (λ (l : List ℕ). l ++ more.more) (h.1.is
+    ∙ ap (λ (l : List ℕ). l ++ header) c.requires.fresh) in
+    let size : length (header ++ more.more) ≡ sector =
+    omega (arith, length-append header more.more, h.2, more.size) in
     record {
       valid = valid;
       whole =

@@ -1,4 +1,5 @@
-use Rattle.std.proofs.Common.{◌≡◌, ℕ, List, ◌++◌, length, take, sym, ◌∙◌, ap, arith, length-take, length-append}
+use Rattle.std.proofs.Common.{◌≡◌, ℕ, List, ◌++◌, length, take, sym, ◌∙◌, ap, arith, length-take}
+use Rattle.std.proofs.Common.{length-append}
 use Rattle.std.proofs.lemmas.List.{take_at}
 use Rattle.std.specs.Prelude.{Err}
 use Rattle.sg_journal.specs.Layout.{sector_of}
@@ -12,7 +13,8 @@ returns-then-left-clause-fault g c fault is rest size =
     let same : NotADisk ≡ fault = cc in
     ap (λ (l : List ℕ). found (l ++ rest)) c.requires.fresh
     ∙ bad_header rest NotADisk (omega (arith, size, c.requires.some))
-    (short_header (take 16 rest) (omega (arith, length-take 16 rest, size, c.left.ensures, c.if-left.true)))
+    (short_header (take 16 rest) (omega
+    (arith, length-take 16 rest, size, c.left.ensures, c.if-left.true)))
     ∙ ap (λ f. Err f) same
 
 pub returns-in-Err-clause-fault : goal.returns-in-Err-clause-fault

@@ -9,7 +9,8 @@ pub returns-in_err-write_at-clause-any_moment : goal.returns-in_err-write_at-cla
 returns-in_err-write_at-clause-any_moment g c =
     let d = c.args.device.now in
     let P = IsPut c.args.at (length c.args.bytes.now) (g.D.Device.seen d) in
-    (called g.D.Device.moment g.D.Device.left_since (Torn c.args.at (length c.args.bytes.now)) _ _ _ _ _ P c.requires.durable
+    (called g.D.Device.moment g.D.Device.left_since (Torn c.args.at (length c.args.bytes.now)) _ _ _
+    _ _ P c.requires.durable
     (g.met.D.Device.only_now d) c.write_at.ensures.time c.write_at.ensures.crash
     (put_none _ _ _ c.requires.within) (λ f torn. torn_put _ _ _ f c.requires.within torn)).leaves
 
@@ -17,7 +18,8 @@ pub returns-clause-any_moment : goal.returns-clause-any_moment
 returns-clause-any_moment g c =
     let d = c.args.device.now in
     let P = IsPut c.args.at (length c.args.bytes.now) (g.D.Device.seen d) in
-    let done = called g.D.Device.moment g.D.Device.left_since (Torn c.args.at (length c.args.bytes.now)) _ _ _ _ _ P
+    let done = called g.D.Device.moment g.D.Device.left_since
+    (Torn c.args.at (length c.args.bytes.now)) _ _ _ _ _ P
     c.requires.durable (g.met.D.Device.only_now d) c.write_at.ensures.time c.write_at.ensures.crash
     (put_none _ _ _ c.requires.within) (λ f torn. torn_put _ _ _ f c.requires.within torn) in
     goes_on g.D.Device.moment g.D.Device.left_since d c.write_at.new.self c.sync.new.self P _

@@ -9,7 +9,8 @@ overflow_add-sector c = omega (arith, sector_within c.args.sector c.requires.val
 pub invariant_of-result : goal.invariant_of-result
 invariant_of-result c =
     let within = sector_within c.args.sector c.requires.valid in
-    let gate : length c.in_ok-vec.field-0.items ≡ c.args.sector = omega (arith, c.in_ok-vec.ensures.len, c.in_ok-vec.field-0.ok) in
+    let gate : length c.in_ok-vec.field-0.items ≡ c.args.sector =
+    omega (arith, c.in_ok-vec.ensures.len, c.in_ok-vec.field-0.ok) in
     record {
       valid = ap is_sector_length gate ∙ c.requires.valid;
       least = omega arith;

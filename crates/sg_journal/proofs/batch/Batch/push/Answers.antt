@@ -19,13 +19,23 @@ returns c =
     ap (λ (v : BatchValue). v.sector) c.self.view_is in
     let room = c.self.invariant.room in
     let fits : 16 + len + n ≤ length b =
-    omega (arith, ap length records, length-take len (drop 16 b), length-drop 16 b, room, c.self.invariant.within) in
+    omega (
+      arith,
+      ap length records,
+      length-take len (drop 16 b),
+      length-drop 16 b,
+      room,
+      c.self.invariant.within,
+    ) in
     let put : c.put.new.buffer ≡ take (16 + len) b ++ x ++ drop (16 + len + n) b =
     c.put.ensures
-    ∙ ap (λ (l : List ℕ). take (16 + len) l ++ x ++ drop (16 + len + n) l) c.deref_mut.ensures.value in
+    ∙ ap (λ (l : List ℕ). take (16 + len) l ++ x ++ drop (16 + len + n) l)
+    c.deref_mut.ensures.value in
     let same : length c.put.new.buffer ≡ c.self.inside.body.len =
-    ap length put ∙ put_length (16 + len) b x (omega arith) ∙ omega (arith, c.self.inside.body.ok) in
-    let all : take (len + n) (drop 16 (with_items c.self.inside.body c.put.new.buffer).items) ≡ old.records ++ x =
+    ap length put ∙ put_length (16 + len) b x (omega arith)
+    ∙ omega (arith, c.self.inside.body.ok) in
+    let all : take (len + n) (drop 16 (with_items c.self.inside.body c.put.new.buffer).items) ≡
+    old.records ++ x =
     ap (λ (l : List ℕ). take (len + n) (drop 16 l))
     (with_items_is c.self.inside.body c.put.new.buffer same ∙ put)
     ∙ pushed len b x fits ∙ ap (λ (l : List ℕ). l ++ x) records in

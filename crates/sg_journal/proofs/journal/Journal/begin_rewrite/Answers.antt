@@ -2,7 +2,7 @@ use Rattle.std.proofs.Common.{◌≡◌, ℕ, List, [], length, sym, ◌∙◌, 
 use Rattle.sg_journal.specs.BatchValue.{BatchValue}
 use Rattle.sg_journal.specs.Layout.{first_sector}
 use Rattle.sg_journal.specs.Journal.{found, IsHead}
-use Rattle.sg_journal.specs.Standing.{HasTail}
+use Rattle.sg_journal.specs.JournalState.{HasTail}
 use Rattle.sg_journal.proofs.Buffers.{first_is}
 use Rattle.sg_journal.proofs.Heads.{first_head, length_first}
 use Rattle.sg_journal.proofs.Moments.{on_ok_weaker}
@@ -28,7 +28,8 @@ returns-clause-begun g c =
         tail = subst (λ (f : List ℕ). HasTail j.tail j.sector j.end f bs) (sym same) s.tail;
         durable = c.begin_draft_with.ensures.durable;
       };
-      drafts = subst (λ (f : List ℕ). IsHead j.sector f []) (sym first) (first_head j.sector s.valid);
+      drafts = subst (λ (f : List ℕ). IsHead j.sector f []) (sym first)
+          (first_head j.sector s.valid);
       length = sym (ap length first ∙ length_first j.sector s.valid);
     })
     c.begin_draft_with.ensures.draft

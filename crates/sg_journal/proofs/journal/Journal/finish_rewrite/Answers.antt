@@ -45,4 +45,5 @@ returns-clause-any_moment g c bs drafted s =
     weaker g.D.Device.moment g.D.Device.left_since j.device c.close_and_exchange.new.device _
     (λ f. (found f ≡ Ok bs) ⊎ (found f ≡ Ok drafted)) c.close_and_exchange.ensures.any_moment
     (λ f. ⊎_elim (λ was. inl (ap found was ∙ s.stands.found))
-    (λ new. inr (ap found (new ∙ ap (λ (l : List ℕ). draft ++ l) gate) ∙ closed_ends j.sector draft drafted s.drafts)))
+    (λ new. inr (ap found (new ∙ ap (λ (l : List ℕ). draft ++ l) gate)
+    ∙ closed_ends j.sector draft drafted s.drafts)))

@@ -1,21 +1,22 @@
-use Rattle.std.proofs.Common.{◌≡◌, ⊎_elim, inl, inr, ℕ, List, [], ◌∷◌, ◌++◌, sym, ◌∙◌, ap, subst, arith}
+use Rattle.std.proofs.Common.{◌≡◌, ⊎_elim, inl, inr, ℕ, List, [], ◌∷◌, ◌++◌, sym, ◌∙◌, ap, subst}
+use Rattle.std.proofs.Common.{arith}
 use Rattle.std.specs.Prelude.{Ok}
 use Rattle.sg_journal.specs.BatchValue.{BatchValue}
 use Rattle.sg_journal.specs.Journal.{found, IsBeforeOrAfter}
-use Rattle.sg_journal.specs.Standing.{HasTail, IsUnmade, StandsFor}
+use Rattle.sg_journal.specs.JournalState.{HasTail, IsUnmade, HasBatches}
 use Rattle.sg_journal.proofs.Heads.{sector_within}
 use Rattle.sg_journal.proofs.Moments.{then_leaves, on_ok_weaker}
 use Rattle.sg_journal.proofs.journal.Journal.make.Goals as goal
 
 pub rewrite-requires-clause-room : goal.rewrite-requires-clause-room
 rewrite-requires-clause-room g c =
-    let s = c.requires.stands.1 in
+    let s = c.requires.batches.1 in
     omega (arith, c.begin_rewrite.ensures.drafted, sector_within c.args.self.now.sector s.valid)
 
 pub finish_rewrite-requires-clause-drafts : goal.finish_rewrite-requires-clause-drafts
 finish_rewrite-requires-clause-drafts g c =
-    let bs = c.requires.stands.0 in
-    let begun = c.in_ok-begin_rewrite.ensures.begun bs c.requires.stands.1 in
+    let bs = c.requires.batches.0 in
+    let begun = c.in_ok-begin_rewrite.ensures.begun bs c.requires.batches.1 in
     (bs, [] ++ c.begin_rewrite.new.batch.records ∷ [], c.in_ok-rewrite.ensures.added bs [] begun)
 
 pub returns-clause-acknowledged : goal.returns-clause-acknowledged
@@ -30,8 +31,10 @@ returns-clause-acknowledged g c =
     let drafts = c.in_ok-rewrite.ensures.added bs [] begun in
     let same = ap (λ (v : BatchValue). v.records) c.begin_rewrite.ensures.batch in
     let is : [] ++ c.begin_rewrite.new.batch.records ∷ [] ≡ bs ++ b.records ∷ [] =
-    ap (λ (l : List ℕ). l ∷ []) same ∙ sym (ap (λ (l : List (List ℕ)). l ++ b.records ∷ []) unmade.nothing) in
-    subst (λ (l : List (List ℕ)). StandsFor g.D.Device.seen g.D.Device.may_leave c.finish_rewrite.new.self l) is
+    ap (λ (l : List ℕ). l ∷ []) same
+    ∙ sym (ap (λ (l : List (List ℕ)). l ++ b.records ∷ []) unmade.nothing) in
+    subst (λ (l : List (List ℕ)). HasBatches g.D.Device.seen g.D.Device.may_leave
+    c.finish_rewrite.new.self l) is
     (exchanged bs ([] ++ c.begin_rewrite.new.batch.records ∷ []) drafts))
     c.finish_rewrite.ensures.exchanged
 
@@ -45,14 +48,17 @@ returns-clause-any_moment g c bs s =
     let drafts = c.in_ok-rewrite.ensures.added bs [] begun in
     let same = ap (λ (v : BatchValue). v.records) c.begin_rewrite.ensures.batch in
     let is : [] ++ c.begin_rewrite.new.batch.records ∷ [] ≡ bs ++ b.records ∷ [] =
-    ap (λ (l : List ℕ). l ∷ []) same ∙ sym (ap (λ (l : List (List ℕ)). l ++ b.records ∷ []) unmade.nothing) in
+    ap (λ (l : List ℕ). l ∷ []) same
+    ∙ sym (ap (λ (l : List (List ℕ)). l ++ b.records ∷ []) unmade.nothing) in
     let moment = g.D.Device.moment in
     let since = g.D.Device.left_since in
     let before : List ℕ → Type 0 = λ f. found f ≡ Ok bs in
-    let first = then_leaves moment since j.device c.begin_rewrite.new.self.device c.rewrite.new.self.device
+    let first = then_leaves moment since j.device c.begin_rewrite.new.self.device
+    c.rewrite.new.self.device
     before before before (c.begin_rewrite.ensures.any_moment bs s)
     (c.rewrite.ensures.any_moment bs [] begun) (λ f e. e) (λ f e. e) in
-    then_leaves moment since j.device c.rewrite.new.self.device c.finish_rewrite.new.self.device before _
+    then_leaves moment since j.device c.rewrite.new.self.device c.finish_rewrite.new.self.device
+    before _
     (IsBeforeOrAfter bs b.records) first
     (c.finish_rewrite.ensures.any_moment bs ([] ++ c.begin_rewrite.new.batch.records ∷ []) drafts)
     (λ f e. inl e)

@@ -1,12 +1,14 @@
-use Rattle.std.proofs.Common.{◌≡◌, ℕ, ◌+◌, ◌-◌, ◌<◌, ◌≤◌, List, [], ◌∷◌, ◌++◌, length, take, drop, sym, ◌∙◌, ap, subst, arith}
+use Rattle.std.proofs.Common.{◌≡◌, ℕ, ◌+◌, ◌-◌, ◌<◌, ◌≤◌, List, [], ◌∷◌, ◌++◌, length, take, drop}
+use Rattle.std.proofs.Common.{sym, ◌∙◌, ap, subst, arith}
 use Rattle.std.proofs.Common.{length-append}
 use Rattle.sg_journal.specs.BatchValue.{BatchValue}
 use Rattle.sg_journal.specs.Layout.{open_gate, closed_gate, body, body_size, max_batch}
 use Rattle.sg_journal.specs.Journal.{found, IsHead}
-use Rattle.sg_journal.specs.Standing.{HasTail}
+use Rattle.sg_journal.specs.JournalState.{HasTail}
 use Rattle.sg_journal.proofs.Batches.{head_append}
 use Rattle.sg_journal.proofs.Buffers.{gate_is, body_is_sealed, body_only, held_length}
-use Rattle.sg_journal.proofs.Written.{front_written, length_gate, first_of_gate, length_body, max_is}
+use Rattle.sg_journal.proofs.Written.{front_written, length_gate, first_of_gate, length_body}
+use Rattle.sg_journal.proofs.Written.{max_is}
 use Rattle.sg_journal.proofs.Moments.{on_ok_weaker}
 use Rattle.sg_journal.proofs.journal.Journal.rewrite.Goals as goal
 
@@ -25,7 +27,8 @@ returns-clause-added g c =
     (omega (arith, c.batch.invariant.room, c.batch.invariant.within)) in
     let size : c.seal-size.result ≡ body_size j.sector (length b.records) + j.sector =
     c.seal-size.ensures.size ∙ ap (λ (n : ℕ). body_size j.sector n + j.sector) (sym long) in
-    let within : length b.records ≤ max_batch = omega (arith, long, c.batch.invariant.within, max_is) in
+    let within : length b.records ≤ max_batch =
+    omega (arith, long, c.batch.invariant.within, max_is) in
     let same = c.draft_batch.ensures.seen in
     on_ok_weaker c.draft_batch.result
     (λ is bs drafted s.
@@ -41,7 +44,9 @@ returns-clause-added g c =
     let only = body_only c.deref-2.result.now b.records j.sector c.seal-size.result image size in
     let old = g.D.Device.draft j.device in
     let all : g.D.Device.draft d ≡ old ++ (open_gate j.sector ++ body j.sector b.records) =
-    is ∙ ap (λ (l : List ℕ). old ++ (l ++ take (c.seal-size.result - j.sector) c.deref-2.result.now)) gate
+    is
+    ∙ ap (λ (l : List ℕ). old ++
+    (l ++ take (c.seal-size.result - j.sector) c.deref-2.result.now)) gate
     ∙ ap (λ (l : List ℕ). old ++ (open_gate j.sector ++ l)) only in
     let front = front_written j.sector (open_gate j.sector) b.records (length_gate j.sector 1 some)
     within some (first_of_gate j.sector 1) in

@@ -1,6 +1,6 @@
 use Rattle.std.proofs.Common.{◌≡◌, ℕ, [], length, refl, sym, ◌∙◌, ap, subst, arith}
 use Rattle.sg_journal.specs.Reads.{IsFirstRead, TookFirst}
-use Rattle.sg_journal.proofs.Heads.{new_sector}
+use Rattle.sg_journal.proofs.Heads.{new_sector, sector_within}
 use Rattle.sg_journal.proofs.reader.Reader.open.Goals as goal
 
 pub returns-in-Ok-None-clause-found : goal.returns-in-Ok-None-clause-found
@@ -9,7 +9,8 @@ returns-in-Ok-None-clause-found g c =
     let left = g.F.Source.left in
     let old = c.args.source in
     let new = c.read_first_sector.new.source in
-    let none = subst (IsFirstRead taken left old new) c.in-Ok-None.field-0-is c.in-Ok-None.ensures.read in
+    let none = subst (IsFirstRead taken left old new) c.in-Ok-None.field-0-is
+    c.in-Ok-None.ensures.read in
     let nothing : taken new ≡ [] = ap taken none.0 ∙ c.requires.fresh in
     let all : left new ≡ 0 = ap left none.0 ∙ none.1 in
     record {
@@ -32,3 +33,13 @@ returns-in-Ok-Some-clause-found g c =
       total = omega (arith, first.size, first.rest, c.in-Ok-Some.ensures.fits);
       place = record { whole = first.whole; place = sym first.size };
     }
+
+pub returns-in-Ok-Some-clause-new : goal.returns-in-Ok-Some-clause-new
+returns-in-Ok-Some-clause-new g c empty =
+    let first : TookFirst g.F.Source.taken g.F.Source.left c.args.source
+    c.read_first_sector.new.source c.in-Ok-Some.sector =
+    subst (IsFirstRead g.F.Source.taken g.F.Source.left c.args.source
+    c.read_first_sector.new.source)
+    c.in-Ok-Some.field-0-is c.in-Ok-Some.ensures.read in
+    let within = sector_within c.in-Ok-Some.sector first.valid in
+    absurd (omega (arith, first.rest, empty))
