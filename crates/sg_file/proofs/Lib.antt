@@ -1,0 +1,2 @@
+mod StaysLemmas
+mod ReadsLemmas

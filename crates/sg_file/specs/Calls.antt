@@ -1,0 +1,29 @@
+-- The calls on a file, as they are noted.
+use Rattle.std.specs.Prelude.{ℕ, Bool, List, slice_index, ◌==◌, if◌then◌else◌}
+
+-- A call, and whether it succeeded. A `Read` is of the next bytes, before any other call.
+pub data Call : Type 0 where
+  Read : (bytes : List ℕ) → (ok : Bool) → Call
+  Write : (at : ℕ) → (bytes : List ℕ) → (ok : Bool) → Call
+  CutTo : (len : ℕ) → (ok : Bool) → Call
+  Sync : (ok : Bool) → Call
+  BeginDraft : (ok : Bool) → Call
+  WriteDraft : (bytes : List ℕ) → (ok : Bool) → Call
+  Exchange : (ok : Bool) → Call
+
+-- ---- Notes
+
+-- By its number.
+abbrev pub call_numbered : (number at : ℕ) → (ok : Bool) → (bytes : List ℕ) → Call
+call_numbered number at ok bytes =
+    if number == 0 then Read bytes ok
+    else if number == 1 then Write at bytes ok
+    else if number == 2 then CutTo at ok
+    else if number == 3 then Sync ok
+    else if number == 4 then BeginDraft ok
+    else if number == 5 then WriteDraft bytes ok
+    else Exchange ok
+
+abbrev pub call_of : (numbers bytes : List ℕ) → Call
+call_of numbers bytes =
+    call_numbered (slice_index numbers 0) (slice_index numbers 1) (slice_index numbers 2 == 1) bytes

@@ -1,0 +1,4 @@
+pub mod Calls
+pub mod History
+pub mod Source
+pub mod Moments
