@@ -1,6 +1,7 @@
 -- What a file has is one of the contents that a crash may leave.
 use Rattle.std.proofs.Common.{◌≡◌, ◌⊎◌, inl, ℕ, ◌+◌, ◌≤◌, Bool, true, false, List, [], ◌∷◌, ◌++◌}
-use Rattle.std.proofs.Common.{length, take, drop, refl, ◌∙◌, ap, arith, length-append, length-take, length-drop}
+use Rattle.std.proofs.Common.{length, take, drop, refl, ◌∙◌, ap, arith, length-append, length-take}
+use Rattle.std.proofs.Common.{length-drop}
 use Rattle.std.proofs.Common.{append_assoc}
 use Rattle.std.proofs.lemmas.List.{take_all, take_at, drop_at, length-take-le}
 use Rattle.sg_journal.specs.Device.{Torn, Cut}

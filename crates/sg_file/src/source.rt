@@ -93,7 +93,7 @@ impl<'a> Source for FileSource<'a> {
         Ok(())
     }
 
-    #[tactic(auto, using(crate::proofs::ReadsLemmas::as_it_was, crate::proofs::ReadsLemmas::leaves_it, crate::proofs::ReadsLemmas::no_moment,))]
+    #[tactic(auto, using(crate::proofs::ReadsLemmas::only_reads))]
     fn into_device(self) -> FileDevice<'a> {
         FileDevice::after_reading(self.rt, self.paths, self.file, self.notes)
     }
