@@ -1,11 +1,11 @@
 -- A file of whole batches.
 use Rattle.std.proofs.Common.{◌≡◌, ℕ, ◌+◌, ◌≤◌, ◌<◌, true, false, List, [], ◌∷◌, ◌++◌, length, take}
-use Rattle.std.proofs.Common.{drop, refl}
-use Rattle.std.proofs.Common.{sym, ◌∙◌, ap, subst, arith, append_assoc, length-append, length-take}
+use Rattle.std.proofs.Common.{drop}
+use Rattle.std.proofs.Common.{sym, ◌∙◌, ap, arith, append_assoc, length-append, length-take}
 use Rattle.std.proofs.Common.{take-append-drop}
 use Rattle.std.specs.Prelude.{Ok, Err}
 use Rattle.std.specs.List.{All, flat_map}
-use Rattle.sg_journal.specs.Layout.{open_gate, body, whole_batch, closed_gate, counts, length_in}
+use Rattle.sg_journal.specs.Layout.{open_gate, whole_batch, closed_gate, counts, length_in}
 use Rattle.sg_journal.specs.Layout.{first_sector, body_size, is_sound, max_batch}
 use Rattle.sg_journal.specs.Journal.{after, batches, found, IsHead}
 use Rattle.sg_journal.specs.Laws.{written, IsWritable}

@@ -56,10 +56,13 @@ error_recovery_row =
 abbrev caching_fields : List MultiByteField
 caching_fields = field 4 2 ∷ field 6 2 ∷ field 8 2 ∷ field 10 2 ∷ field 14 2 ∷ field 17 3 ∷ []
 
+abbrev wce : ℕ
+wce = 0x04
+
 -- Byte 2: WCE is bit 2.
 -- Choice (SBC-3, 6.4): WCE may be 0.
 abbrev caching_row : PageRow
-caching_row = row 0x08 0x12 ((2, 0x04) ∷ []) ((2, 0x04) ∷ []) caching_fields
+caching_row = row 0x08 0x12 ((2, wce) ∷ []) ((2, wce) ∷ []) caching_fields
 
 -- Byte 2: D_SENSE is bit 2. Byte 4: SWP is bit 3.
 abbrev d_sense : ℕ
@@ -148,6 +151,10 @@ byte_2 values = slice_index values 0
 
 abbrev pub byte_4 : List ℕ → ℕ
 byte_4 values = slice_index values 2
+
+-- WCE of the caching page: a write may end before it is on the medium (SBC-3, Caching mode page).
+abbrev pub caches_writes : ModeState → Bool
+caches_writes state = has_bit (byte_2 (values_of state.current Caching)) wce
 
 -- D_SENSE of the control page: sense data is in descriptor format (SPC-4, Control mode page).
 abbrev pub descriptor_sense : ModeState → Bool

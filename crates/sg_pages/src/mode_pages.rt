@@ -10,7 +10,7 @@ mod multi_byte_field;
 mod request;
 
 pub(crate) use block_descriptor::LOGICAL_BLOCK_LENGTH;
-use mode_page::{D_SENSE, DEFAULT, SWP};
+use mode_page::{D_SENSE, DEFAULT, SWP, WCE};
 pub use mode_page::{ModePage, PageValues};
 pub use mode_select::{Changed, ModeSelectFault};
 pub use mode_sense::LONGEST_MODE_LIST;
@@ -34,7 +34,7 @@ impl Model for ModePages {
 }
 
 ghost use Rattle.std.specs.Prelude.{◌≡◌};
-ghost use Rattle.sg_pages.specs.ModePage.{descriptor_sense, write_protected};
+ghost use Rattle.sg_pages.specs.ModePage.{caches_writes, descriptor_sense, write_protected};
 ghost use Rattle.sg_pages.specs.ModePowerOn.{after_power_on, initial_state, restored_pages};
 
 impl ModePages {
@@ -70,6 +70,13 @@ impl ModePages {
         ensures { self.new ≡ after_power_on self.old }
     {
         self.current = self.saved;
+    }
+
+    /// WCE: a write may end before it is on the medium (SBC-3, Caching mode page).
+    pub fn caches_writes(&self) -> bool
+        ensures { result ≡ caches_writes self.now }
+    {
+        self.current.caching[0] & WCE != 0
     }
 
     /// D_SENSE: sense data is in descriptor format (SPC-4, Control mode page).

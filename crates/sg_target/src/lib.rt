@@ -16,6 +16,7 @@ mod extent;
 mod format;
 mod happening;
 mod joining;
+mod kept;
 pub mod laws;
 mod mode;
 mod operation;

@@ -197,11 +197,12 @@ impl<S: Store> Target<S> {
 pub struct Exchange<'a> {
     pub(crate) extent: Extent,
     expected: &'a [u8],
-    replacement: &'a [u8],
+    pub(crate) replacement: &'a [u8],
 }
 
 impl<'a> Model for Exchange<'a> {
-    ghost use Rattle.std.specs.Prelude.{◌≡◌, length};
+    ghost use Rattle.std.specs.Prelude.{◌≡◌, ◌≤◌, length};
+    ghost use Rattle.sg_wire.specs.Profile.{maximum_transfer_length};
     ghost use Rattle.sg_target.specs.BlockCommands.{ExchangeFields, bytes_of};
 
     ghost Value = { ExchangeFields };
@@ -213,7 +214,8 @@ impl<'a> Model for Exchange<'a> {
     } };
 
     ghost invariant = { λ x. (length x.expected.now ≡ bytes_of x.extent)
-        × (length x.replacement.now ≡ bytes_of x.extent) };
+        × (length x.replacement.now ≡ bytes_of x.extent)
+        × (x.extent.count ≤ maximum_transfer_length) };
 }
 
 pub(crate) fn check_compare_and_write(

@@ -106,6 +106,9 @@ pub(super) const DEFAULT: PageValues = PageValues {
 /// PS, a bit of a page's first byte: the page can be saved. MODE SELECT ignores it.
 pub(super) const PS: u8 = 0x80;
 
+/// WCE, a bit of byte 2 of page 08h.
+pub(super) const WCE: u8 = 0x04;
+
 /// Bits of page 0Ah: D_SENSE is in byte 2, and SWP in byte 4.
 pub(super) const D_SENSE: u8 = 0x04;
 
@@ -114,7 +117,7 @@ pub(super) const SWP: u8 = 0x08;
 /// The bits that MODE SELECT may change.
 pub(super) const CHANGEABLE: PageValues = PageValues {
     error_recovery: [0xC0, 0xFF, 0, 0, 0, 0, 0xFF, 0, 0, 0],
-    caching: [0x04, 0, 0, 0, 0, 0, 0, 0, 0, 0, 0, 0, 0, 0, 0, 0, 0, 0],
+    caching: [WCE, 0, 0, 0, 0, 0, 0, 0, 0, 0, 0, 0, 0, 0, 0, 0, 0, 0],
     control: [D_SENSE, 0, SWP, 0, 0, 0, 0, 0, 0, 0],
     exceptions_control: [0; 10],
 };
