@@ -8,3 +8,10 @@ mod HappeningLemmas
 -- The changes of each command: those of the table of faults, and all.
 mod TableLemmas
 mod CommandLemmas
+-- Records that are added to a batch.
+mod RecordingLemmas
+-- The operation that a command has executed.
+mod ExecutedLemmas
+-- Which disk a file stands for.
+mod OpenedLemmas
+mod MomentsLemmas

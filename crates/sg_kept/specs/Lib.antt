@@ -1,3 +1,9 @@
+-- What a reader has to believe: what is kept, what commands change of it, which disk a file stands for,
+-- and which commands owe a flush.
 pub mod Kept
 pub mod Changes
 pub mod Laws
+pub mod Opened
+pub mod Owing
+pub mod Disk
+pub mod Recording

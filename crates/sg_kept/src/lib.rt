@@ -2,4 +2,11 @@
 //! disk in a file will rest. The crate has no code.
 #![tactic(auto)]
 
+mod batch_sink;
+mod disk;
 pub mod laws;
+mod owing;
+mod recording;
+
+pub use batch_sink::BatchSink;
+pub use disk::KeptDisk;

@@ -1,0 +1,27 @@
+-- What a crash at any moment of a call leaves.
+use Rattle.std.proofs.Common.{inl, inr, ⊎_elim, ℕ, List, sym, subst, arith}
+use Rattle.std.specs.Prelude.{Result, Ok, Err, OnOk}
+use Rattle.sg_journal.specs.Device.{LeavesOnly, Only}
+
+module _ {D : Type 0} (moment : D → ℕ) (left_since : D → ℕ → List ℕ → Type 0) where
+  pub weaker : (old new : D) (P R : List ℕ → Type 0) → LeavesOnly moment left_since old new P
+      → ((c : List ℕ) → P c → R c) → LeavesOnly moment left_since old new R
+  weaker old new P R leaves each = record {
+    later = leaves.later;
+    each = λ c left. each c (leaves.each c left);
+    before = λ t c le left. ⊎_elim inl (λ had. inr (each c had)) (leaves.before t c le left);
+  }
+
+  -- no call at all, on a file that is durable
+  pub no-call : (seen : List ℕ) (may_leave : List ℕ → Type 0) (file : D) (P : List ℕ → Type 0)
+      → Only seen may_leave → ((c : List ℕ) → left_since file (moment file) c → may_leave c) → P seen
+      → LeavesOnly moment left_since file file P
+  no-call seen may_leave file P only now holds = record {
+    later = omega arith;
+    each = λ c left. subst P (sym (only c (now c left))) holds;
+    before = λ t c le left. inl left;
+  }
+
+pub on-ok : {T E P Q : Type 0} (r : Result T E) → (P → Q) → OnOk r P → OnOk r Q
+on-ok (Ok x) f p = f p
+on-ok (Err e) f p = p

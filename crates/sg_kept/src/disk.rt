@@ -1,0 +1,246 @@
+// A disk whose changes are kept in a file.
+ghost use Rattle.std.specs.Prelude.{◌≡◌, ◌⊎◌, ◌≤◌, ◌<◌, ◌+◌, ◌^◌, [], length, true, OnOk, IfOk, IsErr, Some};
+ghost use Rattle.sg_journal.specs.Device.{HasCause, LeavesOnly};
+ghost use Rattle.sg_target.specs.Armed.{Armed, armed_step};
+ghost use Rattle.sg_target.specs.DataInBound.{longest_data_in};
+ghost use Rattle.sg_target.specs.Executed.{executed_operation};
+ghost use Rattle.sg_target.specs.Execution.{IsExecuted};
+ghost use Rattle.sg_target.specs.Target.{disk_of};
+ghost use Rattle.sg_kept.specs.Disk.{IsAlive, IsDead, IsKept, IsUsable, failure_reply, longest_file};
+ghost use Rattle.sg_kept.specs.Kept.{powered};
+ghost use Rattle.sg_kept.specs.Opened.{IsBeforeOr, opened};
+ghost use Rattle.sg_kept.specs.Owing.{owes_flush};
+ghost use Rattle.sg_kept.specs.Recording.{HasRoom};
+
+use crate::BatchSink;
+use crate::laws::power_cycles_leave_what_is_kept;
+use crate::recording::execute_and_record;
+use sg_journal::{Device, DeviceError, Journal};
+use sg_store::Store;
+use sg_target::{Reply, Target};
+use sg_wire::Initiator;
+
+/// The longest file that is written to, in bytes.
+const LONGEST_FILE: u64 = 1 << 60;
+
+/// A disk in memory, and the file that keeps what a power cycle leaves of it.
+#[derive(Drop)]
+pub struct KeptDisk<S: Store, D: Device> {
+    /// The disk in memory.
+    pub target: Target<S>,
+    /// The file.
+    pub journal: Journal<D>,
+    /// The records that the file does not have yet.
+    pub batch: BatchSink,
+    /// The device failed. The disk executes no command any more.
+    pub is_dead: bool,
+    /// Room for the blocks of an ORWRITE.
+    pub scratch: Vec<u8>,
+}
+
+/// Writes the records that wait in a batch to the file. At `Ok` the file stands for the disk in memory.
+fn write_batch<D: Device>(
+    journal: &mut Journal<D>,
+    batch: &mut BatchSink,
+) -> Result<(), DeviceError>
+    requires kept { (disk : Armed) × IsKept D.seen D.may_leave journal.old batch.old disk }
+    requires end { journal.old.end ≤ 2 ^ 62 }
+
+    ensures kept { OnOk result ((disk : Armed) → IsKept D.seen D.may_leave journal.old batch.old disk
+        → IsKept D.seen D.may_leave journal.new batch.new disk) }
+    ensures flushed { OnOk result ((disk : Armed)
+        → IsKept D.seen D.may_leave journal.old batch.old disk
+        → opened (D.seen journal.new.device) ≡ Some (powered disk)) }
+    ensures empty { OnOk result (batch.new.records ≡ []) }
+
+    // A crash at any moment of the call leaves what the file stood for, or the disk after power on.
+    ensures any_moment { (disk : Armed) → IsKept D.seen D.may_leave journal.old batch.old disk
+        → LeavesOnly D.moment D.left_since journal.old.device journal.new.device
+        (IsBeforeOr (D.seen journal.old.device) disk) }
+    ensures cause { HasCause (D.failures journal.old.device) (D.failures journal.new.device) result }
+{
+    power_cycles_leave_what_is_kept();
+    if batch.batch.records().is_empty() {
+        return Ok(());
+    }
+    journal.flush(&mut batch.batch)?;
+    batch.batch.clear();
+    Ok(())
+}
+
+/// Writes the records that wait in a batch to the file if that is needed, or if the batch has too little room
+/// for another command.
+fn write_batch_if<D: Device>(
+    journal: &mut Journal<D>,
+    batch: &mut BatchSink,
+    is_needed: bool,
+) -> Result<(), DeviceError>
+    requires kept { (disk : Armed) × IsKept D.seen D.may_leave journal.old batch.old disk }
+    requires end { journal.old.end ≤ 2 ^ 62 }
+    ensures kept { OnOk result ((disk : Armed) → IsKept D.seen D.may_leave journal.old batch.old disk
+        → IsKept D.seen D.may_leave journal.new batch.new disk) }
+    ensures flushed { OnOk result (is_needed ≡ true → (disk : Armed)
+        → IsKept D.seen D.may_leave journal.old batch.old disk
+        → opened (D.seen journal.new.device) ≡ Some (powered disk)) }
+    ensures room { OnOk result (HasRoom batch.new) }
+    ensures any_moment { (disk : Armed) → IsKept D.seen D.may_leave journal.old batch.old disk
+        → LeavesOnly D.moment D.left_since journal.old.device journal.new.device
+        (IsBeforeOr (D.seen journal.old.device) disk) }
+    ensures cause { HasCause (D.failures journal.old.device) (D.failures journal.new.device) result }
+{
+    if is_needed || !batch.has_room() {
+        return write_batch(journal, batch);
+    }
+    Ok(())
+}
+
+impl<S: Store, D: Device> KeptDisk<S, D> {
+    /// Executes a command while the device has not failed, and flushes if it owes that, or if the batch
+    /// gets full.
+    fn step(
+        &mut self,
+        initiator: Initiator,
+        cdb: &[u8],
+        data_out: &[u8],
+        buf: &mut [u8],
+    ) -> Result<Reply, DeviceError>
+        requires buffer { longest_data_in ≤ length buf.old }
+        requires usable { IsUsable D.seen D.may_leave self.old }
+
+        ensures executed { IfOk result (λ reply. IsExecuted initiator cdb.now data_out.now
+            (disk_of self.old.target) (disk_of self.new.target) reply buf.old buf.new) }
+        ensures usable { OnOk result (IsUsable D.seen D.may_leave self.new) }
+        ensures owed { OnOk result (owes_flush (disk_of self.new.target) cdb.now
+            (executed_operation (disk_of self.old.target) initiator cdb.now data_out.now) ≡ true
+            → opened (D.seen self.new.journal.device) ≡ Some (powered (disk_of self.new.target))) }
+        ensures any_moment { LeavesOnly D.moment D.left_since self.old.journal.device
+            self.new.journal.device (IsBeforeOr (D.seen self.old.journal.device)
+            (armed_step (disk_of self.old.target) initiator cdb.now data_out.now).after) }
+        ensures later { D.failures self.old.journal.device ≤ D.failures self.new.journal.device }
+        ensures cause { IsErr result
+            → (D.failures self.old.journal.device < D.failures self.new.journal.device)
+            ⊎ (longest_file < self.old.journal.end) }
+        ensures is_dead { self.new.is_dead ≡ self.old.is_dead }
+    {
+        if self.journal.end > LONGEST_FILE {
+            return Err(DeviceError);
+        }
+        let (reply, owes) = execute_and_record(
+            &mut self.target,
+            &mut self.batch,
+            initiator,
+            cdb,
+            data_out,
+            buf,
+            &mut self.scratch,
+        );
+        write_batch_if(&mut self.journal, &mut self.batch, owes)?;
+        Ok(reply)
+    }
+
+    /// Writes what waits while the device has not failed.
+    fn write_out(&mut self) -> Result<(), DeviceError>
+        requires usable { IsUsable D.seen D.may_leave self.old }
+        ensures usable { OnOk result (IsUsable D.seen D.may_leave self.new) }
+        ensures flushed { OnOk result (opened (D.seen self.new.journal.device)
+            ≡ Some (powered (disk_of self.old.target))) }
+        ensures target { self.new.target ≡ self.old.target }
+        ensures any_moment { LeavesOnly D.moment D.left_since self.old.journal.device
+            self.new.journal.device
+            (IsBeforeOr (D.seen self.old.journal.device) (disk_of self.old.target)) }
+        ensures later { D.failures self.old.journal.device ≤ D.failures self.new.journal.device }
+        ensures cause { IsErr result
+            → (D.failures self.old.journal.device < D.failures self.new.journal.device)
+            ⊎ (longest_file < self.old.journal.end) }
+        ensures is_dead { self.new.is_dead ≡ self.old.is_dead }
+    {
+        if self.journal.end > LONGEST_FILE {
+            return Err(DeviceError);
+        }
+        write_batch_if(&mut self.journal, &mut self.batch, true)
+    }
+
+    /// Writes what waits to the file. At `Ok` opening the file finds the disk, after power on.
+    ///
+    /// # Errors
+    /// The device failed, now or earlier.
+    pub fn flush(&mut self) -> Result<(), DeviceError>
+        requires usable { IsAlive self.old → IsUsable D.seen D.may_leave self.old }
+        ensures usable { OnOk result (IsAlive self.new × IsUsable D.seen D.may_leave self.new) }
+        ensures flushed { OnOk result (opened (D.seen self.new.journal.device)
+            ≡ Some (powered (disk_of self.old.target))) }
+        ensures target { self.new.target ≡ self.old.target }
+
+        // A crash at any moment leaves what the file had, or the disk after power on.
+        ensures any_moment { IsAlive self.old → LeavesOnly D.moment D.left_since
+            self.old.journal.device self.new.journal.device
+            (IsBeforeOr (D.seen self.old.journal.device) (disk_of self.old.target)) }
+
+        // It fails only if the device does, or if the file is too long. Then it stays dead.
+        ensures failed { IsErr result → IsDead self.new }
+        ensures cause { IsAlive self.old → IsErr result
+            → (D.failures self.old.journal.device < D.failures self.new.journal.device)
+            ⊎ (longest_file < self.old.journal.end) }
+        ensures stays_dead { IsDead self.old → self.new ≡ self.old }
+    {
+        if self.is_dead {
+            return Err(DeviceError);
+        }
+        match self.write_out() {
+            Ok(()) => Ok(()),
+            Err(DeviceError) => {
+                self.is_dead = true;
+                Err(DeviceError)
+            }
+        }
+    }
+
+    /// Executes a command, as [`Target::execute`] does. What it owes to the file is there when the reply
+    /// is returned.
+    ///
+    /// If the device fails, the reply is CHECK CONDITION, HARDWARE ERROR, INTERNAL TARGET FAILURE, and so
+    /// is that to each later command. The device is not called any more.
+    pub fn execute(
+        &mut self,
+        initiator: Initiator,
+        cdb: &[u8],
+        data_out: &[u8],
+        buf: &mut [u8],
+    ) -> Reply
+        requires buffer { longest_data_in ≤ length buf.old }
+        requires usable { IsAlive self.old → IsUsable D.seen D.may_leave self.old }
+
+        // While the device has not failed, the reply and the disk after it are those of the command.
+        ensures executed { IsAlive self.new → IsExecuted initiator cdb.now data_out.now
+            (disk_of self.old.target) (disk_of self.new.target) result buf.old buf.new }
+        ensures usable { IsAlive self.new → IsUsable D.seen D.may_leave self.new }
+        // What the command owes is in the file when it is answered.
+        ensures owed { IsAlive self.new → owes_flush (disk_of self.new.target) cdb.now
+            (executed_operation (disk_of self.old.target) initiator cdb.now data_out.now) ≡ true
+            → opened (D.seen self.new.journal.device) ≡ Some (powered (disk_of self.new.target)) }
+
+        // A crash at any moment leaves what the file had, or the disk with this command, after power on.
+        ensures any_moment { IsAlive self.old → LeavesOnly D.moment D.left_since
+            self.old.journal.device self.new.journal.device
+            (IsBeforeOr (D.seen self.old.journal.device)
+            (armed_step (disk_of self.old.target) initiator cdb.now data_out.now).after) }
+
+        // It fails only if the device does, or if the file is too long. Then it stays dead.
+        ensures failed { IsDead self.new → result ≡ failure_reply self.new.target.state }
+        ensures cause { IsAlive self.old → IsDead self.new
+            → (D.failures self.old.journal.device < D.failures self.new.journal.device)
+            ⊎ (longest_file < self.old.journal.end) }
+        ensures stays_dead { IsDead self.old → self.new ≡ self.old }
+    {
+        if self.is_dead {
+            return self.target.failure_reply();
+        }
+        match self.step(initiator, cdb, data_out, buf) {
+            Ok(reply) => reply,
+            Err(DeviceError) => {
+                self.is_dead = true;
+                self.target.failure_reply()
+            }
+        }
+    }
+}
