@@ -38,7 +38,8 @@ module _ (state : State) (i : ℕ) where
 
   readable : (o : Operation) → IsReady state o
       → IsReadable (step_of_checked state i (Ok o)).state.disk.capacity o
-  readable (OrWrite out) ready = let same = or-write-keeps out in let there = ready.on_disk.0 in omega (arith, there, same)
+  readable (OrWrite out) ready = let same = or-write-keeps out in let there = ready.on_disk.0
+      in omega (arith, there, same)
   readable _ ready = tt
 
   result-readable : (r : Result Operation Refusal) (o : Operation) → Ready state r → r ≡ Ok o

@@ -15,3 +15,5 @@ mod ExecutedLemmas
 -- Which disk a file stands for.
 mod OpenedLemmas
 mod MomentsLemmas
+mod OpeningLemmas
+mod SteadyLemmas

@@ -7,3 +7,4 @@ pub mod Opened
 pub mod Owing
 pub mod Disk
 pub mod Recording
+pub mod Opening

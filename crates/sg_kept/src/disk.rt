@@ -20,8 +20,8 @@ use sg_store::Store;
 use sg_target::{Reply, Target};
 use sg_wire::Initiator;
 
-/// The longest file that is written to, in bytes.
-const LONGEST_FILE: u64 = 1 << 60;
+/// The longest file that is opened or written to, in bytes.
+pub(crate) const LONGEST_FILE: u64 = 1 << 60;
 
 /// A disk in memory, and the file that keeps what a power cycle leaves of it.
 #[derive(Drop)]

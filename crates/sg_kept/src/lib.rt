@@ -1,12 +1,14 @@
-//! What a power cycle leaves of a disk, and how commands and happenings change that: the laws on which a
-//! disk in a file will rest. The crate has no code.
+//! A disk whose changes are kept in a file: what a power cycle leaves of it, and how commands and
+//! happenings change that.
 #![tactic(auto)]
 
 mod batch_sink;
 mod disk;
 pub mod laws;
+mod opening;
 mod owing;
 mod recording;
 
 pub use batch_sink::BatchSink;
 pub use disk::KeptDisk;
+pub use opening::{MakeError, OpenDiskError};

@@ -46,7 +46,8 @@ returns-clause-kept g c disk s =
     kept-flushed g.D.Device.seen g.D.Device.may_leave c.args.journal.now c.flush.new.self
     c.args.batch.now disk s stands c.clear.new.self
     (ap (λ (b : BatchValue). b.records) cleared)
-    (ap (λ (b : BatchValue). b.sector) (cleared ∙ ap (λ (b : BatchValue). record b { records = [] }) (c.flush.ensures.batch ∙ batch))
+    (ap (λ (b : BatchValue). b.sector) (cleared
+    ∙ ap (λ (b : BatchValue). record b { records = [] }) (c.flush.ensures.batch ∙ batch))
     ∙ s.sector ∙ sym c.flush.ensures.sector)
 
 pub returns-clause-flushed : goal.returns-clause-flushed

@@ -1,0 +1,302 @@
+// The calls that give a disk in a file: one makes the file, and one opens it.
+ghost use Rattle.std.specs.Prelude.{◌≡◌, ◌≤◌, ◌<◌, [], ◌∷◌, length, true, IfOk, OnOk, Some};
+ghost use Rattle.sg_journal.specs.Reading.{HasEnded, HasFound};
+ghost use Rattle.sg_changes.specs.FirstRecord.{first_record, is_new_disk, new_disk_kept};
+ghost use Rattle.sg_changes.specs.Laws.{IsSound};
+ghost use Rattle.sg_journal.specs.Device.{HasCause, LeavesOnly};
+ghost use Rattle.sg_journal.specs.Journal.{IsBeforeOrAfter};
+ghost use Rattle.sg_journal.specs.JournalState.{HasBatches};
+ghost use Rattle.sg_target.specs.State.{IsWithinLimits};
+ghost use Rattle.sg_target.specs.Target.{disk_of};
+ghost use Rattle.sg_kept.specs.Disk.{longest_file};
+ghost use Rattle.sg_kept.specs.Kept.{restored};
+ghost use Rattle.sg_kept.specs.Opened.{IsBeforeOr, begun, opened};
+ghost use Rattle.sg_kept.specs.Opening.{HasRead, HasStarted, IsSteady, new_disk_of};
+
+use crate::disk::LONGEST_FILE;
+use crate::{BatchSink, KeptDisk};
+use sg_changes::laws::{first_records_are_exact, kept_stays_sound};
+use sg_changes::{KeptParts, NewDisk};
+use sg_journal::{Batch, Device, DeviceError, Fault, Journal, OpenError, Reader, Source};
+use sg_store::Store;
+use sg_target::{BUFFER_LENGTH, Config, Target};
+use std::alloc::{AllocError, Global};
+use thiserror::Error;
+
+/// The reason why a disk was not made.
+#[derive(Clone, Copy, Debug, Error, PartialEq, Eq)]
+pub enum MakeError {
+    /// Memory was refused. Nothing was written.
+    #[error("memory was refused")]
+    Memory,
+    /// The device failed.
+    #[error("the device failed")]
+    Device,
+}
+
+impl From<AllocError> for MakeError {
+    ghost use Rattle.std.specs.Prelude.{◌≡◌};
+    ghost use Rattle.sg_kept.specs.declared.opening.MakeError.TheVariants.{Memory};
+
+    ghost from_gives = { λ _ e. e ≡ Memory };
+
+    fn from(_: AllocError) -> Self {
+        MakeError::Memory
+    }
+}
+
+impl From<DeviceError> for MakeError {
+    ghost use Rattle.std.specs.Prelude.{◌≡◌};
+    ghost use Rattle.sg_kept.specs.declared.opening.MakeError.TheVariants.{Device};
+
+    ghost from_gives = { λ _ e. e ≡ Device };
+
+    fn from(_: DeviceError) -> Self {
+        MakeError::Device
+    }
+}
+
+/// The reason why a disk was not opened.
+#[derive(Clone, Copy, Debug, Error, PartialEq, Eq)]
+pub enum OpenDiskError {
+    /// Memory was refused.
+    #[error("memory was refused")]
+    Memory,
+    /// The device failed.
+    #[error("the device failed")]
+    Device,
+    /// The file is no journal.
+    #[error("{0}")]
+    File(Fault),
+    /// The file has no batch: it was not made yet.
+    #[error("the file was not made yet")]
+    Unmade,
+    /// A record cannot be read, or its change does not apply.
+    #[error("the record at byte {record} of batch {batch} is damaged")]
+    Damaged {
+        /// The number of its batch. The first is 0.
+        batch: u64,
+        /// The offset of the record in the records of its batch, in bytes.
+        record: usize,
+    },
+    /// The file is longer than 2^60 bytes.
+    #[error("the file is longer than 2^60 bytes")]
+    TooLong,
+}
+
+impl From<AllocError> for OpenDiskError {
+    ghost use Rattle.std.specs.Prelude.{◌≡◌};
+    ghost use Rattle.sg_kept.specs.declared.opening.OpenDiskError.TheVariants.{Memory};
+
+    ghost from_gives = { λ _ e. e ≡ Memory };
+
+    fn from(_: AllocError) -> Self {
+        OpenDiskError::Memory
+    }
+}
+
+/// The target that has these parts, after power on.
+fn target_of<S: Store>(parts: KeptParts<S>) -> Target<S>
+    requires new { is_new_disk (new_disk_of parts) ≡ true }
+    requires sound { IsSound parts }
+    ensures disk { disk_of result ≡ restored parts }
+    ensures limits { IsWithinLimits result.state }
+{
+    let config = Config::new(parts.capacity, parts.pool, parts.identity).unwrap();
+    let pages = parts.pages();
+    Target::restored(config, parts.store, pages, parts.reservations, parts.faults)
+}
+
+/// Adds the first record to an empty batch.
+fn add_first(batch: &mut BatchSink, disk: &NewDisk)
+    requires empty { batch.old.records ≡ [] }
+    ensures records { batch.new ≡ record batch.old { records = first_record.bytes disk.now } }
+    ensures begun { begun batch.new.records ≡ Some (new_disk_kept disk.now) }
+    ensures new { is_new_disk disk.now ≡ true }
+{
+    first_records_are_exact();
+    disk.write(batch);
+}
+
+/// Writes the first batch to a file that has none. The batch is empty after it.
+fn write_first<D: Device>(
+    journal: &mut Journal<D>,
+    batch: &mut BatchSink,
+) -> Result<(), DeviceError>
+    requires batches { HasBatches D.seen D.may_leave journal.old [] }
+    requires end { journal.old.end ≤ longest_file }
+    requires sector { batch.old.sector ≡ journal.old.sector }
+    requires some { 0 < length batch.old.records }
+    ensures batches { OnOk result (HasBatches D.seen D.may_leave journal.new
+        (batch.old.records ∷ [])) }
+    ensures any_moment { LeavesOnly D.moment D.left_since journal.old.device journal.new.device
+        (IsBeforeOrAfter [] batch.old.records) }
+    ensures cause { HasCause (D.failures journal.old.device) (D.failures journal.new.device) result }
+    ensures sector { batch.new.sector ≡ journal.new.sector }
+    ensures empty { OnOk result (batch.new.records ≡ []) }
+{
+    journal.flush(&mut batch.batch)?;
+    batch.batch.clear();
+    Ok(())
+}
+
+fn error_of_file(error: OpenError) -> OpenDiskError {
+    match error {
+        OpenError::Device => OpenDiskError::Device,
+        OpenError::File(fault) => OpenDiskError::File(fault),
+    }
+}
+
+/// The parts that a first batch leaves.
+fn begin<S: Store>(alloc: Global, first: &[u8]) -> Result<KeptParts<S>, OpenDiskError>
+    ensures begun { IfOk result (λ parts. begun first.now ≡ Some parts) }
+    ensures steady { IfOk result IsSteady }
+{
+    kept_stays_sound();
+    let Some((disk, rest)) = NewDisk::read(first) else {
+        return Err(OpenDiskError::Damaged {
+            batch: 0,
+            record: 0,
+        });
+    };
+    let mut parts = KeptParts::new(alloc, &disk)?;
+    match parts.replay(rest) {
+        Ok(()) => Ok(parts),
+        Err(damaged) => Err(OpenDiskError::Damaged {
+            batch: 0,
+            record: damaged.record.saturating_add(NewDisk::RECORD_LENGTH),
+        }),
+    }
+}
+
+/// Replays the other batches of a file, one after another.
+fn replay_rest<F: Source + Drop, S: Store>(
+    reader: &mut Reader<F>,
+    batch: &mut Batch,
+    parts: &mut KeptParts<S>,
+) -> Result<(), OpenDiskError>
+    requires read { HasRead F.taken F.left reader.old parts.old }
+    requires steady { IsSteady parts.old }
+    requires sector { batch.old.sector ≡ reader.old.sector }
+    ensures ended { OnOk result (HasEnded reader.new) }
+    ensures read { OnOk result (HasRead F.taken F.left reader.new parts.new) }
+    ensures steady { OnOk result (IsSteady parts.new) }
+    ensures sector { batch.new.sector ≡ reader.new.sector }
+{
+    kept_stays_sound();
+    let mut number: u64 = 1;
+    loop {
+        match reader.next(batch) {
+            Ok(true) => {}
+            Ok(false) => return Ok(()),
+            Err(error) => return Err(error_of_file(error)),
+        }
+        if let Err(damaged) = parts.replay(batch.records()) {
+            return Err(OpenDiskError::Damaged {
+                batch: number,
+                record: damaged.record,
+            });
+        }
+        number = number.saturating_add(1);
+    }
+}
+
+/// Reads all batches of a file, and replays them.
+fn read_parts<F: Source + Drop, S: Store>(
+    alloc: Global,
+    reader: &mut Reader<F>,
+    batch: &mut Batch,
+) -> Result<KeptParts<S>, OpenDiskError>
+    requires found { HasFound F.taken F.left reader.old [] }
+    requires sector { batch.old.sector ≡ reader.old.sector }
+    ensures ended { OnOk result (HasEnded reader.new) }
+    ensures read { IfOk result (HasRead F.taken F.left reader.new) }
+    ensures steady { IfOk result IsSteady }
+    ensures sector { batch.new.sector ≡ reader.new.sector }
+{
+    match reader.next(batch) {
+        Ok(true) => {}
+        Ok(false) => return Err(OpenDiskError::Unmade),
+        Err(error) => return Err(error_of_file(error)),
+    }
+    let mut parts = begin(alloc, batch.records())?;
+    replay_rest(reader, batch, &mut parts)?;
+    Ok(parts)
+}
+
+impl<S: Store, D: Device + Drop> KeptDisk<S, D> {
+    /// Makes a disk, and its file. All memory is taken before the file is written.
+    ///
+    /// # Errors
+    /// Memory was refused, or the device failed.
+    pub fn make(
+        alloc: Global,
+        journal: Journal<D>,
+        disk: &NewDisk,
+    ) -> Result<KeptDisk<S, D>, MakeError>
+        requires batches { HasBatches D.seen D.may_leave journal [] }
+        requires end { journal.end ≤ longest_file }
+        ensures started { IfOk result (HasStarted D.seen D.may_leave) }
+        ensures disk { IfOk result (λ made. disk_of made.target ≡ restored (new_disk_kept disk.now)) }
+
+        // A crash at any moment leaves a file without a disk, as it was, or the new disk.
+        ensures any_moment { IfOk result (λ made. LeavesOnly D.moment D.left_since
+            journal.device made.journal.device
+            (IsBeforeOr (D.seen journal.device) (disk_of made.target))) }
+    {
+        kept_stays_sound();
+        let parts = KeptParts::new(alloc, disk)?;
+        let mut batch = BatchSink {
+            batch: Batch::new(alloc, journal.sector)?,
+        };
+        let scratch = vec![in alloc; 0; BUFFER_LENGTH]?;
+        let mut journal = journal;
+        add_first(&mut batch, disk);
+        let target = target_of(parts);
+        write_first(&mut journal, &mut batch)?;
+        Ok(KeptDisk {
+            target,
+            journal,
+            batch,
+            is_dead: false,
+            scratch,
+        })
+    }
+    /// Opens the file of a disk. Nothing is written.
+    ///
+    /// # Errors
+    /// Memory was refused, the device failed, or the file is not one of a disk.
+    pub fn open<F: Source<Device = D> + Drop>(
+        alloc: Global,
+        source: F,
+    ) -> Result<KeptDisk<S, D>, OpenDiskError>
+        requires fresh { F.taken source ≡ [] }
+        ensures started { IfOk result (HasStarted D.seen D.may_leave) }
+        ensures opened { IfOk result (λ disk. opened (D.opening disk.journal.device)
+            ≡ Some (disk_of disk.target)) }
+        ensures short { IfOk result (λ _. F.left source ≤ longest_file) }
+    {
+        if source.left() > LONGEST_FILE {
+            return Err(OpenDiskError::TooLong);
+        }
+        let mut reader = match Reader::open(source) {
+            Ok(reader) => reader,
+            Err((error, _)) => return Err(error_of_file(error)),
+        };
+        let mut batch = Batch::new(alloc, reader.sector)?;
+        let scratch = vec![in alloc; 0; BUFFER_LENGTH]?;
+        let parts = read_parts(alloc, &mut reader, &mut batch)?;
+        let journal = match reader.into_journal() {
+            Ok(journal) => journal,
+            Err((DeviceError, _)) => return Err(OpenDiskError::Device),
+        };
+        batch.clear();
+        Ok(KeptDisk {
+            target: target_of(parts),
+            journal,
+            batch: BatchSink { batch },
+            is_dead: false,
+            scratch,
+        })
+    }
+}
