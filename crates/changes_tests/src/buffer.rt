@@ -6,7 +6,7 @@ use std::marker::Model;
 #[derive(Drop)]
 pub struct Buffer {
     bytes: [u8; 1024],
-    length: usize,
+    used: usize,
 }
 
 impl Model for Buffer {
@@ -14,9 +14,9 @@ impl Model for Buffer {
 
     ghost Value = { List ℕ };
 
-    ghost view = { λ b. take b.length b.bytes };
+    ghost view = { λ b. take b.used b.bytes };
 
-    ghost invariant = { λ b. (b.length ≤ 1024) × (length b.bytes ≡ 1024) };
+    ghost invariant = { λ b. (b.used ≤ 1024) × (length b.bytes ≡ 1024) };
 }
 
 ghost use Rattle.std.specs.Prelude.{◌≡◌, [], length};
@@ -27,7 +27,7 @@ impl Buffer {
     {
         Buffer {
             bytes: [0; 1024],
-            length: 0,
+            used: 0,
         }
     }
 
@@ -35,7 +35,7 @@ impl Buffer {
     pub fn as_slice(&self) -> &[u8]
         ensures { result.now ≡ self.now }
     {
-        &self.bytes[..self.length]
+        &self.bytes[..self.used]
     }
 }
 
@@ -47,8 +47,8 @@ impl Sink for Buffer {
     ghost room = { λ b. 1024 - length b };
 
     fn push(&mut self, bytes: &[u8]) {
-        let end = self.length + bytes.len();
-        self.bytes[self.length..end].copy_from_slice(bytes);
-        self.length = end;
+        let end = self.used + bytes.len();
+        self.bytes[self.used..end].copy_from_slice(bytes);
+        self.used = end;
     }
 }

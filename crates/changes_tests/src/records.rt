@@ -58,22 +58,20 @@ fn a_first_record(rt: HostRuntime) -> Result<(), Fail> {
     let disk = NewDisk::new(4096, 4, Identity::standard()).ok_or("the disk is allowed")?;
     let mut buffer = Buffer::new();
     disk.write(&mut buffer);
-    assert_eq!(rt; buffer.as_slice().len(), NewDisk::RECORD_LENGTH);
+    let bytes = buffer.as_slice();
+    let names = b"SGMODEL THIN DISK       010000000001".as_slice();
+    assert_eq!(rt; bytes.len(), NewDisk::RECORD_LENGTH);
     assert_eq!(rt;
-        &buffer.as_slice()[..13],
+        &bytes[..13],
         [9, 0, 0, 0, 0, 0, 0, 16, 0, 0, 0, 0, 4].as_slice()
     );
-    assert_eq!(rt;
-        &buffer.as_slice()[13..41],
-        b"SGMODEL THIN DISK       0100".as_slice()
-    );
-    assert_eq!(rt;
-        &buffer.as_slice()[41..],
-        b"00000001\0\0\0\0\0\0\0\x01\0\0".as_slice()
-    );
-    let read = NewDisk::read(buffer.as_slice()).ok_or("it is a first record")?;
-    assert_eq!(rt; read.0.capacity(), 4096);
-    assert_eq!(rt; read.0.pool(), 4);
-    assert_eq!(rt; read.1.len(), 0);
+    assert_eq!(rt; &bytes[13..49], names);
+    assert_eq!(rt; &bytes[49..], [0, 0, 0, 0, 0, 0, 0, 1, 0, 0].as_slice());
+    let Some((read, rest)) = NewDisk::read(bytes) else {
+        panic!(rt; "it is a first record");
+    };
+    assert_eq!(rt; read.capacity(), 4096);
+    assert_eq!(rt; read.pool(), 4);
+    assert_eq!(rt; rest.len(), 0);
     Ok(())
 }

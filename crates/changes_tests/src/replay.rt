@@ -24,6 +24,7 @@ fn blocks_are_there_again(rt: HostRuntime) -> Result<(), Fail> {
     }
     .write(&mut buffer);
     assert_eq!(rt; parts.replay(buffer.as_slice()), Ok(()));
+    assert_eq!(rt; parts.capacity, 32);
     let mut block = [0; 512];
     parts.store.restart_counts();
     parts.store.read(3, 1, &mut block);
