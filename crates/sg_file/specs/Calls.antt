@@ -1,5 +1,6 @@
--- The calls on a file, as they are noted.
-use Rattle.std.specs.Prelude.{ℕ, Bool, List, slice_index, ◌==◌, if◌then◌else◌}
+-- The calls on a file, and the events by which they are noted.
+use Rattle.std.specs.Prelude.{ℕ, Bool, List, map, ◌==◌, if◌then◌else◌}
+use Rattle.sg_journal.specs.Record.{Event}
 
 -- A call, and whether it succeeded. A `Read` is of the next bytes, before any other call.
 pub data Call : Type 0 where
@@ -11,7 +12,7 @@ pub data Call : Type 0 where
   WriteDraft : (bytes : List ℕ) → (ok : Bool) → Call
   Exchange : (ok : Bool) → Call
 
--- ---- Notes
+-- ---- Events
 
 -- By its number.
 abbrev pub call_numbered : (number at : ℕ) → (ok : Bool) → (bytes : List ℕ) → Call
@@ -24,6 +25,9 @@ call_numbered number at ok bytes =
     else if number == 5 then WriteDraft bytes ok
     else Exchange ok
 
-abbrev pub call_of : (numbers bytes : List ℕ) → Call
-call_of numbers bytes =
-    call_numbered (slice_index numbers 0) (slice_index numbers 1) (slice_index numbers 2 == 1) bytes
+abbrev pub call_of : Event → Call
+call_of e = call_numbered e.call e.place e.succeeded e.bytes
+
+-- In the order of their events.
+abbrev pub calls : List Event → List Call
+calls events = map call_of events

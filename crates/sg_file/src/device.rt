@@ -1,14 +1,13 @@
 // A file that is written. Each method makes one call of the system, or those of an exchange, and then
 // notes it with its outcome.
 ghost use Rattle.std.specs.Prelude.{◌≡◌, ◌∷◌, true, false, Ok, IsErr};
-ghost use Rattle.sg_file.specs.Calls.{call_numbered};
+ghost use Rattle.sg_file.specs.Calls.{call_numbered, calls};
 ghost use Rattle.sg_file.specs.Moments.{counts_now, only_now};
 ghost use Rattle.sg_file.specs.History.{draft, failures, left_since, may_leave, moment, opening};
 ghost use Rattle.sg_file.specs.History.{seen};
 
-use crate::notes::Notes;
 use crate::paths::Paths;
-use sg_journal::{Device, DeviceError};
+use sg_journal::{Device, DeviceError, Record};
 use std::fs::{self, File};
 use std::io::{self, ErrorKind, Write};
 use std::os::unix::fs::FileExt;
@@ -37,7 +36,7 @@ pub struct FileDevice<'a> {
     // After a call has failed, no other is made: a sync can succeed although an earlier one has lost what
     // it could not write.
     failed: bool,
-    notes: Notes,
+    notes: Record,
 }
 
 impl<'a> FileDevice<'a> {
@@ -46,7 +45,7 @@ impl<'a> FileDevice<'a> {
         rt: &'a HostRuntime,
         paths: Paths,
         file: File,
-        notes: Notes,
+        notes: Record,
     ) -> FileDevice<'a>
         ensures { result.notes ≡ notes }
     {
@@ -62,8 +61,8 @@ impl<'a> FileDevice<'a> {
 
     /// Notes a call, and returns its outcome.
     fn noted(&mut self, call: u64, at: u64, ok: bool, bytes: &[u8]) -> Result<(), DeviceError>
-        ensures noted { self.new.notes.calls
-            ≡ call_numbered call at ok bytes.now ∷ self.old.notes.calls }
+        ensures noted { calls self.new.notes.events
+            ≡ call_numbered call at ok bytes.now ∷ calls self.old.notes.events }
         ensures ok { ok ≡ true → result ≡ Ok tt }
         ensures err { ok ≡ false → IsErr result }
     {
@@ -112,23 +111,23 @@ impl<'a> FileDevice<'a> {
 }
 
 impl<'a> Device for FileDevice<'a> {
-    ghost seen = { λ f. seen f.notes.calls };
+    ghost seen = { λ f. seen (calls f.notes.events) };
 
-    ghost may_leave = { λ f. may_leave f.notes.calls };
+    ghost may_leave = { λ f. may_leave (calls f.notes.events) };
 
-    ghost moment = { λ f. moment f.notes.calls };
+    ghost moment = { λ f. moment (calls f.notes.events) };
 
-    ghost left_since = { λ f. left_since f.notes.calls };
+    ghost left_since = { λ f. left_since (calls f.notes.events) };
 
-    ghost failures = { λ f. failures f.notes.calls };
+    ghost failures = { λ f. failures (calls f.notes.events) };
 
-    ghost opening = { λ f. opening f.notes.calls };
+    ghost opening = { λ f. opening (calls f.notes.events) };
 
-    ghost draft = { λ f. draft f.notes.calls };
+    ghost draft = { λ f. draft (calls f.notes.events) };
 
-    ghost counts_now = { λ f t c le now. counts_now f.notes.calls t c now };
+    ghost counts_now = { λ f t c le now. counts_now (calls f.notes.events) t c now };
 
-    ghost only_now = { λ f c left. only_now f.notes.calls c left };
+    ghost only_now = { λ f c left. only_now (calls f.notes.events) c left };
 
     fn write_at(&mut self, at: u64, bytes: &[u8]) -> Result<(), DeviceError> {
         let ok = !self.failed && self.file.write_all_at(bytes, at).is_ok();

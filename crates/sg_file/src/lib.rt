@@ -6,13 +6,11 @@
 mod device;
 mod error;
 pub mod laws;
-mod notes;
 mod paths;
 mod source;
 
 pub use device::FileDevice;
 pub use error::FileError;
-pub use notes::Notes;
 pub use source::FileSource;
 
 #[cfg(test)]

@@ -1,9 +1,8 @@
 // A file that is opened and read. No method writes to it.
 use crate::device::FileDevice;
 use crate::error::FileError;
-use crate::notes::Notes;
 use crate::paths::Paths;
-use sg_journal::{DeviceError, Source};
+use sg_journal::{DeviceError, Record, Source};
 use std::fs::{self, File};
 use std::io::Read;
 use std::marker::Model;
@@ -19,18 +18,19 @@ pub struct FileSource<'a> {
     paths: Paths,
     file: File,
     left: u64,
-    notes: Notes,
+    notes: Record,
 }
 
 impl<'a> Model for FileSource<'a> {
     ghost use Rattle.sg_file.specs.Source.{SourceFields};
+    ghost use Rattle.sg_file.specs.Calls.{calls};
     ghost use Rattle.sg_file.specs.History.{AreReads};
 
     ghost Value = { SourceFields };
 
-    ghost view = { λ s. record { calls = s.notes.calls; left = s.left } };
+    ghost view = { λ s. record { calls = calls s.notes.events; left = s.left } };
 
-    ghost invariant = { λ s. AreReads s.notes.calls };
+    ghost invariant = { λ s. AreReads (calls s.notes.events) };
 }
 
 ghost use Rattle.std.specs.Prelude.{◌≡◌, [], IfOk};
@@ -65,7 +65,7 @@ impl<'a> FileSource<'a> {
             paths: Paths::of(rt, path)?,
             file,
             left: metadata.len(),
-            notes: Notes::new(),
+            notes: Record::new(),
         })
     }
 }
