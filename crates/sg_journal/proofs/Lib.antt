@@ -9,5 +9,5 @@ mod Buffers
 mod Ends
 mod Absent
 mod Blocks
-mod Openings
+pub mod Openings
 mod Whole

@@ -60,6 +60,7 @@ impl<F: Source + Drop> Reader<F> {
         requires fresh { F.taken source ≡ [] }
         ensures found { IfOk result (λ reader. HasFound F.taken F.left reader []) }
         ensures new { F.left source ≡ 0 → IfOk result (λ reader. reader.sector ≡ NEW_SECTOR) }
+        ensures later { IfOk result (λ reader. F.failures source ≤ F.failures reader.source) }
         ensures fault { IfErr result (λ e. (fault : Fault) → e.0 ≡ File fault →
             IsFaulty (F.taken e.1) (F.left e.1) fault) }
         ensures cause { IfErr result (λ e. e.0 ≡ Device → F.failures source < F.failures e.1) }

@@ -10,6 +10,7 @@ mod TableLemmas
 mod CommandLemmas
 -- Records that are added to a batch.
 mod RecordingLemmas
+mod RefusedLemmas
 -- The operation that a command has executed.
 mod ExecutedLemmas
 -- Which disk a file stands for.

@@ -7,4 +7,5 @@ pub mod Opened
 pub mod Owing
 pub mod Disk
 pub mod Recording
+pub mod Refused
 pub mod Opening

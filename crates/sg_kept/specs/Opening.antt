@@ -1,5 +1,5 @@
 -- A disk whose file was made or opened a moment ago.
-use Rattle.std.specs.Prelude.{◌≡◌, ℕ, List, Some, true}
+use Rattle.std.specs.Prelude.{◌≡◌, ℕ, List, Some, length, true}
 use Rattle.sg_changes.specs.FirstRecord.{NewDiskFields, is_new_disk}
 use Rattle.sg_changes.specs.KeptFields.{KeptFields}
 use Rattle.sg_changes.specs.Laws.{IsSound}
@@ -37,9 +37,10 @@ pub record IsSteady (kept : KeptFields) : Type 0 where
   pub sound : IsSound kept
   pub reservations : after_power_on kept.reservations ≡ kept.reservations
 
--- The batches that a reader found so far leave this.
+-- The batches that a reader found so far are so many, and leave this.
 pub record HasRead {F D : Type 0} (taken : F → List ℕ) (left : F → ℕ) (reader : Reader F D)
-    (kept : KeptFields) : Type 0 where
+    (count : ℕ) (kept : KeptFields) : Type 0 where
   pub batches : List (List ℕ)
   pub found : HasFound taken left reader batches
+  pub number : length batches ≡ count
   pub files : filed batches ≡ Some kept

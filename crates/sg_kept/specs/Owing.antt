@@ -5,14 +5,15 @@ use Rattle.sg_pages.specs.ModePage.{caches_writes}
 use Rattle.sg_wire.specs.Bits.{has_bit}
 use Rattle.sg_target.specs.Armed.{Armed}
 use Rattle.sg_target.specs.declared.operation.Operation.{Operation}
+use Rattle.sg_target.specs.declared.operation.Operation.TheVariants.{Read, Verify, Compare, CompareEach}
 use Rattle.sg_target.specs.declared.operation.Operation.TheVariants.{Write, CompareAndWrite, OrWrite}
 use Rattle.sg_target.specs.declared.operation.Operation.TheVariants.{Synchronize, StartStop, UnmapAll}
 use Rattle.sg_target.specs.declared.operation.Operation.TheVariants.{ChangeModes, ChangeReservations}
 
--- FUA is bit 3 of byte 1 of a CDB that writes, and has more than six bytes. WRITE(6) has no such bit
--- (SBC-3, 5.32 to 5.35).
+-- FUA is bit 3 of byte 1 of a CDB that reads or writes blocks, and has more than six bytes. READ(6) and
+-- WRITE(6) have no such bit (SBC-3, 5.10 to 5.13 and 5.32 to 5.35).
 abbrev pub forces_unit_access : (cdb : List ℕ) → Bool
-forces_unit_access (code ∷ flags ∷ rest) = not (code == 0x0A) && has_bit flags 0x08
+forces_unit_access (code ∷ flags ∷ rest) = not (code == 0x08 || code == 0x0A) && has_bit flags 0x08
 forces_unit_access _ = false
 
 -- WRITE AND VERIFY (10), (12) and (16) read back from the medium what they wrote (SBC-3, 5.37 to 5.39).
@@ -21,6 +22,12 @@ writes_and_verifies (code ∷ rest) = code == 0x2E || (code == 0xAE || code == 0
 writes_and_verifies _ = false
 
 abbrev pub owes_by : (cdb : List ℕ) → Operation → Bool
+-- READ: with FUA the blocks are read from the medium, after what waits is written there
+owes_by cdb (Read extent) = forces_unit_access cdb
+-- VERIFY reads from the medium, too (SBC-3, 5.29 to 5.31).
+owes_by cdb (Verify extent) = true
+owes_by cdb (Compare out) = true
+owes_by cdb (CompareEach extent block) = true
 -- WRITE, WRITE ATOMIC, and WRITE AND VERIFY
 owes_by cdb (Write out) = forces_unit_access cdb || writes_and_verifies cdb
 -- COMPARE AND WRITE (SBC-3, 5.2) and ORWRITE (SBC-3, 5.5)

@@ -1,17 +1,27 @@
 // The calls that give a disk in a file: one makes the file, and one opens it.
-ghost use Rattle.std.specs.Prelude.{◌≡◌, ◌≤◌, ◌<◌, [], ◌∷◌, length, true, IfOk, OnOk, Some};
-ghost use Rattle.sg_journal.specs.Reading.{HasEnded, HasFound};
+ghost use Rattle.std.specs.Prelude.{◌≡◌, ◌≤◌, ◌<◌, ◌+◌, ◌^◌, ℕ, List, [], ◌∷◌, length, true, IfErr, IfOk};
+ghost use Rattle.std.specs.Prelude.{IsErrOf, OnOk, Some};
+ghost use Rattle.sg_journal.specs.Reading.{HasEnded, HasFound, IsFaulty};
+ghost use Rattle.sg_journal.specs.declared.fault.Fault.{Fault as JournalFault};
+ghost use Rattle.sg_journal.specs.declared.reader.OpenError.TheVariants.{File as FileFaulty};
+ghost use Rattle.sg_journal.specs.declared.reader.OpenError.TheVariants.{Device as ReadingFailed};
 ghost use Rattle.sg_changes.specs.FirstRecord.{first_record, is_new_disk, new_disk_kept};
 ghost use Rattle.sg_changes.specs.Laws.{IsSound};
 ghost use Rattle.sg_journal.specs.Device.{HasCause, LeavesOnly};
 ghost use Rattle.sg_journal.specs.Journal.{IsBeforeOrAfter};
 ghost use Rattle.sg_journal.specs.JournalState.{HasBatches};
+ghost use Rattle.sg_journal.specs.Layout.{is_sector_length};
 ghost use Rattle.sg_target.specs.State.{IsWithinLimits};
 ghost use Rattle.sg_target.specs.Target.{disk_of};
 ghost use Rattle.sg_kept.specs.Disk.{longest_file};
 ghost use Rattle.sg_kept.specs.Kept.{restored};
 ghost use Rattle.sg_kept.specs.Opened.{IsBeforeOr, begun, opened};
 ghost use Rattle.sg_kept.specs.Opening.{HasRead, HasStarted, IsSteady, new_disk_of};
+ghost use Rattle.sg_kept.specs.Recording.{longest_write};
+ghost use Rattle.sg_kept.specs.Refused.{IsNoDisk, IsOfBytes, IsTrueOf, IsTrueOfFirst};
+ghost use Rattle.sg_kept.specs.declared.opening.MakeError.TheVariants.{Memory as MemoryRefused};
+ghost use Rattle.sg_kept.specs.declared.opening.MakeError.TheVariants.{Device as MakingFailed};
+ghost use Rattle.sg_kept.specs.declared.opening.OpenDiskError.TheVariants.{Device as DeviceFailed};
 
 use crate::disk::LONGEST_FILE;
 use crate::{BatchSink, KeptDisk};
@@ -32,28 +42,6 @@ pub enum MakeError {
     /// The device failed.
     #[error("the device failed")]
     Device,
-}
-
-impl From<AllocError> for MakeError {
-    ghost use Rattle.std.specs.Prelude.{◌≡◌};
-    ghost use Rattle.sg_kept.specs.declared.opening.MakeError.TheVariants.{Memory};
-
-    ghost from_gives = { λ _ e. e ≡ Memory };
-
-    fn from(_: AllocError) -> Self {
-        MakeError::Memory
-    }
-}
-
-impl From<DeviceError> for MakeError {
-    ghost use Rattle.std.specs.Prelude.{◌≡◌};
-    ghost use Rattle.sg_kept.specs.declared.opening.MakeError.TheVariants.{Device};
-
-    ghost from_gives = { λ _ e. e ≡ Device };
-
-    fn from(_: DeviceError) -> Self {
-        MakeError::Device
-    }
 }
 
 /// The reason why a disk was not opened.
@@ -93,6 +81,31 @@ impl From<AllocError> for OpenDiskError {
     fn from(_: AllocError) -> Self {
         OpenDiskError::Memory
     }
+}
+
+/// What a file keeps of a disk, and the memory that the disk works in.
+struct Made<S: Store> {
+    parts: KeptParts<S>,
+    batch: Batch,
+    scratch: Vec<u8>,
+}
+
+/// Takes the memory of a new disk, whose file has sectors of this length.
+fn new_parts<S: Store>(alloc: Global, disk: &NewDisk, sector: usize) -> Result<Made<S>, AllocError>
+    requires sector { is_sector_length sector ≡ true }
+    ensures parts { IfOk result (λ made. made.parts ≡ new_disk_kept disk.now) }
+    ensures sector { IfOk result (λ made. made.batch.sector ≡ sector) }
+    ensures empty { IfOk result (λ made. made.batch.records ≡ []) }
+    ensures scratch { IfOk result (λ made. length made.scratch.items ≡ longest_write) }
+{
+    let parts = KeptParts::new(alloc, disk)?;
+    let batch = Batch::new(alloc, sector)?;
+    let scratch = vec![in alloc; 0; BUFFER_LENGTH]?;
+    Ok(Made {
+        parts,
+        batch,
+        scratch,
+    })
 }
 
 /// The target that has these parts, after power on.
@@ -140,7 +153,58 @@ fn write_first<D: Device>(
     Ok(())
 }
 
-fn error_of_file(error: OpenError) -> OpenDiskError {
+/// Writes the first batch of a new disk, which has these parts.
+fn begin_file<S: Store, D: Device + Drop>(
+    made: Made<S>,
+    journal: Journal<D>,
+    disk: &NewDisk,
+) -> Result<KeptDisk<S, D>, (MakeError, Journal<D>)>
+    requires batches { HasBatches D.seen D.may_leave journal [] }
+    requires end { journal.end ≤ longest_file }
+    requires parts { made.parts ≡ new_disk_kept disk.now }
+    requires sector { made.batch.sector ≡ journal.sector }
+    requires empty { made.batch.records ≡ [] }
+    requires scratch { length made.scratch.items ≡ longest_write }
+    ensures started { IfOk result (HasStarted D.seen D.may_leave) }
+    ensures disk { IfOk result (λ made. disk_of made.target ≡ restored (new_disk_kept disk.now)) }
+    ensures any_moment { IfOk result (λ made. LeavesOnly D.moment D.left_since
+        journal.device made.journal.device
+        (IsBeforeOr (D.seen journal.device) (restored (new_disk_kept disk.now)))) }
+    ensures any_moment_of_error { IfErr result (λ e. LeavesOnly D.moment D.left_since
+        journal.device e.1.device
+        (IsBeforeOr (D.seen journal.device) (restored (new_disk_kept disk.now)))) }
+    ensures failed { IfErr result (λ e. e.0 ≡ MakingFailed) }
+    ensures cause { IfErr result (λ e. D.failures journal.device < D.failures e.1.device) }
+{
+    kept_stays_sound();
+    let Made {
+        parts,
+        batch,
+        scratch,
+    } = made;
+    let mut batch = BatchSink { batch };
+    let mut journal = journal;
+    add_first(&mut batch, disk);
+    let target = target_of(parts);
+    match write_first(&mut journal, &mut batch) {
+        Ok(()) => Ok(KeptDisk {
+            target,
+            journal,
+            batch,
+            is_dead: false,
+            scratch,
+        }),
+        Err(DeviceError) => Err((MakeError::Device, journal)),
+    }
+}
+
+/// The error of a file that its reader has named.
+fn error_of_file(error: OpenError) -> OpenDiskError
+    ensures says { (taken : List ℕ) (left : ℕ)
+        → ((fault : JournalFault) → error ≡ FileFaulty fault → IsFaulty taken left fault)
+        → IsTrueOf result taken left }
+    ensures device { result ≡ DeviceFailed → error ≡ ReadingFailed }
+{
     match error {
         OpenError::Device => OpenDiskError::Device,
         OpenError::File(fault) => OpenDiskError::File(fault),
@@ -151,6 +215,7 @@ fn error_of_file(error: OpenError) -> OpenDiskError {
 fn begin<S: Store>(alloc: Global, first: &[u8]) -> Result<KeptParts<S>, OpenDiskError>
     ensures begun { IfOk result (λ parts. begun first.now ≡ Some parts) }
     ensures steady { IfOk result IsSteady }
+    ensures says { IfErr result (IsTrueOfFirst first.now) }
 {
     kept_stays_sound();
     let Some((disk, rest)) = NewDisk::read(first) else {
@@ -169,18 +234,23 @@ fn begin<S: Store>(alloc: Global, first: &[u8]) -> Result<KeptParts<S>, OpenDisk
     }
 }
 
-/// Replays the other batches of a file, one after another.
+/// Replays the other batches of a file, one after another. One was read already.
 fn replay_rest<F: Source + Drop, S: Store>(
     reader: &mut Reader<F>,
     batch: &mut Batch,
     parts: &mut KeptParts<S>,
 ) -> Result<(), OpenDiskError>
-    requires read { HasRead F.taken F.left reader.old parts.old }
+    requires read { HasRead F.taken F.left reader.old 1 parts.old }
+    requires room { 1 + F.left reader.old.source < 2 ^ 64 }
     requires steady { IsSteady parts.old }
     requires sector { batch.old.sector ≡ reader.old.sector }
     ensures ended { OnOk result (HasEnded reader.new) }
-    ensures read { OnOk result (HasRead F.taken F.left reader.new parts.new) }
+    ensures read { OnOk result ((number : ℕ) × HasRead F.taken F.left reader.new number parts.new) }
     ensures steady { OnOk result (IsSteady parts.new) }
+    ensures says { IfErr result (λ e. IsTrueOf e (F.taken reader.new.source) (F.left reader.new.source)) }
+    ensures later { F.failures reader.old.source ≤ F.failures reader.new.source }
+    ensures cause { IsErrOf result DeviceFailed →
+        F.failures reader.old.source < F.failures reader.new.source }
     ensures sector { batch.new.sector ≡ reader.new.sector }
 {
     kept_stays_sound();
@@ -197,7 +267,7 @@ fn replay_rest<F: Source + Drop, S: Store>(
                 record: damaged.record,
             });
         }
-        number = number.saturating_add(1);
+        number += 1;
     }
 }
 
@@ -210,8 +280,12 @@ fn read_parts<F: Source + Drop, S: Store>(
     requires found { HasFound F.taken F.left reader.old [] }
     requires sector { batch.old.sector ≡ reader.old.sector }
     ensures ended { OnOk result (HasEnded reader.new) }
-    ensures read { IfOk result (HasRead F.taken F.left reader.new) }
+    ensures read { IfOk result (λ parts. (number : ℕ) × HasRead F.taken F.left reader.new number parts) }
     ensures steady { IfOk result IsSteady }
+    ensures says { IfErr result (λ e. IsTrueOf e (F.taken reader.new.source) (F.left reader.new.source)) }
+    ensures later { F.failures reader.old.source ≤ F.failures reader.new.source }
+    ensures cause { IsErrOf result DeviceFailed →
+        F.failures reader.old.source < F.failures reader.new.source }
     ensures sector { batch.new.sector ≡ reader.new.sector }
 {
     match reader.next(batch) {
@@ -224,16 +298,43 @@ fn read_parts<F: Source + Drop, S: Store>(
     Ok(parts)
 }
 
+/// Takes the memory of a disk, and reads its file to the end of the batches.
+fn read_disk<F: Source + Drop, S: Store>(
+    alloc: Global,
+    reader: &mut Reader<F>,
+) -> Result<Made<S>, OpenDiskError>
+    requires found { HasFound F.taken F.left reader.old [] }
+    ensures ended { OnOk result (HasEnded reader.new) }
+    ensures read { IfOk result (λ disk. (number : ℕ)
+        × HasRead F.taken F.left reader.new number disk.parts) }
+    ensures steady { IfOk result (λ disk. IsSteady disk.parts) }
+    ensures says { IfErr result (λ e. IsTrueOf e (F.taken reader.new.source) (F.left reader.new.source)) }
+    ensures later { F.failures reader.old.source ≤ F.failures reader.new.source }
+    ensures cause { IsErrOf result DeviceFailed →
+        F.failures reader.old.source < F.failures reader.new.source }
+    ensures sector { IfOk result (λ disk. disk.batch.sector ≡ reader.new.sector) }
+    ensures scratch { IfOk result (λ disk. length disk.scratch.items ≡ longest_write) }
+{
+    let mut batch = Batch::new(alloc, reader.sector)?;
+    let scratch = vec![in alloc; 0; BUFFER_LENGTH]?;
+    let parts = read_parts(alloc, reader, &mut batch)?;
+    Ok(Made {
+        parts,
+        batch,
+        scratch,
+    })
+}
+
 impl<S: Store, D: Device + Drop> KeptDisk<S, D> {
     /// Makes a disk, and its file. All memory is taken before the file is written.
     ///
     /// # Errors
-    /// Memory was refused, or the device failed.
+    /// Memory was refused, or the device failed. The journal is returned with the error.
     pub fn make(
         alloc: Global,
         journal: Journal<D>,
         disk: &NewDisk,
-    ) -> Result<KeptDisk<S, D>, MakeError>
+    ) -> Result<KeptDisk<S, D>, (MakeError, Journal<D>)>
         requires batches { HasBatches D.seen D.may_leave journal [] }
         requires end { journal.end ≤ longest_file }
         ensures started { IfOk result (HasStarted D.seen D.may_leave) }
@@ -242,53 +343,61 @@ impl<S: Store, D: Device + Drop> KeptDisk<S, D> {
         // A crash at any moment leaves a file without a disk, as it was, or the new disk.
         ensures any_moment { IfOk result (λ made. LeavesOnly D.moment D.left_since
             journal.device made.journal.device
-            (IsBeforeOr (D.seen journal.device) (disk_of made.target))) }
+            (IsBeforeOr (D.seen journal.device) (restored (new_disk_kept disk.now)))) }
+        ensures any_moment_of_error { IfErr result (λ e. LeavesOnly D.moment D.left_since
+            journal.device e.1.device
+            (IsBeforeOr (D.seen journal.device) (restored (new_disk_kept disk.now)))) }
+
+        // If memory was refused, nothing was written.
+        ensures memory { IfErr result (λ e. e.0 ≡ MemoryRefused → e.1 ≡ journal) }
+        ensures cause { IfErr result (λ e. e.0 ≡ MakingFailed →
+            D.failures journal.device < D.failures e.1.device) }
     {
-        kept_stays_sound();
-        let parts = KeptParts::new(alloc, disk)?;
-        let mut batch = BatchSink {
-            batch: Batch::new(alloc, journal.sector)?,
-        };
-        let scratch = vec![in alloc; 0; BUFFER_LENGTH]?;
-        let mut journal = journal;
-        add_first(&mut batch, disk);
-        let target = target_of(parts);
-        write_first(&mut journal, &mut batch)?;
-        Ok(KeptDisk {
-            target,
-            journal,
-            batch,
-            is_dead: false,
-            scratch,
-        })
+        match new_parts(alloc, disk, journal.sector) {
+            Ok(made) => begin_file(made, journal, disk),
+            Err(AllocError) => Err((MakeError::Memory, journal)),
+        }
     }
+
     /// Opens the file of a disk. Nothing is written.
     ///
     /// # Errors
-    /// Memory was refused, the device failed, or the file is not one of a disk.
+    /// Memory was refused, the device failed, or the file is not one of a disk. The source is returned
+    /// with the error.
     pub fn open<F: Source<Device = D> + Drop>(
         alloc: Global,
         source: F,
-    ) -> Result<KeptDisk<S, D>, OpenDiskError>
+    ) -> Result<KeptDisk<S, D>, (OpenDiskError, F)>
         requires fresh { F.taken source ≡ [] }
         ensures started { IfOk result (HasStarted D.seen D.may_leave) }
         ensures opened { IfOk result (λ disk. opened (D.opening disk.journal.device)
             ≡ Some (disk_of disk.target)) }
         ensures short { IfOk result (λ _. F.left source ≤ longest_file) }
+
+        // An error says what is true of the file, whatever is still to be read of it.
+        ensures says { IfErr result (λ e. IsTrueOf e.0 (F.taken e.1) (F.left e.1)) }
+        // A file that stands for a disk is refused only for its length, or if memory or the device fails.
+        ensures refused { IfErr result (λ e. IsOfBytes e.0 → IsNoDisk (F.taken e.1) (F.left e.1)) }
+        ensures cause { IfErr result (λ e. e.0 ≡ DeviceFailed → F.failures source < F.failures e.1) }
     {
         if source.left() > LONGEST_FILE {
-            return Err(OpenDiskError::TooLong);
+            return Err((OpenDiskError::TooLong, source));
         }
         let mut reader = match Reader::open(source) {
             Ok(reader) => reader,
-            Err((error, _)) => return Err(error_of_file(error)),
+            Err((error, source)) => return Err((error_of_file(error), source)),
         };
-        let mut batch = Batch::new(alloc, reader.sector)?;
-        let scratch = vec![in alloc; 0; BUFFER_LENGTH]?;
-        let parts = read_parts(alloc, &mut reader, &mut batch)?;
+        let Made {
+            parts,
+            mut batch,
+            scratch,
+        } = match read_disk(alloc, &mut reader) {
+            Ok(disk) => disk,
+            Err(error) => return Err((error, reader.source)),
+        };
         let journal = match reader.into_journal() {
             Ok(journal) => journal,
-            Err((DeviceError, _)) => return Err(OpenDiskError::Device),
+            Err((DeviceError, source)) => return Err((OpenDiskError::Device, source)),
         };
         batch.clear();
         Ok(KeptDisk {

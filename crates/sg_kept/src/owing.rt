@@ -6,8 +6,10 @@ ghost use Rattle.sg_kept.specs.Owing.{forces_unit_access, owes_by, owes_flush, w
 
 use sg_target::Operation;
 
-/// FUA, in byte 1 of a CDB of more than six bytes (SBC-3, 5.32).
+/// FUA, in byte 1 of a CDB of more than six bytes (SBC-3, 5.11 and 5.33).
 const FUA: u8 = 0x08;
+
+const READ_6: u8 = 0x08;
 
 const WRITE_6: u8 = 0x0A;
 
@@ -21,7 +23,7 @@ fn forces_unit_access(cdb: &[u8]) -> bool
     ensures { result ≡ forces_unit_access cdb.now }
 {
     match cdb {
-        [code, flags, ..] => *code != WRITE_6 && *flags & FUA != 0,
+        [code, flags, ..] => !(*code == READ_6 || *code == WRITE_6) && *flags & FUA != 0,
         _ => false,
     }
 }
@@ -43,8 +45,13 @@ fn owes_by(cdb: &[u8], operation: &Operation<'_>) -> bool
 {
     match operation {
         Operation::Write(_) => forces_unit_access(cdb) || writes_and_verifies(cdb),
-        Operation::CompareAndWrite(_) | Operation::OrWrite(_) => forces_unit_access(cdb),
-        Operation::Synchronize(_)
+        Operation::Read(_) | Operation::CompareAndWrite(_) | Operation::OrWrite(_) => {
+            forces_unit_access(cdb)
+        }
+        Operation::Verify(_)
+        | Operation::Compare(_)
+        | Operation::CompareEach { .. }
+        | Operation::Synchronize(_)
         | Operation::StartStop { .. }
         | Operation::UnmapAll(_)
         | Operation::ChangeReservations { .. } => true,

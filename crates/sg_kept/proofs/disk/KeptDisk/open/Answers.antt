@@ -1,26 +1,38 @@
-use Rattle.std.proofs.Common.{◌≡◌, Some, length, refl, sym, ap, ◌∙◌, arith}
+use Rattle.std.proofs.Common.{◌≡◌, Some, refl, sym, ap, ◌∙◌}
 use Rattle.sg_journal.specs.BatchValue.{BatchValue}
-use Rattle.sg_kept.specs.Recording.{longest_write}
 use Rattle.sg_kept.proofs.OpenedLemmas.{opened-is}
 use Rattle.sg_kept.proofs.OpeningLemmas.{started}
+use Rattle.sg_kept.proofs.RefusedLemmas.{no-disk}
 use Rattle.sg_kept.proofs.disk.KeptDisk.open.Goals as goal
+
+pub returns-in-Err-clause-refused : goal.returns-in-Err-clause-refused
+returns-in-Err-clause-refused g c =
+    let source = c.in-Err.source in
+    no-disk c.error_of_file.result (g.F.Source.taken source) (g.F.Source.left source)
+    (c.error_of_file.ensures.says (g.F.Source.taken source) (g.F.Source.left source)
+    (λ fault is. c.in-Err.ensures.fault fault is))
+
+pub returns-in-Err-read_disk-clause-refused : goal.returns-in-Err-read_disk-clause-refused
+returns-in-Err-read_disk-clause-refused g c =
+    let source = c.read_disk.new.reader.source in
+    no-disk c.in-Err-read_disk.error (g.F.Source.taken source) (g.F.Source.left source)
+    c.in-Err-read_disk.ensures.says
 
 pub returns-clause-started : goal.returns-clause-started
 returns-clause-started g c =
-    let read = c.in_ok-parts.ensures.read in
+    let made = c.in-Ok-read_disk in
+    let read = made.ensures.read.1 in
     let journal = c.in-Ok-into_journal.ensures in
-    let scratch = c.in_ok-scratch.scratch in
-    let whole : length scratch.items ≡ longest_write = omega
-    (arith, scratch.ok, c.in_ok-scratch.ensures.len) in
-    started g.D.Device.seen g.D.Device.may_leave _ read.batches c.in_ok-parts.parts
-    (journal.batches read.batches read.found) read.files c.in_ok-parts.ensures.steady.reservations
+    started g.D.Device.seen g.D.Device.may_leave _ read.batches made.disk.parts
+    (journal.batches read.batches read.found) read.files made.ensures.steady.reservations
     c.target_of.ensures.disk c.target_of.ensures.limits (ap (λ (b : BatchValue). b.records) c.clear.ensures)
-    (ap (λ (b : BatchValue). b.sector) c.clear.ensures ∙ c.read_parts.ensures.sector ∙ sym journal.sector)
-    whole refl
+    (ap (λ (b : BatchValue). b.sector) c.clear.ensures ∙ made.ensures.sector ∙ sym journal.sector)
+    made.ensures.scratch refl
 
 pub returns-clause-opened : goal.returns-clause-opened
 returns-clause-opened g c =
-    let read = c.in_ok-parts.ensures.read in
-    opened-is (g.D.Device.opening c.in-Ok-into_journal.journal.device) read.batches c.in_ok-parts.parts
+    let made = c.in-Ok-read_disk in
+    let read = made.ensures.read.1 in
+    opened-is (g.D.Device.opening c.in-Ok-into_journal.journal.device) read.batches made.disk.parts
     (c.in-Ok-into_journal.ensures.found read.batches read.found) read.files
     ∙ ap Some (sym c.target_of.ensures.disk)
