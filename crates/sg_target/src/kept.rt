@@ -38,6 +38,13 @@ impl<S: Store> Target<S> {
         self.store.read(extent.lba, extent.count, bytes);
     }
 
+    /// The number of addresses, in logical blocks.
+    pub fn capacity(&self) -> u64
+        ensures { result ≡ self.now.state.disk.capacity }
+    {
+        self.config.blocks()
+    }
+
     /// The saved values of the mode pages.
     pub fn saved_pages(&self) -> &PageValues
         ensures { result.now ≡ self.now.state.modes.saved }
