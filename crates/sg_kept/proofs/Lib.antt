@@ -18,3 +18,5 @@ mod OpenedLemmas
 mod MomentsLemmas
 mod OpeningLemmas
 mod SteadyLemmas
+-- Histories.
+mod HistoryLemmas

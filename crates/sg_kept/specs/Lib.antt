@@ -9,3 +9,4 @@ pub mod Disk
 pub mod Recording
 pub mod Refused
 pub mod Opening
+pub mod History

@@ -1,12 +1,16 @@
 // A disk whose changes are kept in a file.
-ghost use Rattle.std.specs.Prelude.{◌≡◌, ◌⊎◌, ◌≤◌, ◌<◌, ◌+◌, ◌^◌, [], length, true, OnOk, IfOk, IsErr, Some};
+ghost use Rattle.std.specs.Prelude.{◌≡◌, ◌⊎◌, ◌≤◌, ◌<◌, ◌+◌, ◌^◌, [], ◌∷◌, length, true, Some};
+ghost use Rattle.std.specs.Prelude.{IfOk, IsErr, OnOk};
 ghost use Rattle.sg_journal.specs.Device.{HasCause, LeavesOnly};
 ghost use Rattle.sg_target.specs.Armed.{Armed, armed_step};
 ghost use Rattle.sg_target.specs.DataInBound.{longest_data_in};
 ghost use Rattle.sg_target.specs.Executed.{executed_operation};
 ghost use Rattle.sg_target.specs.Execution.{IsExecuted};
 ghost use Rattle.sg_target.specs.Target.{disk_of};
+ghost use Rattle.sg_target.specs.declared.call.Call.{Call};
+ghost use Rattle.sg_target.specs.declared.event.Event.TheVariants.{Call as Command};
 ghost use Rattle.sg_kept.specs.Disk.{IsAlive, IsDead, IsKept, IsUsable, failure_reply, longest_file};
+ghost use Rattle.sg_kept.specs.History.{AddsEvents, IsSent};
 ghost use Rattle.sg_kept.specs.Kept.{powered};
 ghost use Rattle.sg_kept.specs.Opened.{IsBeforeOr, opened};
 ghost use Rattle.sg_kept.specs.Owing.{owes_flush};
@@ -52,6 +56,8 @@ fn write_batch<D: Device>(
         → IsKept D.seen D.may_leave journal.old batch.old disk
         → opened (D.seen journal.new.device) ≡ Some (powered disk)) }
     ensures empty { OnOk result (batch.new.records ≡ []) }
+    ensures left { OnOk result ((disk : Armed) → IsKept D.seen D.may_leave journal.old batch.old disk
+        → IsBeforeOr (D.seen journal.old.device) disk (D.seen journal.new.device)) }
 
     // A crash at any moment of the call leaves what the file stood for, or the disk after power on.
     ensures any_moment { (disk : Armed) → IsKept D.seen D.may_leave journal.old batch.old disk
@@ -70,7 +76,7 @@ fn write_batch<D: Device>(
 
 /// Writes the records that wait in a batch to the file if that is needed, or if the batch has too little room
 /// for another command.
-fn write_batch_if<D: Device>(
+pub(crate) fn write_batch_if<D: Device>(
     journal: &mut Journal<D>,
     batch: &mut BatchSink,
     is_needed: bool,
@@ -83,6 +89,8 @@ fn write_batch_if<D: Device>(
         → IsKept D.seen D.may_leave journal.old batch.old disk
         → opened (D.seen journal.new.device) ≡ Some (powered disk)) }
     ensures room { OnOk result (HasRoom batch.new) }
+    ensures left { OnOk result ((disk : Armed) → IsKept D.seen D.may_leave journal.old batch.old disk
+        → IsBeforeOr (D.seen journal.old.device) disk (D.seen journal.new.device)) }
     ensures any_moment { (disk : Armed) → IsKept D.seen D.may_leave journal.old batch.old disk
         → LeavesOnly D.moment D.left_since journal.old.device journal.new.device
         (IsBeforeOr (D.seen journal.old.device) disk) }
@@ -113,6 +121,8 @@ impl<S: Store, D: Device> KeptDisk<S, D> {
         ensures owed { OnOk result (owes_flush (disk_of self.new.target) cdb.now
             (executed_operation (disk_of self.old.target) initiator cdb.now data_out.now) ≡ true
             → opened (D.seen self.new.journal.device) ≡ Some (powered (disk_of self.new.target))) }
+        ensures left { OnOk result (IsBeforeOr (D.seen self.old.journal.device)
+            (disk_of self.new.target) (D.seen self.new.journal.device)) }
         ensures any_moment { LeavesOnly D.moment D.left_since self.old.journal.device
             self.new.journal.device (IsBeforeOr (D.seen self.old.journal.device)
             (armed_step (disk_of self.old.target) initiator cdb.now data_out.now).after) }
@@ -175,6 +185,8 @@ impl<S: Store, D: Device> KeptDisk<S, D> {
         ensures any_moment { IsAlive self.old → LeavesOnly D.moment D.left_since
             self.old.journal.device self.new.journal.device
             (IsBeforeOr (D.seen self.old.journal.device) (disk_of self.old.target)) }
+        // All events that have happened are in the file.
+        ensures events { AddsEvents D.seen D.moment D.left_since self.old self.new [] true }
 
         // It fails only if the device does, or if the file is too long. Then it stays dead.
         ensures failed { IsErr result → IsDead self.new }
@@ -224,6 +236,11 @@ impl<S: Store, D: Device> KeptDisk<S, D> {
             self.old.journal.device self.new.journal.device
             (IsBeforeOr (D.seen self.old.journal.device)
             (armed_step (disk_of self.old.target) initiator cdb.now data_out.now).after) }
+        // What a crash leaves of this command and of all events before it.
+        ensures events { (call : Call) → IsSent call initiator cdb.now data_out.now
+            → AddsEvents D.seen D.moment D.left_since self.old self.new (Command call ∷ [])
+            (owes_flush (disk_of self.new.target) cdb.now
+            (executed_operation (disk_of self.old.target) initiator cdb.now data_out.now)) }
 
         // It fails only if the device does, or if the file is too long. Then it stays dead.
         ensures failed { IsDead self.new → result ≡ failure_reply self.new.target.state }

@@ -1,7 +1,14 @@
 //! Laws of what a power cycle leaves of a disk.
 ghost use Rattle.sg_kept.specs.Laws.{CommandsMakeTheirChanges, HappeningsMakeTheirChanges};
 ghost use Rattle.sg_kept.specs.Laws.{OperationsMakeTheirChanges, PowerCyclesLeaveWhatIsKept};
+ghost use Rattle.std.specs.Prelude.{[]};
+ghost use Rattle.sg_target.specs.Target.{disk_of};
+ghost use Rattle.sg_kept.specs.History.{CrashesLeaveFirstEvents, HasHistory};
+ghost use Rattle.sg_kept.specs.Opening.{HasStarted};
 
+use crate::KeptDisk;
+use sg_journal::Device;
+use sg_store::Store;
 use sg_target::laws::limits_are_kept;
 
 /// What is kept of a disk decides the disk after a power cycle. A power cycle changes nothing of it, and a
@@ -27,4 +34,13 @@ pub fn commands_make_their_changes()
 /// What is kept after a happening is what the happening's changes make of what was kept before it.
 pub fn happenings_make_their_changes()
     ensures { HappeningsMakeTheirChanges }
+{}
+
+/// What a crash leaves from the opening of a file on: the disk after power on, after the first events of
+/// all calls, and at least those up to the last flush. Nothing has happened yet to a disk whose file was
+/// made or opened a moment ago.
+pub fn crashes_leave_first_events<S: Store, D: Device>(disk: &KeptDisk<S, D>)
+    requires started { HasStarted D.seen D.may_leave disk.now }
+    ensures begins { HasHistory D.seen disk.now (disk_of disk.now.target) [] 0 }
+    ensures crash { CrashesLeaveFirstEvents D.seen D.moment D.left_since disk.now }
 {}

@@ -4,6 +4,7 @@
 
 mod batch_sink;
 mod disk;
+mod happening;
 pub mod laws;
 mod opening;
 mod owing;

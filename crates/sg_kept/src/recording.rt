@@ -1,11 +1,11 @@
-// The records of what a command has changed.
+// The records of what a command or a happening has changed.
 ghost use Rattle.std.specs.Prelude.{◌≡◌, ◌≤◌, ◌+◌, ◌*◌, ◌∷◌, [], length, map, IfSome, Some};
 ghost use Rattle.sg_changes.specs.Change.Change.{Anchor as Anchored, Write as Written};
 ghost use Rattle.sg_faults.specs.Faults.{is_armed};
 ghost use Rattle.sg_journal.specs.declared.layout.TheConstants.{MAX_BATCH};
 ghost use Rattle.sg_changes.specs.KeptFields.{KeptFields};
 ghost use Rattle.sg_changes.specs.Replay.{replayed};
-ghost use Rattle.sg_kept.specs.Changes.{changes_of, command_changes, unmap};
+ghost use Rattle.sg_kept.specs.Changes.{changes_of, command_changes, happening_changes, unmap};
 ghost use Rattle.sg_kept.specs.Kept.{kept};
 ghost use Rattle.sg_kept.specs.Owing.{owes_flush};
 ghost use Rattle.sg_kept.specs.Recording.{Adds, IsReadable, longest_changes, longest_operation};
@@ -15,17 +15,18 @@ ghost use Rattle.sg_target.specs.Armed.{Armed};
 ghost use Rattle.sg_target.specs.DataInBound.{longest_data_in};
 ghost use Rattle.sg_target.specs.Executed.{executed_operation};
 ghost use Rattle.sg_target.specs.Execution.{IsExecuted};
+ghost use Rattle.sg_target.specs.Runs.{armed_after_happening};
 ghost use Rattle.sg_target.specs.State.{IsWithinLimits};
 ghost use Rattle.sg_target.specs.Target.{disk_of};
 ghost use Rattle.sg_wire.specs.Profile.{maximum_transfer_length};
 
 use crate::BatchSink;
-use crate::laws::commands_make_their_changes;
+use crate::laws::{commands_make_their_changes, happenings_make_their_changes};
 use crate::owing::owes_flush;
 use sg_changes::Change;
 use sg_changes::laws::records_are_replayed;
 use sg_store::{BLOCK_LENGTH, Store};
-use sg_target::{Call, Executed, Operation, Reply, Target};
+use sg_target::{Call, Executed, Happening, Operation, Reply, Target};
 use sg_wire::{Extent, Initiator};
 
 /// Adds the records of extents that are unmapped.
@@ -201,4 +202,57 @@ pub(crate) fn execute_and_record<S: Store>(
     add_command(batch, target, &operation, was_armed, scratch);
     let owes = owes_flush(target.caches_writes(), cdb, &operation);
     (reply, owes)
+}
+
+/// Adds the record of a happening that has left this target. The disk had this capacity before it.
+fn add_happening<S: Store>(
+    batch: &mut BatchSink,
+    target: &Target<S>,
+    happening: &Happening,
+    old_capacity: u64,
+)
+    requires room { length batch.old.records + longest_changes ≤ MAX_BATCH }
+    ensures records { (before : Armed) → before.state.disk.capacity ≡ old_capacity
+        → Adds batch.old batch.new
+        (happening_changes before (disk_of target.now) happening.now) }
+{
+    match happening {
+        Happening::Grow(_) => {
+            let capacity = target.capacity();
+            if old_capacity < capacity {
+                batch.add(&Change::Grow { capacity });
+            }
+        }
+        Happening::Arm(_) | Happening::Disarm(_) | Happening::DisarmAll => {
+            batch.add(&Change::Faults(target.fault_table()));
+        }
+        Happening::Power
+        | Happening::LogicalUnitReset
+        | Happening::TargetReset
+        | Happening::NexusLoss(_)
+        | Happening::Establish(_, _) => {}
+    }
+}
+
+/// Lets something happen in memory, and adds the record of what it has changed.
+pub(crate) fn happen_and_record<S: Store>(
+    target: &mut Target<S>,
+    batch: &mut BatchSink,
+    happening: &Happening,
+)
+    requires room { length batch.old.records + longest_changes ≤ MAX_BATCH }
+    ensures happened { disk_of target.new ≡ armed_after_happening (disk_of target.old) happening.now }
+    ensures limits { IsWithinLimits target.new.state }
+
+    // If the batch led to what was kept before it, then it leads to what is kept after it.
+    ensures waits { (left : KeptFields)
+        → replayed batch.old.records left ≡ Some (kept (disk_of target.old))
+        → replayed batch.new.records left ≡ Some (kept (disk_of target.new)) }
+    ensures sector { batch.new.sector ≡ batch.old.sector }
+{
+    records_are_replayed();
+    happenings_make_their_changes();
+    let old_capacity = target.capacity();
+    target.happen(*happening);
+    add_happening(batch, target, happening, old_capacity);
 }

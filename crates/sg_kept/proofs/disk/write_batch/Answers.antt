@@ -1,4 +1,4 @@
-use Rattle.std.proofs.Common.{◌≡◌, ◌++◌, [], ◌∷◌, length, sym, ap, subst, ◌∙◌, rules}
+use Rattle.std.proofs.Common.{inl, inr, refl, ◌≡◌, ◌++◌, [], ◌∷◌, length, sym, ap, subst, ◌∙◌, rules}
 use Rattle.std.proofs.lemmas.List.{nil_from_length}
 use Rattle.sg_journal.specs.BatchValue.{BatchValue}
 use Rattle.sg_journal.specs.Journal.{IsBeforeOrAfter}
@@ -57,3 +57,9 @@ returns-clause-flushed g c disk s =
     (s.batches ++ b.records ∷ [])) batch (c.in_ok-flush.ensures.acknowledged s.batches s.stands) in
     opened-flushed g.D.Device.seen g.D.Device.may_leave c.args.journal.now c.flush.new.self
     c.args.batch.now disk s stands (c.power_cycles_leave_what_is_kept.ensures.restored disk)
+
+pub returns-then-is_empty-clause-left : goal.returns-then-is_empty-clause-left
+returns-then-is_empty-clause-left g c disk s = inl refl
+
+pub returns-clause-left : goal.returns-clause-left
+returns-clause-left g c disk s = inr (returns-clause-flushed g c disk s)

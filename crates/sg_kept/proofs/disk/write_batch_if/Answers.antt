@@ -9,3 +9,6 @@ returns-clause-any_moment g c disk s =
     no-call g.D.Device.moment g.D.Device.left_since seen (g.D.Device.may_leave c.args.journal.now.device)
     c.args.journal.now.device (IsBeforeOr seen disk) s.stands.durable
     (g.met.D.Device.only_now c.args.journal.now.device) (inl refl)
+
+pub returns-clause-left : goal.returns-clause-left
+returns-clause-left g c disk s = inl refl

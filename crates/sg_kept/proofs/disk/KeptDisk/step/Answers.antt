@@ -51,6 +51,16 @@ returns-clause-owed g c owes =
     told.ensures.executed.limits in
     c.in_ok-write_batch_if.ensures.flushed (told.ensures.owes ∙ owes) after kept
 
+pub returns-clause-left : goal.returns-clause-left
+returns-clause-left g c =
+    let told = c.execute_and_record-reply in
+    let old = c.args.self.now in
+    let after = disk_of told.new.target in
+    let kept = kept-on g.D.Device.seen g.D.Device.may_leave old.journal old.batch told.new.batch
+    (disk_of old.target) after c.requires.usable.kept told.ensures.waits told.ensures.sector
+    told.ensures.executed.limits in
+    c.in_ok-write_batch_if.ensures.left after kept
+
 pub returns-clause-usable : goal.returns-clause-usable
 returns-clause-usable g c =
     let told = c.execute_and_record-reply in
