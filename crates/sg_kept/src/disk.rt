@@ -103,14 +103,15 @@ pub(crate) fn write_batch_if<D: Device>(
 }
 
 impl<S: Store, D: Device> KeptDisk<S, D> {
-    /// Executes a command while the device has not failed, and flushes if it owes that, or if the batch
-    /// gets full.
-    fn step(
+    /// Executes a command while the device has not failed. Flushes if the batch gets full. If `flushes` is
+    /// `true`, it also flushes if the command owes that.
+    pub(crate) fn step(
         &mut self,
         initiator: Initiator,
         cdb: &[u8],
         data_out: &[u8],
         buf: &mut [u8],
+        flushes: bool,
     ) -> Result<Reply, DeviceError>
         requires buffer { longest_data_in ≤ length buf.old }
         requires usable { IsUsable D.seen D.may_leave self.old }
@@ -118,7 +119,7 @@ impl<S: Store, D: Device> KeptDisk<S, D> {
         ensures executed { IfOk result (λ reply. IsExecuted initiator cdb.now data_out.now
             (disk_of self.old.target) (disk_of self.new.target) reply buf.old buf.new) }
         ensures usable { OnOk result (IsUsable D.seen D.may_leave self.new) }
-        ensures owed { OnOk result (owes_flush (disk_of self.new.target) cdb.now
+        ensures owed { OnOk result (flushes ≡ true → owes_flush (disk_of self.new.target) cdb.now
             (executed_operation (disk_of self.old.target) initiator cdb.now data_out.now) ≡ true
             → opened (D.seen self.new.journal.device) ≡ Some (powered (disk_of self.new.target))) }
         ensures left { OnOk result (IsBeforeOr (D.seen self.old.journal.device)
@@ -144,7 +145,7 @@ impl<S: Store, D: Device> KeptDisk<S, D> {
             buf,
             &mut self.scratch,
         );
-        write_batch_if(&mut self.journal, &mut self.batch, owes)?;
+        write_batch_if(&mut self.journal, &mut self.batch, flushes && owes)?;
         Ok(reply)
     }
 
@@ -252,7 +253,7 @@ impl<S: Store, D: Device> KeptDisk<S, D> {
         if self.is_dead {
             return self.target.failure_reply();
         }
-        match self.step(initiator, cdb, data_out, buf) {
+        match self.step(initiator, cdb, data_out, buf, true) {
             Ok(reply) => reply,
             Err(DeviceError) => {
                 self.is_dead = true;

@@ -4,6 +4,7 @@
 
 mod batch_sink;
 mod disk;
+mod group_commit;
 mod happening;
 pub mod laws;
 mod opening;

@@ -1,4 +1,4 @@
-use Rattle.std.proofs.Common.{◌≡◌, [], ◌∷◌, Some, true, ap, subst, ◌∙◌}
+use Rattle.std.proofs.Common.{◌≡◌, [], ◌∷◌, Some, true, refl, ap, subst, ◌∙◌}
 use Rattle.sg_target.specs.Armed.{Armed, armed_step}
 use Rattle.sg_target.specs.Executed.{executed_operation}
 use Rattle.sg_target.specs.Target.{disk_of}
@@ -43,7 +43,7 @@ returns-in-Ok-clause-events g c call sent =
       (
         subst (λ (d : Armed). IsBeforeOr (seen old.journal.device) d (seen new.journal.device)) after
             done.left,
-        λ owes. done.owed owes ∙ ap (λ (d : Armed). Some (powered d)) after,
+        λ owes. done.owed refl owes ∙ ap (λ (d : Armed). Some (powered d)) after,
       ),
     ))
 

@@ -1,10 +1,11 @@
-use Rattle.std.proofs.Common.{◌≡◌, length, ap, subst, ◌∙◌, arith}
+use Rattle.std.proofs.Common.{◌≡◌, true, false, length, ap, subst, ◌∙◌, arith}
 use Rattle.std.proofs.lemmas.List.{with_items_is}
 use Rattle.sg_journal.specs.Device.{LeavesOnly}
 use Rattle.sg_target.specs.Armed.{Armed}
 use Rattle.sg_target.specs.Target.{disk_of}
 use Rattle.sg_kept.specs.Opened.{IsBeforeOr}
 use Rattle.sg_kept.proofs.OpenedLemmas.{kept-on}
+use Rattle.sg_kept.proofs.disk.KeptDisk.step.Goals.{then-flushes, else-flushes}
 use Rattle.sg_kept.proofs.disk.KeptDisk.step.Goals as goal
 
 pub write_batch_if-requires-clause-kept : goal.write_batch_if-requires-clause-kept
@@ -42,14 +43,19 @@ returns-clause-any_moment g c =
     told.ensures.executed.after (c.write_batch_if.ensures.any_moment after kept)
 
 pub returns-clause-owed : goal.returns-clause-owed
-returns-clause-owed g c owes =
+returns-clause-owed g c flushes owes =
     let told = c.execute_and_record-reply in
     let old = c.args.self.now in
     let after = disk_of told.new.target in
     let kept = kept-on g.D.Device.seen g.D.Device.may_leave old.journal old.batch told.new.batch
     (disk_of old.target) after c.requires.usable.kept told.ensures.waits told.ensures.sector
     told.ensures.executed.limits in
-    c.in_ok-write_batch_if.ensures.flushed (told.ensures.owes ∙ owes) after kept
+    let needed : c.if-flushes.write_batch_if ≡ true =
+    elim c.if-flushes.branch [
+      | then-flushes w ↦ w.write_batch_if-is ∙ told.ensures.owes ∙ owes
+      | else-flushes w ↦ let no : c.args.flushes ≡ false = w.if-flushes.false in absurd cc
+    ] in
+    c.in_ok-write_batch_if.ensures.flushed needed after kept
 
 pub returns-clause-left : goal.returns-clause-left
 returns-clause-left g c =
