@@ -10,3 +10,4 @@ pub mod ReplayLemmas
 pub mod LoopLemmas
 pub mod WritingLemmas
 pub mod SoundLemmas
+pub mod SnapshotLemmas

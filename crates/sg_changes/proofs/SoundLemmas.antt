@@ -35,7 +35,7 @@ use Rattle.sg_changes.proofs.ReplayLemmas.{first_applied, replayed_nil}
 
 -- ---- Unmapping takes no block of the pool
 
-all-needed : (m : Contents) (a k : ℕ) → ((i : ℕ) → i < k → map.contains_key m (a + i) ≡ false)
+pub all-needed : (m : Contents) (a k : ℕ) → ((i : ℕ) → i < k → map.contains_key m (a + i) ≡ false)
     → need m a k ≡ k
 all-needed m a zero h = need-none m a
 all-needed m a (suc k) h =
@@ -63,7 +63,7 @@ same-anchored m a k = same_map nat_cmp_total nat_cmp-IsAntisymmetric _ _ (λ q.
     ∙ skipped (lies_in a k q) (Some Anchored) None (map.get m q)
     ∙ sym (get-remapped m a k (λ index. Anchored) q))
 
-len-unmapped : (m : Contents) (a k : ℕ) → len (unmapped_contents m a k) ≤ len m
+pub len-unmapped : (m : Contents) (a k : ℕ) → len (unmapped_contents m a k) ≤ len m
 len-unmapped m a k =
     let same = ap len (same-anchored m a k) in
     let of_rest = len-needed (unmapped_contents m a k) a k (λ index. Anchored) in

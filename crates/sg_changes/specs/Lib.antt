@@ -11,4 +11,5 @@ pub mod FirstRecord
 pub mod Borrowed
 pub mod Reading
 pub mod Writing
+pub mod Snapshot
 pub mod Laws

@@ -1,6 +1,6 @@
 //! Laws of the definitions: each is the contract of a function that does nothing.
 ghost use Rattle.sg_changes.specs.Laws.{FirstRecordsAreExact, KeptStaysSound, RecordsAreExact};
-ghost use Rattle.sg_changes.specs.Laws.{RecordsAreReplayed};
+ghost use Rattle.sg_changes.specs.Laws.{RecordsAreReplayed, RunsMakeTheDisk};
 
 /// A record is read as the change that it was written for, whatever follows it. Bytes that are read
 /// as a change are its record, so that no change has a second spelling.
@@ -23,4 +23,10 @@ pub fn records_are_replayed()
 /// new disk does.
 pub fn kept_stays_sound()
     ensures { KeptStaysSound }
+{}
+
+/// The runs of a disk, from its first address on, make the disk of a new one: data is written, and
+/// anchored addresses are anchored. Each run is found by the descriptor at its first address.
+pub fn runs_make_the_disk()
+    ensures { RunsMakeTheDisk }
 {}
