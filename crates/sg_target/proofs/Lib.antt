@@ -8,6 +8,7 @@ pub mod GrowthLemmas
 pub mod LengthLemmas
 pub mod ModeLemmas
 pub mod StatusLemmas
+pub mod RunAtLemmas
 -- Extents: those on the disk, those that are unmapped, those that are joined and anchored.
 pub mod ExtentLemmas
 pub mod UnmapLemmas

@@ -108,7 +108,7 @@ impl<S: Store> Target<S> {
     }
 
     /// The configuration of the disk.
-    fn config(&self) -> &Config
+    pub fn config(&self) -> &Config
         ensures { result.now ≡ config_of self.now.state }
     {
         &self.config

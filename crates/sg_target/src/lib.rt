@@ -18,6 +18,7 @@ mod happening;
 mod joining;
 mod kept;
 pub mod laws;
+mod lba_run;
 mod mode;
 mod operation;
 mod or_write;
