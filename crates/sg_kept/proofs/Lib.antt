@@ -20,3 +20,5 @@ mod OpeningLemmas
 mod SteadyLemmas
 -- Histories.
 mod HistoryLemmas
+-- A file that is written afresh.
+mod CompactionLemmas

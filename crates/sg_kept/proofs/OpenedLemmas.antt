@@ -17,7 +17,7 @@ use Rattle.sg_kept.specs.Opened.{IsBeforeOr, begun, filed, opened, opened_of, re
 
 -- ---- One batch more
 
-all-after : (bs : List (List ℕ)) (b : List ℕ) (left : Option KeptFields)
+pub all-after : (bs : List (List ℕ)) (b : List ℕ) (left : Option KeptFields)
     → ((k : KeptFields) → replayed_all (bs ++ b ∷ []) k ≡ option_and_then (replayed b) (replayed_all bs k))
     → option_and_then (replayed_all (bs ++ b ∷ [])) left
     ≡ option_and_then (replayed b) (option_and_then (replayed_all bs) left)
@@ -28,7 +28,7 @@ last : (b : List ℕ) (left : Option KeptFields) → option_and_then (replayed_a
 last b None = refl
 last b (Some k) = refl
 
-all-push : (bs : List (List ℕ)) (b : List ℕ) (k : KeptFields)
+pub all-push : (bs : List (List ℕ)) (b : List ℕ) (k : KeptFields)
     → replayed_all (bs ++ b ∷ []) k ≡ option_and_then (replayed b) (replayed_all bs k)
 all-push [] b k = last b (replayed b k)
 all-push (c ∷ bs) b k = all-after bs b (replayed c k) (all-push bs b)

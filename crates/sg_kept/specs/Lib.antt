@@ -10,3 +10,4 @@ pub mod Recording
 pub mod Refused
 pub mod Opening
 pub mod History
+pub mod Compaction

@@ -3,6 +3,7 @@
 #![tactic(auto)]
 
 mod batch_sink;
+mod compaction;
 mod disk;
 mod group_commit;
 mod happening;

@@ -5,7 +5,8 @@ ghost use Rattle.sg_journal.specs.Reading.{HasEnded, HasFound, IsFaulty};
 ghost use Rattle.sg_journal.specs.declared.fault.Fault.{Fault as JournalFault};
 ghost use Rattle.sg_journal.specs.declared.reader.OpenError.TheVariants.{File as FileFaulty};
 ghost use Rattle.sg_journal.specs.declared.reader.OpenError.TheVariants.{Device as ReadingFailed};
-ghost use Rattle.sg_changes.specs.FirstRecord.{first_record, is_new_disk, new_disk_kept};
+ghost use Rattle.sg_changes.specs.FirstRecord.{first_record, first_record_length, is_new_disk};
+ghost use Rattle.sg_changes.specs.FirstRecord.{new_disk_kept};
 ghost use Rattle.sg_changes.specs.Laws.{IsSound};
 ghost use Rattle.sg_journal.specs.Device.{HasCause, LeavesOnly};
 ghost use Rattle.sg_journal.specs.Journal.{IsBeforeOrAfter};
@@ -121,11 +122,12 @@ fn target_of<S: Store>(parts: KeptParts<S>) -> Target<S>
 }
 
 /// Adds the first record to an empty batch.
-fn add_first(batch: &mut BatchSink, disk: &NewDisk)
+pub(crate) fn add_first(batch: &mut BatchSink, disk: &NewDisk)
     requires empty { batch.old.records ≡ [] }
     ensures records { batch.new ≡ record batch.old { records = first_record.bytes disk.now } }
     ensures begun { begun batch.new.records ≡ Some (new_disk_kept disk.now) }
     ensures new { is_new_disk disk.now ≡ true }
+    ensures at_most { length batch.new.records ≤ first_record_length }
 {
     first_records_are_exact();
     disk.write(batch);
