@@ -13,7 +13,7 @@ ghost use Rattle.sg_target.specs.Target.{disk_of};
 ghost use Rattle.sg_wire.specs.Profile.{maximum_transfer_length};
 ghost use Rattle.sg_wire.specs.declared.lba_status.ProvisioningStatus.TheVariants.{Mapped};
 ghost use Rattle.sg_kept.specs.Compaction.{IsDrafted, LeadsOn, StandsFor, draft_weight, heaviest};
-ghost use Rattle.sg_kept.specs.Compaction.{longest_snapshot};
+ghost use Rattle.sg_kept.specs.Compaction.{longest_snapshot, longest_uncompacted};
 ghost use Rattle.sg_kept.specs.Disk.{IsAlive, IsDead, IsKept, IsUsable};
 ghost use Rattle.sg_kept.specs.Kept.{kept, powered, restored};
 ghost use Rattle.sg_kept.specs.Opened.{IsBeforeOr, begun, opened};
@@ -311,6 +311,14 @@ fn write_snapshot<S: Store, D: Device>(
     exchange(journal, batch)
 }
 
+/// The length of the longest file that is not written afresh, in bytes, by the number of addresses that have
+/// a block of the pool.
+fn longest_uncompacted(used: u32) -> u64
+    ensures { result ≡ longest_uncompacted used }
+{
+    2 * (548 * u64::from(used) + (1 << 18)) + (1 << 24)
+}
+
 impl<S: Store, D: Device> KeptDisk<S, D> {
     /// Writes the file afresh while the device has not failed.
     fn write_afresh(&mut self) -> Result<(), DeviceError>
@@ -373,5 +381,40 @@ impl<S: Store, D: Device> KeptDisk<S, D> {
                 Err(DeviceError)
             }
         }
+    }
+
+    /// Writes the file afresh if it is long: longer than twice a snapshot of the disk, and 16 MiB. If it is
+    /// called after each flush, then it writes in all at most about as many bytes as the flushes.
+    ///
+    /// # Errors
+    /// The device failed, now or earlier.
+    pub fn compact_if_long(&mut self) -> Result<(), DeviceError>
+        requires usable { IsAlive self.old → IsUsable D.seen D.may_leave self.old }
+        ensures usable { OnOk result (IsAlive self.new × IsUsable D.seen D.may_leave self.new) }
+        // The file stands for what it did before, or for the disk after power on.
+        ensures left { OnOk result (IsBeforeOr (D.seen self.old.journal.device)
+            (disk_of self.old.target) (D.seen self.new.journal.device)) }
+        ensures short { OnOk result (self.new.journal.end
+            ≤ longest_uncompacted (len self.old.target.state.disk.contents)) }
+        ensures disk { disk_of self.new.target ≡ disk_of self.old.target }
+
+        // A crash at any moment leaves what the file had, or the disk after power on.
+        ensures any_moment { IsAlive self.old → LeavesOnly D.moment D.left_since
+            self.old.journal.device self.new.journal.device
+            (IsBeforeOr (D.seen self.old.journal.device) (disk_of self.old.target)) }
+
+        // It fails only if the device does. Then it stays dead.
+        ensures failed { IsErr result → IsDead self.new }
+        ensures cause { IsAlive self.old → IsErr result
+            → D.failures self.old.journal.device < D.failures self.new.journal.device }
+        ensures stays_dead { IsDead self.old → self.new ≡ self.old }
+    {
+        if self.is_dead {
+            return Err(DeviceError);
+        }
+        if self.journal.end <= longest_uncompacted(self.target.used_blocks()) {
+            return Ok(());
+        }
+        self.compact()
     }
 }
