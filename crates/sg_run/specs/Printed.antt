@@ -29,3 +29,19 @@ pub record ExecutesLine {W E : Type 0} (contents : W → Option (List ℕ)) (old
   pub sent : SendsText contents old new result (outcome out_of_memory).text
   pub disk_is : disk ≡ (outcome out_of_memory).disk
   pub status_is : IfOk result (λ status. status ≡ (outcome out_of_memory).status)
+
+-- Some text is printed. This is all that is known if the disk has failed.
+pub record PrintsSome {W : Type 0} (contents : W → Option (List ℕ)) (old new : Printer W) : Type 0 where
+  pub text : List ℕ
+  pub prints : PrintsText contents old new text
+
+-- Some text is written to a writer, or the writer failed within it.
+pub record SendsSome {W A E : Type 0} (contents : W → Option (List ℕ)) (old new : Watched W)
+    (result : Result A E) : Type 0 where
+  pub text : List ℕ
+  pub sends : SendsText contents old new result text
+
+-- A call leaves a device server ready. If it works after the call, it has worked before.
+pub record Serves {T : Type 0} (is_ready works : T → Type 0) (old new : T) : Type 0 where
+  pub ready : is_ready new
+  pub worked : works new → works old

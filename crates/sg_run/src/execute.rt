@@ -6,7 +6,6 @@ ghost use Rattle.sg_wire.specs.Watched.{has_failed};
 ghost use Rattle.sg_wire.specs.Sense.{fields_of};
 ghost use Rattle.sg_wire.specs.SenseReading.{read_sense};
 ghost use Rattle.sg_target.specs.Armed.{armed_step};
-ghost use Rattle.sg_target.specs.Target.{disk_of};
 ghost use Rattle.sg_wire.specs.Printer.{PrintsText};
 ghost use Rattle.sg_run.specs.AnswerText.{answer_text};
 ghost use Rattle.sg_run.specs.Limits.{longest_line};
@@ -15,6 +14,7 @@ ghost use Rattle.sg_run.specs.Outcome.{by_request, faults_outcome, fill_step, ha
 ghost use Rattle.sg_run.specs.Outcome.{happening_outcome, line_header, outcome, reply_outcome};
 ghost use Rattle.sg_tools.specs.declared.show.Show.TheVariants.{Nothing};
 ghost use Rattle.sg_run.specs.Printed.{ExecutesLine, HasOutcome, HasOutcomeUnlessOutOfMemory};
+ghost use Rattle.sg_run.specs.Printed.{PrintsSome, SendsSome, Serves};
 ghost use Rattle.sg_run.specs.RequestLines.{happening_line_request, line_request, tool_request};
 
 use crate::buffers::{Buffers, DATA_OUT_LENGTH, REPLY_LENGTH};
@@ -22,8 +22,8 @@ use crate::request::{FilledBlocks, HappeningLine, LineFault, Request, ToolLine, 
 use crate::text::answer::put_answer;
 use crate::text::faults::put_faults;
 use crate::text::{put_line_header, put_reply};
-use sg_store::{BLOCK_LENGTH, Store};
-use sg_target::{BUFFER_LENGTH, Call, Happening, Target};
+use sg_store::BLOCK_LENGTH;
+use sg_target::{BUFFER_LENGTH, Call, DeviceServer, Happening};
 use sg_tools::Show;
 use sg_wire::{Printer, Watched};
 use std::alloc::Global;
@@ -36,19 +36,22 @@ use std::io::Write;
 /// # Errors
 /// The writer failed. The line was still executed.
 #[tactic(auto, unfolding(crate::specs::Outcome::outcome))]
-pub(crate) fn execute_line<W: Write, S: Store>(
+pub(crate) fn execute_line<W: Write, T: DeviceServer>(
     alloc: Global,
     number: u64,
     line: Option<&[u8]>,
     buffers: &mut Buffers,
     writer: &mut Watched<W>,
-    target: &mut Target<S>,
+    target: &mut T,
 ) -> io::Result<u8>
     requires line { IfSome (option_map (λ b. b.now) line) (λ bytes. length bytes ≤ longest_line) }
     requires sound { has_failed writer.old ≡ false }
-    ensures { let bytes = option_map (λ b. b.now) line.entry in
-        ExecutesLine W.contents writer.old writer.new (disk_of target.new) result
-        (λ out_of_memory. outcome number bytes out_of_memory (disk_of target.old)) }
+    requires ready { T.is_ready target.old }
+    ensures executed { T.works target.new → let bytes = option_map (λ b. b.now) line.entry in
+        ExecutesLine W.contents writer.old writer.new (T.disk target.new) result
+        (λ out_of_memory. outcome number bytes out_of_memory (T.disk target.old)) }
+    ensures sends { SendsSome W.contents writer.old writer.new result }
+    ensures serves { Serves T.is_ready T.works target.old target.new }
 {
     let request = read_request(target.profile(), line, &mut buffers.hex);
     let mut out = Printer::new(writer, &mut buffers.text);
@@ -68,19 +71,23 @@ struct LineContext {
 }
 
 /// Executes the request of a line, and prints its text.
-fn execute_request<W: Write, S: Store>(
+fn execute_request<W: Write, T: DeviceServer>(
     context: LineContext,
     request: &Request,
     data_out: &mut [u8],
     buffer: &mut [u8],
-    target: &mut Target<S>,
+    target: &mut T,
     out: &mut Printer<'_, W>,
 ) -> u8
     requires data_out { length data_out.old ≡ DATA_OUT_LENGTH }
     requires buffer { length buffer.old ≡ REPLY_LENGTH }
-    ensures { HasOutcomeUnlessOutOfMemory W.contents out.old out.new (disk_of target.new) result
+    requires ready { T.is_ready target.old }
+    ensures outcome { T.works target.new → HasOutcomeUnlessOutOfMemory
+        W.contents out.old out.new (T.disk target.new) result
         (λ out_of_memory.
-        by_request context.number out_of_memory (disk_of target.old) (line_request request.now)) }
+        by_request context.number out_of_memory (T.disk target.old) (line_request request.now)) }
+    ensures prints { PrintsSome W.contents out.old out.new }
+    ensures serves { Serves T.is_ready T.works target.old target.new }
 {
     let number = context.number;
     match request {
@@ -127,15 +134,19 @@ fn put_shown<W: Write>(
 /// Reads what a line lets happen to the disk, does it, and returns the exit status.
 // Not inlined: the stack frame of every line would have room for the happening.
 #[inline(never)]
-fn run_happening<W: Write, S: Store>(
+fn run_happening<W: Write, T: DeviceServer>(
     number: u64,
     line: &HappeningLine,
-    target: &mut Target<S>,
+    target: &mut T,
     out: &mut Printer<'_, W>,
 ) -> u8
-    ensures { HasOutcomeUnlessOutOfMemory W.contents out.old out.new (disk_of target.new) result
+    requires ready { T.is_ready target.old }
+    ensures outcome { T.works target.new → HasOutcomeUnlessOutOfMemory
+        W.contents out.old out.new (T.disk target.new) result
         (λ out_of_memory.
-        by_request number out_of_memory (disk_of target.old) (happening_line_request line.now)) }
+        by_request number out_of_memory (T.disk target.old) (happening_line_request line.now)) }
+    ensures prints { PrintsSome W.contents out.old out.new }
+    ensures serves { Serves T.is_ready T.works target.old target.new }
 {
     match line.read() {
         Some(happening) => happen(number, &happening, target, out),
@@ -144,14 +155,17 @@ fn run_happening<W: Write, S: Store>(
 }
 
 /// Lets something happen to the disk, and returns the exit status.
-fn happen<W: Write, S: Store>(
+fn happen<W: Write, T: DeviceServer>(
     number: u64,
     happening: &Happening,
-    target: &mut Target<S>,
+    target: &mut T,
     out: &mut Printer<'_, W>,
 ) -> u8
-    ensures { HasOutcome W.contents out.old out.new (disk_of target.new) result
-        (happening_outcome number (disk_of target.old) happening.now) }
+    requires ready { T.is_ready target.old }
+    ensures outcome { T.works target.new → HasOutcome W.contents out.old out.new (T.disk target.new) result
+        (happening_outcome number (T.disk target.old) happening.now) }
+    ensures prints { PrintsSome W.contents out.old out.new }
+    ensures serves { Serves T.is_ready T.works target.old target.new }
 {
     target.happen(*happening);
     put_line_header(number, happening_name(happening), out);
@@ -175,9 +189,9 @@ fn happening_name(happening: &Happening) -> &'static [u8]
 }
 
 /// Lists the armed faults, and returns the exit status.
-fn list_faults<W: Write, S: Store>(number: u64, target: &Target<S>, out: &mut Printer<'_, W>) -> u8
-    ensures { HasOutcome W.contents out.old out.new (disk_of target.now) result
-        (faults_outcome number (disk_of target.now)) }
+fn list_faults<W: Write, T: DeviceServer>(number: u64, target: &T, out: &mut Printer<'_, W>) -> u8
+    ensures { HasOutcome W.contents out.old out.new (T.disk target.now) result
+        (faults_outcome number (T.disk target.now)) }
 {
     put_line_header(number, b"FAULTS", out);
     put_faults(target.faults(), out);
@@ -185,19 +199,23 @@ fn list_faults<W: Write, S: Store>(number: u64, target: &Target<S>, out: &mut Pr
 }
 
 /// Fills blocks with a byte, by WRITE(16), prints the reply and returns its exit status.
-fn fill_blocks<W: Write, S: Store>(
+fn fill_blocks<W: Write, T: DeviceServer>(
     number: u64,
     blocks: &FilledBlocks,
     data_out: &mut [u8],
     buffer: &mut [u8],
-    target: &mut Target<S>,
+    target: &mut T,
     out: &mut Printer<'_, W>,
 ) -> u8
     requires data_out { length data_out.old ≡ DATA_OUT_LENGTH }
     requires buffer { length buffer.old ≡ REPLY_LENGTH }
-    ensures { let b = blocks.now in HasOutcome W.contents out.old out.new (disk_of target.new) result
+    requires ready { T.is_ready target.old }
+    ensures outcome { T.works target.new → let b = blocks.now in
+        HasOutcome W.contents out.old out.new (T.disk target.new) result
         (reply_outcome number Nothing
-        (fill_step (disk_of target.old) b.initiator b.lba b.count b.byte)) }
+        (fill_step (T.disk target.old) b.initiator b.lba b.count b.byte)) }
+    ensures prints { PrintsSome W.contents out.old out.new }
+    ensures serves { Serves T.is_ready T.works target.old target.new }
 {
     let len = BLOCK_LENGTH * blocks.count as usize;
     fill_prefix(data_out, len, blocks.byte);
@@ -219,19 +237,23 @@ fn fill_prefix(buffer: &mut [u8], len: usize, byte: u8)
 }
 
 /// Sends the command of a tool, prints its reply and returns its exit status.
-fn run_tool<W: Write, S: Store>(
+fn run_tool<W: Write, T: DeviceServer>(
     context: LineContext,
     line: &ToolLine,
     data_out: &mut [u8],
     buffer: &mut [u8],
-    target: &mut Target<S>,
+    target: &mut T,
     out: &mut Printer<'_, W>,
 ) -> u8
     requires data_out { length data_out.old ≡ DATA_OUT_LENGTH }
     requires buffer { length buffer.old ≡ REPLY_LENGTH }
-    ensures { HasOutcomeUnlessOutOfMemory W.contents out.old out.new (disk_of target.new) result
+    requires ready { T.is_ready target.old }
+    ensures outcome { T.works target.new → HasOutcomeUnlessOutOfMemory
+        W.contents out.old out.new (T.disk target.new) result
         (λ out_of_memory.
-        by_request context.number out_of_memory (disk_of target.old) (tool_request line.now)) }
+        by_request context.number out_of_memory (T.disk target.old) (tool_request line.now)) }
+    ensures prints { PrintsSome W.contents out.old out.new }
+    ensures serves { Serves T.is_ready T.works target.old target.new }
 {
     let number = context.number;
     match line.parse(context.alloc) {
@@ -250,17 +272,21 @@ fn run_tool<W: Write, S: Store>(
 }
 
 /// Sends a command, prints its reply and returns its exit status.
-fn send<W: Write, S: Store>(
+fn send<W: Write, T: DeviceServer>(
     number: u64,
     call: &Call,
     show: Show,
     buffer: &mut [u8],
-    target: &mut Target<S>,
+    target: &mut T,
     out: &mut Printer<'_, W>,
 ) -> u8
-    requires { length buffer.old ≡ REPLY_LENGTH }
-    ensures { let c = call.now in HasOutcome W.contents out.old out.new (disk_of target.new) result
-        (reply_outcome number show (armed_step (disk_of target.old) c.initiator c.cdb.now c.data_out.now)) }
+    requires buffer { length buffer.old ≡ REPLY_LENGTH }
+    requires ready { T.is_ready target.old }
+    ensures outcome { T.works target.new → let c = call.now in
+        HasOutcome W.contents out.old out.new (T.disk target.new) result
+        (reply_outcome number show (armed_step (T.disk target.old) c.initiator c.cdb.now c.data_out.now)) }
+    ensures prints { PrintsSome W.contents out.old out.new }
+    ensures serves { Serves T.is_ready T.works target.old target.new }
 {
     let (data_in, lines) = buffer.split_at_mut(BUFFER_LENGTH);
     let reply = target.execute(call.initiator, call.cdb, call.data_out, data_in);

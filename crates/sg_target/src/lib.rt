@@ -10,6 +10,7 @@ mod checks;
 mod config;
 mod data_in;
 mod data_out;
+mod device_server;
 mod event;
 mod executed;
 mod extent;
@@ -38,6 +39,7 @@ mod write_long;
 
 pub use call::Call;
 pub use config::{Config, ConfigFault};
+pub use device_server::DeviceServer;
 pub use event::Event;
 pub use executed::Executed;
 pub use happening::Happening;
