@@ -35,9 +35,9 @@ pub record IsSent (call : Call) (initiator : ℕ) (cdb data_out : List ℕ) : Ty
   pub same_data_out : call.data_out.now ≡ data_out
 
 -- What a crash leaves of a whole list of events. A call of a disk in a file adds events to those of all
--- calls before it. A crash at any moment leaves the disk after the first events of the list that results.
--- None is left out between them, and none is there in part. Each event is among them that happened before
--- the end of the last call that has flushed.
+-- calls before it. A crash at any moment leaves the disk after the first events of the resulting list.
+-- None is left out between them, and none is there in part. Each event that happened before the end of
+-- the last flush is among them.
 pub record AddsEvents {S D : Type 0} (seen : D → List ℕ) (moment : D → ℕ)
     (left_since : D → ℕ → List ℕ → Type 0) (old new : KeptDisk S D) (added : List Event)
     (has_flushed : Bool) : Type 0 where
