@@ -237,47 +237,47 @@ fn add_head<S: Store>(batch: &mut BatchSink, target: &Target<S>)
 fn begin_snapshot<S: Store, D: Device>(
     target: &Target<S>,
     journal: &mut Journal<D>,
-    batch: &mut BatchSink,
+    head: &mut BatchSink,
 ) -> Result<(), DeviceError>
-    requires kept { IsKept D.seen D.may_leave journal.old batch.old (disk_of target.now) }
+    requires kept { IsKept D.seen D.may_leave journal.old head.old (disk_of target.now) }
     requires new { is_new_disk (new_disk_of (kept (disk_of target.now))) ≡ true }
     requires sound { IsSoundDisk target.now.state.disk }
-    ensures drafted { OnOk result (IsDrafted D.seen D.may_leave D.draft journal.new batch.new
+    ensures drafted { OnOk result (IsDrafted D.seen D.may_leave D.draft journal.new head.new
         (kept_below (kept (disk_of target.now)) 0)) }
     ensures same { OnOk result
         (found (D.seen journal.new.device) ≡ found (D.seen journal.old.device)) }
-    ensures at_most { OnOk result (draft_weight journal.new batch.new ≤ heaviest 0) }
+    ensures at_most { OnOk result (draft_weight journal.new head.new ≤ heaviest 0) }
     ensures any_moment { LeavesOnly D.moment D.left_since journal.old.device journal.new.device
         (λ c. found c ≡ found (D.seen journal.old.device)) }
     ensures cause { HasCause (D.failures journal.old.device) (D.failures journal.new.device) result }
 {
-    batch.batch.clear();
-    add_head(batch, target);
-    journal.begin_rewrite(&mut batch.batch)
+    head.batch.clear();
+    add_head(head, target);
+    journal.begin_rewrite(&mut head.batch)
 }
 
 /// Writes the last batch to the draft, and puts the draft in the place of the file. The batch is empty
 /// after it.
-fn exchange<D: Device>(journal: &mut Journal<D>, batch: &mut BatchSink) -> Result<(), DeviceError>
+fn exchange<D: Device>(journal: &mut Journal<D>, last: &mut BatchSink) -> Result<(), DeviceError>
     requires drafted { (left : KeptFields) × IsDrafted D.seen D.may_leave D.draft
-        journal.old batch.old left }
+        journal.old last.old left }
     requires short { journal.old.drafted ≤ 2 ^ 62 }
     ensures stands { OnOk result ((left : KeptFields)
-        → IsDrafted D.seen D.may_leave D.draft journal.old batch.old left
+        → IsDrafted D.seen D.may_leave D.draft journal.old last.old left
         → StandsFor D.seen D.may_leave journal.new left) }
     ensures end { OnOk result (23 * journal.new.end
-        ≤ 23 * journal.old.drafted + 23 * length batch.old.records + 3015024) }
-    ensures empty { OnOk result (batch.new.records ≡ []) }
-    ensures sector { OnOk result (batch.new.sector ≡ journal.new.sector) }
+        ≤ 23 * journal.old.drafted + 23 * length last.old.records + 3015024) }
+    ensures empty { OnOk result (last.new.records ≡ []) }
+    ensures sector { OnOk result (last.new.sector ≡ journal.new.sector) }
     ensures any_moment { (left : KeptFields)
-        → IsDrafted D.seen D.may_leave D.draft journal.old batch.old left
+        → IsDrafted D.seen D.may_leave D.draft journal.old last.old left
         → LeavesOnly D.moment D.left_since journal.old.device journal.new.device
         (λ c. (found c ≡ found (D.seen journal.old.device)) ⊎ (opened c ≡ Some (restored left))) }
     ensures cause { HasCause (D.failures journal.old.device) (D.failures journal.new.device) result }
 {
-    journal.rewrite(&mut batch.batch)?;
-    journal.finish_rewrite(&mut batch.batch)?;
-    batch.batch.clear();
+    journal.rewrite(&mut last.batch)?;
+    journal.finish_rewrite(&mut last.batch)?;
+    last.batch.clear();
     Ok(())
 }
 

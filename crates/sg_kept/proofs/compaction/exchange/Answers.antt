@@ -11,15 +11,15 @@ pub finish_rewrite-requires-clause-drafts : goal.finish_rewrite-requires-clause-
 finish_rewrite-requires-clause-drafts g c =
     let s = c.requires.drafted.1 in (
       s.batches,
-      s.drafted ++ c.batch.inside.batch.records ∷ [],
+      s.drafted ++ c.last.inside.batch.records ∷ [],
       c.in_ok-rewrite.ensures.added s.batches s.drafted s.drafts,
     )
 
 pub returns-in_err-finish_rewrite-clause-any_moment : goal.returns-in_err-finish_rewrite-clause-any_moment
 returns-in_err-finish_rewrite-clause-any_moment g c left s =
     let old = c.args.journal.now.device in
-    let all = s.drafted ++ c.batch.inside.batch.records ∷ [] in
-    let files = ap (λ (b : BatchValue). filed (s.drafted ++ b.records ∷ [])) c.batch.view_is ∙ s.leaves in
+    let all = s.drafted ++ c.last.inside.batch.records ∷ [] in
+    let files = ap (λ (b : BatchValue). filed (s.drafted ++ b.records ∷ [])) c.last.view_is ∙ s.leaves in
     let f = s.drafts.stands.found in
     then-leaves g.D.Device.moment g.D.Device.left_since old c.rewrite.new.self.device
     c.finish_rewrite.new.self.device (λ file. found file ≡ Ok s.batches) _ _
@@ -32,8 +32,8 @@ returns-in_err-finish_rewrite-clause-any_moment g c left s =
 pub returns-clause-any_moment : goal.returns-clause-any_moment
 returns-clause-any_moment g c left s =
     let old = c.args.journal.now.device in
-    let all = s.drafted ++ c.batch.inside.batch.records ∷ [] in
-    let files = ap (λ (b : BatchValue). filed (s.drafted ++ b.records ∷ [])) c.batch.view_is ∙ s.leaves in
+    let all = s.drafted ++ c.last.inside.batch.records ∷ [] in
+    let files = ap (λ (b : BatchValue). filed (s.drafted ++ b.records ∷ [])) c.last.view_is ∙ s.leaves in
     let f = s.drafts.stands.found in
     then-leaves g.D.Device.moment g.D.Device.left_since old c.rewrite.new.self.device
     c.finish_rewrite.new.self.device (λ file. found file ≡ Ok s.batches) _ _
@@ -45,19 +45,19 @@ returns-clause-any_moment g c left s =
 
 pub returns-clause-stands : goal.returns-clause-stands
 returns-clause-stands g c left s =
-    let all = s.drafted ++ c.batch.inside.batch.records ∷ [] in
+    let all = s.drafted ++ c.last.inside.batch.records ∷ [] in
     record {
       batches = all;
       stands = c.in_ok-finish_rewrite.ensures.exchanged s.batches all
           (c.in_ok-rewrite.ensures.added s.batches s.drafted s.drafts);
-      files = ap (λ (b : BatchValue). filed (s.drafted ++ b.records ∷ [])) c.batch.view_is ∙ s.leaves;
+      files = ap (λ (b : BatchValue). filed (s.drafted ++ b.records ∷ [])) c.last.view_is ∙ s.leaves;
     }
 
 pub returns-clause-end : goal.returns-clause-end
 returns-clause-end g c =
     let journal = c.args.journal.now in
     let s = c.requires.drafted.1 in
-    let count = ap (λ (b : BatchValue). length b.records) c.batch.view_is in
-    let weight = weighed journal.sector journal.drafted (length c.batch.inside.batch.records)
+    let count = ap (λ (b : BatchValue). length b.records) c.last.view_is in
+    let weight = weighed journal.sector journal.drafted (length c.last.inside.batch.records)
     s.drafts.stands.valid in
     omega (arith, c.finish_rewrite.ensures.end, c.rewrite.ensures.drafted, weight, count)

@@ -64,7 +64,7 @@ pub returns-clause-kept : goal.returns-clause-kept
 returns-clause-kept g c =
     let disk = disk_of c.args.target.now in
     three-ok c.exchange.result (λ stands none sector.
-    kept-afresh g.D.Device.seen g.D.Device.may_leave c.exchange.new.journal c.exchange.new.batch disk
+    kept-afresh g.D.Device.seen g.D.Device.may_leave c.exchange.new.journal c.exchange.new.last disk
     (stands (kept disk) c.in_ok-draft_runs.ensures.drafted) none sector c.requires.kept.limits)
     c.exchange.ensures.stands c.exchange.ensures.empty c.exchange.ensures.sector
 
