@@ -10,7 +10,7 @@ use sg_faults::{Fault, Faults};
 use sg_pages::ModePages;
 use sg_store::{BLOCK_LENGTH, Counts, MAX_CAPACITY, Store};
 use sg_units::{Attentions, Raised, Reservations, UnitAttention};
-use sg_wire::{Command, Format, Initiator, MAXIMUM_TRANSFER_LENGTH};
+use sg_wire::{CdbFault, Command, Format, Initiator, MAXIMUM_TRANSFER_LENGTH};
 use std::alloc::{AllocError, Global};
 use std::marker::Model;
 
@@ -66,8 +66,9 @@ impl<S: Store> Model for Target<S> {
         × (t.config.pool ≡ (S.disk t.store).pool) };
 }
 
-ghost use Rattle.std.specs.Prelude.{◌≡◌, ◌≤◌, length, IfOk};
-ghost use Rattle.sg_faults.specs.Faults.{no_faults};
+ghost use Rattle.std.specs.Prelude.{◌≡◌, ◌≤◌, length, IfOk, false};
+ghost use Rattle.sg_wire.specs.CdbDecoding.{command_in};
+ghost use Rattle.sg_faults.specs.Faults.{is_armed, no_faults};
 ghost use Rattle.sg_store.specs.Meter.{new_meter};
 ghost use Rattle.sg_target.specs.DataInBound.{longest_data_in};
 ghost use Rattle.sg_target.specs.Charge.{ChargesCommand, cost_bounds};
@@ -75,7 +76,7 @@ ghost use Rattle.sg_target.specs.Execution.{IsExecuted};
 ghost use Rattle.sg_target.specs.Happenings.{Happens, after_reset, with_raised};
 ghost use Rattle.sg_target.specs.MadeReplies.{refused_reply};
 ghost use Rattle.sg_target.specs.NewState.{new_state, restored_state};
-ghost use Rattle.sg_target.specs.State.{IsWithinLimits};
+ghost use Rattle.sg_target.specs.State.{IsWithinLimits, profile_of};
 ghost use Rattle.sg_target.specs.Step.{after_refusal, sense_format};
 ghost use Rattle.sg_target.specs.Target.{disk_of};
 
@@ -158,9 +159,34 @@ impl<S: Store> Target<S> {
         if self.faults.is_armed() {
             return self.execute_armed(initiator, cdb, data_out, buf);
         }
-        let command = Command::read_in(self.profile(), cdb);
-        let asked = asked_bytes(&command);
-        let checked = self.check_command(initiator, cdb, &command, data_out);
+        // The compiler drops what a command does not need if it knows the command.
+        if Command::is_test_unit_ready(cdb) {
+            return self.execute_command(initiator, cdb, &Ok(Command::TestUnitReady), data_out, buf);
+        }
+        let command = &Command::read_in(self.profile(), cdb);
+        self.execute_command(initiator, cdb, command, data_out, buf)
+    }
+
+    /// Executes a CDB, in which the disk reads `command`, while no fault is armed.
+    #[inline(always)]
+    fn execute_command(
+        &mut self,
+        initiator: Initiator,
+        cdb: &[u8],
+        command: &Result<Command, CdbFault>,
+        data_out: &[u8],
+        buf: &mut [u8],
+    ) -> Reply
+        requires unarmed { is_armed self.old.faults ≡ false }
+        requires command { command.now ≡ command_in (profile_of self.old.state) cdb.now }
+        requires room { longest_data_in ≤ length buf.old }
+        ensures executed { IsExecuted initiator cdb.now data_out.now
+            (disk_of self.old) (disk_of self.new) result buf.old buf.new }
+        ensures charged { ChargesCommand (cost_bounds S.price S.least) initiator cdb.now data_out.now
+            self.old self.new result }
+    {
+        let asked = asked_bytes(command);
+        let checked = self.check_command(initiator, cdb, command, data_out);
         // Its contract says that the buffer is long enough.
         let _ = data_in_bound(&checked);
         let call = Call {
