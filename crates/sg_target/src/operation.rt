@@ -290,6 +290,8 @@ pub(crate) fn operation_of<'a>(
         Command::SendDiagnostic(fields) => check_send_diagnostic(fields),
         Command::PersistentReserveIn(fields) => Ok(check_reserve_in(fields)),
         Command::PersistentReserveOut(fields) => check_reserve_out(config, fields, data_out),
+        // Here, too, so that READ(10) does not pay for the other block commands.
+        Command::Read10(extent) => check_read(config, Extent::from(extent), LENGTH_AT_10),
         _ => block_operation_of(config, command, data_out),
     }
 }

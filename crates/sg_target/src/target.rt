@@ -163,6 +163,10 @@ impl<S: Store> Target<S> {
         if Command::is_test_unit_ready(cdb) {
             return self.execute_command(initiator, cdb, &Ok(Command::TestUnitReady), data_out, buf);
         }
+        if let Some(extent) = Command::read_10(cdb) {
+            let command = &Ok(Command::Read10(extent));
+            return self.execute_command(initiator, cdb, command, data_out, buf);
+        }
         let command = &Command::read_in(self.profile(), cdb);
         self.execute_command(initiator, cdb, command, data_out, buf)
     }
