@@ -63,7 +63,8 @@ alike-some m capacity a lt =
           let at : get_or xs 0 0 ≡ a + 0 = get_or-range_with_len a n 0 0 (omega arith) in
           let here : a + 0 ≡ a = omega arith in
           let same : p a ≡ true = eq-eqb _ _ refl in
-          absurd (true≢false (sym same ∙ ap p (sym (at ∙ here)) ∙ ap (λ k. p (get_or xs k 0)) (sym is) ∙ stops))
+          let fails = ap (λ k. p (get_or xs k 0)) (sym is) ∙ stops in
+          absurd (true≢false (sym same ∙ ap p (sym (at ∙ here)) ∙ fails))
     ]
 
 pub described : (m : Contents) (capacity a : ℕ) → a < capacity
@@ -233,7 +234,8 @@ none-below disk sound =
     get-unmapped m 0 (c - 0) q
     ∙ (elim (cases_lt q c) [
       | inl lt ↦ rest-within m c 0 0 (omega arith) 0 q (omega arith) lt
-      | inr past ↦ rest-past m c 0 0 (omega arith) 0 q (omega arith) past ∙ nothing-past c m sound.blocks q past
+      | inr past ↦
+          rest-past m c 0 0 (omega arith) 0 q (omega arith) past ∙ nothing-past c m sound.blocks q past
     ])
     ∙ sym (get-empty nat_cmp q)))
 
@@ -276,7 +278,8 @@ module _ (kept : KeptFields) (extent : Extent) (sound : IsSoundDisk kept.disk)
       → within_pool (record disk { contents = x }) ≡ Some (disk_below disk end)
   with-contents x e = ap (λ (y : Contents). within_pool (record disk { contents = y })) e ∙ fits
 
-  one-applied : (first : Change) → applied (kept_below kept a) first ≡ with_disk (kept_below kept a) (Some (disk_below disk end))
+  one-applied : (first : Change)
+      → applied (kept_below kept a) first ≡ with_disk (kept_below kept a) (Some (disk_below disk end))
       → applied_all (kept_below kept a) (first ∷ []) ≡ Some (kept_below kept end)
   one-applied first e = ap (λ o. option_and_then (λ left. applied_all left []) o) e
 
@@ -305,7 +308,8 @@ pub run-applied : (kept : KeptFields) (extent : Extent) (s : ProvisioningStatus)
     → applied_all (kept_below kept extent.lba) (run_changes kept.disk.contents extent s)
     ≡ Some (kept_below kept (extent.lba + extent.count))
 run-applied kept extent status.Mapped sound within each =
-    one-applied kept extent sound within (change.Change.Write extent (blocks kept.disk.contents extent.lba extent.count))
+    let bytes = blocks kept.disk.contents extent.lba extent.count in
+    one-applied kept extent sound within (change.Change.Write extent bytes)
     (ap (with_disk (kept_below kept extent.lba)) (written-run kept extent sound within each))
 run-applied kept extent status.Anchored sound within each =
     one-applied kept extent sound within (change.Change.Anchor extent)

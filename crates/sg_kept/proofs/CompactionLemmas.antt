@@ -1,6 +1,7 @@
 -- A file that is written afresh.
-use Rattle.std.proofs.Common.{◌≡◌, ◌⊎◌, inl, inr, ⊎_elim, ℕ, ◌+◌, ◌*◌, ◌≤◌, ◌<◌, Bool, true, ◌&&◌, List, []}
-use Rattle.std.proofs.Common.{◌∷◌, ◌++◌, leb, length, Option, Some, None, refl, sym, ap, ap₂, subst, ◌∙◌, arith}
+use Rattle.std.proofs.Common.{◌≡◌, ◌⊎◌, inl, inr, ⊎_elim, ℕ, ◌+◌, ◌*◌, ◌≤◌, ◌<◌, true, ◌&&◌, List, []}
+use Rattle.std.proofs.Common.{◌∷◌, ◌++◌, leb, Option, Some, None, refl, sym, ap, ap₂, subst}
+use Rattle.std.proofs.Common.{◌∙◌, arith}
 use Rattle.std.proofs.lemmas.Bool.{and_parts, leb-true}
 use Rattle.std.specs.Int.{is_power_of_two}
 use Rattle.std.specs.List.{flat_map}
@@ -8,7 +9,7 @@ use Rattle.std.specs.Prelude.{Result, Ok, Err, OnOk, option_and_then, option_map
 use Rattle.sg_changes.specs.FirstRecord.{NewDiskFields, first_record, new_disk_kept}
 use Rattle.sg_changes.specs.KeptFields.{KeptFields}
 use Rattle.sg_changes.specs.Change.{Change, applied_all}
-use Rattle.sg_changes.specs.Change as change
+use Rattle.sg_changes.specs.Change.Change.{Pages, Reservations, Faults as FaultTable}
 use Rattle.sg_changes.specs.Laws.{Describes, FirstRecordsAreExact, IsSoundDisk, KeptStaysSound}
 use Rattle.sg_changes.specs.Laws.{RecordsAreReplayed, RunsMakeTheDisk}
 use Rattle.sg_changes.specs.Records.{record_of}
@@ -17,7 +18,7 @@ use Rattle.sg_changes.specs.Snapshot.{kept_below, run_changes}
 use Rattle.sg_journal.specs.BatchValue.{BatchValue}
 use Rattle.sg_journal.specs.Device.{LeavesOnly}
 use Rattle.sg_journal.specs.Journal.{found}
-use Rattle.sg_journal.specs.JournalState.{Drafts, HasBatches}
+use Rattle.sg_journal.specs.JournalState.{Drafts}
 use Rattle.sg_journal.specs.Layout.{body_size, is_sector_length}
 use Rattle.sg_journal.specs.declared.journal.Journal.{Journal}
 use Rattle.sg_faults.specs.Faults.{Faults}
@@ -163,21 +164,22 @@ same-kept s t f h e same = ap₂ (λ (x : State) (y : Faults). kept (record { st
 pub head-begun : RecordsAreReplayed → FirstRecordsAreExact → RunsMakeTheDisk → (disk : Armed)
     (d : NewDiskFields) (a b : BatchValue) → begun a.records ≡ Some (new_disk_kept d)
     → d ≡ new_disk_of (kept disk) → IsSoundDisk disk.state.disk → IsConsistent disk.state.reservations
-    → Adds a b (change.Change.Pages disk.state.modes.saved ∷ change.Change.Reservations (persistent disk.state.reservations)
-    ∷ change.Change.Faults disk.faults ∷ [])
+    → Adds a b (Pages disk.state.modes.saved ∷ Reservations (persistent disk.state.reservations)
+    ∷ FaultTable disk.faults ∷ [])
     → begun b.records ≡ Some (kept_below (kept disk) 0)
 head-begun replays exact runs disk d a b begins is sound consistent adds =
     let k = kept disk in
-    let changes : List Change = change.Change.Pages disk.state.modes.saved
-    ∷ change.Change.Reservations (persistent disk.state.reservations) ∷ change.Change.Faults disk.faults ∷ [] in
+    let changes : List Change = Pages disk.state.modes.saved
+    ∷ Reservations (persistent disk.state.reservations) ∷ FaultTable disk.faults ∷ [] in
     let paged : KeptFields = record (new_disk_kept (new_disk_of k)) { saved = k.saved } in
     let new : Disk = empty_disk k.disk.capacity k.disk.pool in
     let makes : applied_all (new_disk_kept (new_disk_of k)) changes ≡ Some (record k { disk = new }) =
-    ap (λ o. option_and_then (λ (left : KeptFields). applied_all left (change.Change.Faults disk.faults ∷ []))
+    ap (λ o. option_and_then (λ (left : KeptFields). applied_all left (FaultTable disk.faults ∷ []))
     (option_map (λ (r : ReservationState). record paged { reservations = r }) o))
     (restored-persistent disk.state.reservations consistent) in
     ap (λ (v : BatchValue). begun v.records) adds.added
-    ∙ begun-more replays exact a.records (flat_map record_of changes) (new_disk_kept d) (kept_below k 0) begins
+    ∙ begun-more replays exact a.records (flat_map record_of changes) (new_disk_kept d)
+    (kept_below k 0) begins
     (replays.all changes (new_disk_kept d) adds.possible
     ∙ ap (λ (x : NewDiskFields). applied_all (new_disk_kept x) changes) is ∙ makes
     ∙ ap (λ (x : Disk). Some (record k { disk = x })) (sym (runs.none k.disk sound)))

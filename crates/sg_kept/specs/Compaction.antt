@@ -1,5 +1,5 @@
 -- A disk's file that is written afresh.
-use Rattle.std.specs.Prelude.{◌≡◌, ◌≤◌, ℕ, ◌+◌, ◌*◌, ◌^◌, List, [], ◌∷◌, ◌++◌, length, Some}
+use Rattle.std.specs.Prelude.{◌≡◌, ℕ, ◌+◌, ◌*◌, ◌^◌, List, [], ◌∷◌, ◌++◌, length, Some}
 use Rattle.sg_changes.specs.KeptFields.{KeptFields}
 use Rattle.sg_changes.specs.Replay.{replayed}
 use Rattle.sg_journal.specs.BatchValue.{BatchValue}
@@ -18,7 +18,7 @@ longest_uncompacted used = 2 * longest_snapshot used + 2 ^ 24
 
 -- ---- Cited only by private contracts
 
--- The draft, and after it a batch of the records that wait, leave this. The file has batches, as before.
+-- The draft, and after it a batch of the records that wait, leave this. The file has its batches still.
 pub record IsDrafted {D : Type 0} (seen : D → List ℕ) (may_leave : D → List ℕ → Type 0)
     (draft : D → List ℕ) (journal : Journal D) (batch : BatchValue) (left : KeptFields) : Type 0 where
   pub batches : List (List ℕ)

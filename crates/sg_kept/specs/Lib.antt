@@ -7,7 +7,10 @@ pub mod Opened
 pub mod Owing
 pub mod Disk
 pub mod Recording
+-- Why a file is not opened.
 pub mod Refused
 pub mod Opening
+-- What a crash leaves of a list of events.
 pub mod History
+-- A file that is written afresh.
 pub mod Compaction

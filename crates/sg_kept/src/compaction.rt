@@ -1,5 +1,6 @@
 // A disk's file that is written afresh, so that it stays short: a snapshot of the disk takes its place.
-ghost use Rattle.std.specs.Prelude.{◌≡◌, ◌⊎◌, ◌≤◌, ◌<◌, ◌+◌, ◌*◌, ◌^◌, [], length, true, OnOk, IsErr, Some};
+ghost use Rattle.std.specs.Prelude.{◌≡◌, ◌⊎◌, ◌≤◌, ◌<◌, ◌+◌, ◌*◌, ◌^◌, [], length, true};
+ghost use Rattle.std.specs.Prelude.{OnOk, IsErr, Some};
 ghost use Rattle.std.specs.FinMap.{len};
 ghost use Rattle.sg_changes.specs.FirstRecord.{is_new_disk};
 ghost use Rattle.sg_changes.specs.KeptFields.{KeptFields};
@@ -84,8 +85,8 @@ fn add_run<S: Store>(
     }
 }
 
-/// Adds the record of the addresses from one on that have one provisioning status, as many as one record
-/// has. Returns the address after them.
+/// Adds the record of the addresses from one on that have one provisioning status, as many as one
+/// record has. Returns the address after them.
 fn add_run_at<S: Store>(
     batch: &mut BatchSink,
     target: &mut Target<S>,
@@ -192,7 +193,7 @@ fn draft_runs<S: Store, D: Device>(
     first_records_are_exact();
     records_are_replayed();
     runs_make_the_disk();
-    // Its contract says that the number of used blocks is within the limits, and so is the draft's length.
+    // Its contract bounds the number of used blocks, and so the draft's length.
     let _ = target.used_blocks();
     let capacity = target.config().blocks();
     let mut next = 0;
@@ -311,8 +312,8 @@ fn write_snapshot<S: Store, D: Device>(
     exchange(journal, batch)
 }
 
-/// The length of the longest file that is not written afresh, in bytes, by the number of addresses that have
-/// a block of the pool.
+/// The length of the longest file that is not written afresh, in bytes, by the number of addresses that
+/// have a block of the pool.
 fn longest_uncompacted(used: u32) -> u64
     ensures { result ≡ longest_uncompacted used }
 {
@@ -344,10 +345,12 @@ impl<S: Store, D: Device> KeptDisk<S, D> {
         )
     }
 
-    /// Writes the file afresh, in the place of the old one: a snapshot of the disk, of about as many bytes
-    /// as its blocks have. What waits is in it. At `Ok` opening the file finds the disk, after power on.
+    /// Writes the file afresh: a snapshot of the disk takes its place. The snapshot has about as many bytes
+    /// as the disk's blocks, and has the records that wait. At `Ok` opening the file finds the disk, after
+    /// power on.
     ///
-    /// No memory is taken. The time is in proportion to the blocks that are mapped or anchored.
+    /// No memory is taken. The time depends on the runs of mapped and anchored blocks, and not on the
+    /// capacity.
     ///
     /// # Errors
     /// The device failed, now or earlier.
@@ -383,8 +386,8 @@ impl<S: Store, D: Device> KeptDisk<S, D> {
         }
     }
 
-    /// Writes the file afresh if it is long: longer than twice a snapshot of the disk, and 16 MiB. If it is
-    /// called after each flush, then it writes in all at most about as many bytes as the flushes.
+    /// Writes the file afresh if it is long: longer than two snapshots of the disk and 16 MiB. If this is
+    /// called after each flush, it writes in all about as many bytes as the flushes, or fewer.
     ///
     /// # Errors
     /// The device failed, now or earlier.

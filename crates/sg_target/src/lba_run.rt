@@ -1,5 +1,5 @@
-// The runs of addresses that have one provisioning status. Those who keep a disk in a file ask for them.
-// No command does this.
+// Runs of addresses that have one provisioning status. Those who keep a disk in a file ask for them. No
+// command does this.
 ghost use Rattle.std.specs.Prelude.{◌≡◌, ℕ, ◌<◌, ◌^◌, ◌++◌};
 ghost use Rattle.std.specs.FinMap.{len};
 ghost use Rattle.sg_store.specs.LbaStatus.{descriptor_at};
@@ -15,8 +15,8 @@ use sg_wire::{Cut, STATUS_DESCRIPTOR_LENGTH, STATUS_HEADER_LENGTH};
 /// The length of GET LBA STATUS parameter data with one descriptor, in bytes.
 const ONE_RUN: usize = STATUS_HEADER_LENGTH + STATUS_DESCRIPTOR_LENGTH;
 
-/// Reads the descriptor in GET LBA STATUS parameter data that has room for one (SBC-3, 5.4.2). Its first
-/// address is known.
+/// Reads the descriptor in GET LBA STATUS parameter data that has room for one (SBC-3, 5.4.2). Its
+/// first address is known.
 fn run_of(lba: u64, bytes: &[u8; ONE_RUN]) -> StatusDescriptor
     ensures { (run : StatusDescriptor) (count : ℕ)
         → bytes.now ≡ status_header count ++ descriptor_bytes run → run.lba ≡ lba
@@ -32,8 +32,8 @@ fn run_of(lba: u64, bytes: &[u8; ONE_RUN]) -> StatusDescriptor
 }
 
 impl<S: Store> Target<S> {
-    /// The run of addresses from one on that have one provisioning status, as GET LBA STATUS describes it
-    /// first (SBC-3, 5.4.2).
+    /// The run of addresses from one on that have one provisioning status. It is the first descriptor
+    /// that GET LBA STATUS returns (SBC-3, 5.4.2).
     pub fn run_at(&mut self, lba: u64) -> StatusDescriptor
         requires on_disk { lba < self.old.state.disk.capacity }
         ensures run { result

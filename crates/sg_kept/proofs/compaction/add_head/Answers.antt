@@ -1,5 +1,5 @@
-use Rattle.std.proofs.Common.{◌≡◌, [], ◌∷◌, subst, arith}
-use Rattle.sg_changes.specs.Change as change
+use Rattle.std.proofs.Common.{[], ◌∷◌, subst}
+use Rattle.sg_changes.specs.Change.Change.{Pages, Reservations, Faults as FaultTable}
 use Rattle.sg_faults.specs.Faults.{Faults}
 use Rattle.sg_pages.specs.declared.mode_pages.mode_page.PageValues.{PageValues}
 use Rattle.sg_target.specs.Target.{disk_of}
@@ -17,16 +17,16 @@ returns-clause-begun g c =
     let b = c.add.new.self in
     let d = c.add-2.new.self in
     let last = c.add-3.new.self in
-    let pages = subst (λ (v : PageValues). Adds a b (change.Change.Pages v ∷ [])) c.saved_pages.ensures
+    let pages = subst (λ (v : PageValues). Adds a b (Pages v ∷ [])) c.saved_pages.ensures
     c.add.ensures.record in
-    let held = subst (λ (r : ReservationState). Adds b d (change.Change.Reservations (persistent r) ∷ []))
+    let held = subst (λ (r : ReservationState). Adds b d (Reservations (persistent r) ∷ []))
     c.reservations.ensures c.add-2.ensures.record in
-    let armed = subst (λ (f : Faults). Adds d last (change.Change.Faults f ∷ [])) c.fault_table.ensures
+    let armed = subst (λ (f : Faults). Adds d last (FaultTable f ∷ [])) c.fault_table.ensures
     c.add-3.ensures.record in
     head-begun c.records_are_replayed.ensures c.first_records_are_exact.ensures c.runs_make_the_disk.ensures
     disk c.new_disk-disk.result a last c.add_first.ensures.begun c.new_disk-disk.ensures c.requires.sound
     c.requires.limits.registered
-    (adds-more a d last (change.Change.Pages disk.state.modes.saved
-    ∷ change.Change.Reservations (persistent disk.state.reservations) ∷ []) (change.Change.Faults disk.faults ∷ [])
-    (adds-more a b d (change.Change.Pages disk.state.modes.saved ∷ [])
-    (change.Change.Reservations (persistent disk.state.reservations) ∷ []) pages held) armed)
+    (adds-more a d last (Pages disk.state.modes.saved
+    ∷ Reservations (persistent disk.state.reservations) ∷ []) (FaultTable disk.faults ∷ [])
+    (adds-more a b d (Pages disk.state.modes.saved ∷ [])
+    (Reservations (persistent disk.state.reservations) ∷ []) pages held) armed)

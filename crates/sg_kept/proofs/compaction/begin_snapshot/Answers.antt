@@ -1,5 +1,4 @@
 use Rattle.std.proofs.Common.{◌≡◌, length, ap, ◌∙◌, arith}
-use Rattle.std.specs.Prelude.{Ok, Err, OnOk}
 use Rattle.sg_journal.specs.BatchValue.{BatchValue}
 use Rattle.sg_kept.proofs.CompactionLemmas.{if-ok, sector-most}
 use Rattle.sg_kept.proofs.compaction.begin_snapshot.Goals as goal

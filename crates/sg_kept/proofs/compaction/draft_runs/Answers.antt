@@ -1,4 +1,4 @@
-use Rattle.std.proofs.Common.{◌≡◌, ◌≤◌, ℕ, ◌-◌, ◌^◌, ◌<◌, length, refl, sym, ap, subst, ◌∙◌, arith, rules}
+use Rattle.std.proofs.Common.{◌≡◌, ◌-◌, ◌^◌, ◌<◌, refl, sym, ap, subst, ◌∙◌, arith, rules}
 use Rattle.std.specs.FinMap.{len}
 use Rattle.sg_changes.specs.KeptFields.{KeptFields}
 use Rattle.sg_changes.specs.Laws.{IsSoundDisk}

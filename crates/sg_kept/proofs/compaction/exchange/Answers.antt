@@ -1,8 +1,7 @@
-use Rattle.std.proofs.Common.{◌≡◌, [], ◌∷◌, ◌++◌, inl, length, sym, ap, subst, ◌∙◌, arith}
+use Rattle.std.proofs.Common.{◌≡◌, [], ◌∷◌, ◌++◌, inl, length, sym, ap, ◌∙◌, arith}
 use Rattle.std.specs.Prelude.{Ok}
 use Rattle.sg_journal.specs.BatchValue.{BatchValue}
 use Rattle.sg_journal.specs.Journal.{found}
-use Rattle.sg_journal.specs.JournalState.{HasBatches}
 use Rattle.sg_kept.specs.Opened.{filed}
 use Rattle.sg_kept.proofs.CompactionLemmas.{exchanged-or, then-leaves, weighed}
 use Rattle.sg_kept.proofs.compaction.exchange.Goals as goal

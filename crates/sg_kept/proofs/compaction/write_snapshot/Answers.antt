@@ -1,5 +1,4 @@
-use Rattle.std.proofs.Common.{◌≡◌, inl, inr, ⊎_elim, [], Some, ap, ◌∙◌}
-use Rattle.sg_journal.specs.Journal.{found}
+use Rattle.std.proofs.Common.{inl, inr, ⊎_elim, Some, ap, ◌∙◌}
 use Rattle.sg_target.specs.Target.{disk_of}
 use Rattle.sg_kept.specs.Compaction.{StandsFor}
 use Rattle.sg_kept.specs.Kept.{kept}
