@@ -65,6 +65,12 @@ before-or before bs b left disk same f e r file here =
     ∙ ap Some same))
     here
 
+-- what one call has left, and another after it
+pub before-on : (before mid : List ℕ) (disk : Armed) → IsBeforeOr before disk mid
+    → (file : List ℕ) → IsBeforeOr mid disk file → IsBeforeOr before disk file
+before-on before mid disk first file here =
+    ⊎_elim (λ same. ⊎_elim (λ was. inl (same ∙ was)) (λ now. inr (same ∙ now)) first) inr here
+
 -- ---- A file and the batch that waits
 
 pub replayed-nil : (k : KeptFields) → replayed [] k ≡ Some k

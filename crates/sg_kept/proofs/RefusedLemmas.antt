@@ -1,13 +1,12 @@
 -- What is true of a file that is not opened.
 use Rattle.std.proofs.Common.{◌≡◌, ℕ, List, [], ◌∷◌, ◌++◌, length, Option, Some, None, Ok, Err, take, drop}
-use Rattle.std.proofs.Common.{refl, sym, ap, subst, ◌+◌, ◌∙◌, ◌≢◌, arith, append_assoc}
+use Rattle.std.proofs.Common.{refl, sym, ap, subst, ◌+◌, ◌∙◌, arith, append_assoc}
 use Rattle.std.proofs.lemmas.List.{take-append-drop, length-drop}
 use Rattle.std.specs.Option.{option_map}
 use Rattle.std.specs.Prelude.{option_and_then, Result, IfErr}
 use Rattle.std.specs.Result.{IsErrAnd}
 use Rattle.sg_changes.specs.FirstRecord.{NewDiskFields, first_record, new_disk_kept}
 use Rattle.sg_changes.specs.KeptFields.{KeptFields}
-use Rattle.sg_changes.specs.Laws.{RecordsAreReplayed}
 use Rattle.sg_changes.specs.Replay.{IsDamagedAt, replayed}
 use Rattle.sg_changes.proofs.ReplayLemmas.{replayed_append, step_none}
 use Rattle.sg_journal.specs.Journal.{Found, IsHead, after, batches, found}

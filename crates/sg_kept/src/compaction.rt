@@ -21,6 +21,7 @@ ghost use Rattle.sg_kept.specs.Opened.{IsBeforeOr, begun, opened};
 ghost use Rattle.sg_kept.specs.Opening.{new_disk_of};
 ghost use Rattle.sg_kept.specs.Recording.{Adds, longest_operation, longest_write};
 
+use crate::disk::write_batch_if;
 use crate::laws::power_cycles_leave_what_is_kept;
 use crate::opening::add_first;
 use crate::{BatchSink, KeptDisk};
@@ -386,38 +387,55 @@ impl<S: Store, D: Device> KeptDisk<S, D> {
         }
     }
 
-    /// Writes the file afresh if it is long: longer than two snapshots of the disk and 16 MiB. If this is
-    /// called after each flush, it writes in all about as many bytes as the flushes, or fewer.
+    /// Writes the file afresh if it is long: longer than two snapshots of the disk and 16 MiB.
     ///
-    /// # Errors
-    /// The device failed, now or earlier.
-    pub fn compact_if_long(&mut self) -> Result<(), DeviceError>
-        requires usable { IsAlive self.old → IsUsable D.seen D.may_leave self.old }
-        ensures usable { OnOk result (IsAlive self.new × IsUsable D.seen D.may_leave self.new) }
+    /// This is called after each write to the file. Its own writes come to about the bytes of all others
+    /// at most.
+    fn keep_short(&mut self) -> Result<(), DeviceError>
+        requires usable { IsUsable D.seen D.may_leave self.old }
+        ensures usable { OnOk result (IsUsable D.seen D.may_leave self.new) }
         // The file stands for what it did before, or for the disk after power on.
         ensures left { OnOk result (IsBeforeOr (D.seen self.old.journal.device)
             (disk_of self.old.target) (D.seen self.new.journal.device)) }
         ensures short { OnOk result (self.new.journal.end
             ≤ longest_uncompacted (len self.old.target.state.disk.contents)) }
         ensures disk { disk_of self.new.target ≡ disk_of self.old.target }
-
-        // A crash at any moment leaves what the file had, or the disk after power on.
-        ensures any_moment { IsAlive self.old → LeavesOnly D.moment D.left_since
-            self.old.journal.device self.new.journal.device
+        ensures any_moment { LeavesOnly D.moment D.left_since self.old.journal.device
+            self.new.journal.device
             (IsBeforeOr (D.seen self.old.journal.device) (disk_of self.old.target)) }
-
-        // It fails only if the device does. Then it stays dead.
-        ensures failed { IsErr result → IsDead self.new }
-        ensures cause { IsAlive self.old → IsErr result
-            → D.failures self.old.journal.device < D.failures self.new.journal.device }
-        ensures stays_dead { IsDead self.old → self.new ≡ self.old }
+        ensures cause { HasCause (D.failures self.old.journal.device)
+            (D.failures self.new.journal.device) result }
+        ensures is_dead { self.new.is_dead ≡ self.old.is_dead }
     {
-        if self.is_dead {
-            return Err(DeviceError);
-        }
         if self.journal.end <= longest_uncompacted(self.target.used_blocks()) {
             return Ok(());
         }
-        self.compact()
+        self.write_afresh()
+    }
+
+    /// Writes the records that wait to the file if that is needed, or if the batch has too little room for
+    /// another command. Then it writes the file afresh if it is long.
+    pub(crate) fn write_waiting(&mut self, is_needed: bool) -> Result<(), DeviceError>
+        requires kept { IsKept D.seen D.may_leave self.old.journal self.old.batch
+            (disk_of self.old.target) }
+        requires end { self.old.journal.end ≤ 2 ^ 62 }
+        requires scratch { length self.old.scratch.items ≡ longest_write }
+        ensures usable { OnOk result (IsUsable D.seen D.may_leave self.new) }
+        ensures flushed { OnOk result (is_needed ≡ true → opened (D.seen self.new.journal.device)
+            ≡ Some (powered (disk_of self.old.target))) }
+        ensures left { OnOk result (IsBeforeOr (D.seen self.old.journal.device)
+            (disk_of self.old.target) (D.seen self.new.journal.device)) }
+        ensures short { OnOk result (self.new.journal.end
+            ≤ longest_uncompacted (len self.new.target.state.disk.contents)) }
+        ensures disk { disk_of self.new.target ≡ disk_of self.old.target }
+        ensures any_moment { LeavesOnly D.moment D.left_since self.old.journal.device
+            self.new.journal.device
+            (IsBeforeOr (D.seen self.old.journal.device) (disk_of self.old.target)) }
+        ensures cause { HasCause (D.failures self.old.journal.device)
+            (D.failures self.new.journal.device) result }
+        ensures is_dead { self.new.is_dead ≡ self.old.is_dead }
+    {
+        write_batch_if(&mut self.journal, &mut self.batch, is_needed)?;
+        self.keep_short()
     }
 }

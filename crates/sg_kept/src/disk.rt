@@ -1,6 +1,7 @@
 // A disk whose changes are kept in a file.
 ghost use Rattle.std.specs.Prelude.{◌≡◌, ◌⊎◌, ◌≤◌, ◌<◌, ◌+◌, ◌^◌, [], ◌∷◌, length, true, Some};
 ghost use Rattle.std.specs.Prelude.{IfOk, IsErr, OnOk};
+ghost use Rattle.std.specs.FinMap.{len};
 ghost use Rattle.sg_journal.specs.Device.{HasCause, LeavesOnly};
 ghost use Rattle.sg_target.specs.Armed.{Armed, armed_step};
 ghost use Rattle.sg_target.specs.DataInBound.{longest_data_in};
@@ -9,6 +10,7 @@ ghost use Rattle.sg_target.specs.Execution.{IsExecuted};
 ghost use Rattle.sg_target.specs.Target.{disk_of};
 ghost use Rattle.sg_target.specs.declared.call.Call.{Call};
 ghost use Rattle.sg_target.specs.declared.event.Event.TheVariants.{Call as Command};
+ghost use Rattle.sg_kept.specs.Compaction.{longest_uncompacted};
 ghost use Rattle.sg_kept.specs.Disk.{IsAlive, IsDead, IsKept, IsUsable, failure_reply, longest_file};
 ghost use Rattle.sg_kept.specs.History.{AddsEvents, IsSent};
 ghost use Rattle.sg_kept.specs.Kept.{powered};
@@ -127,6 +129,8 @@ impl<S: Store, D: Device> KeptDisk<S, D> {
         ensures any_moment { LeavesOnly D.moment D.left_since self.old.journal.device
             self.new.journal.device (IsBeforeOr (D.seen self.old.journal.device)
             (armed_step (disk_of self.old.target) initiator cdb.now data_out.now).after) }
+        ensures short { OnOk result (self.new.journal.end
+            ≤ longest_uncompacted (len self.new.target.state.disk.contents)) }
         ensures later { D.failures self.old.journal.device ≤ D.failures self.new.journal.device }
         ensures cause { IsErr result
             → (D.failures self.old.journal.device < D.failures self.new.journal.device)
@@ -145,7 +149,7 @@ impl<S: Store, D: Device> KeptDisk<S, D> {
             buf,
             &mut self.scratch,
         );
-        write_batch_if(&mut self.journal, &mut self.batch, flushes && owes)?;
+        self.write_waiting(flushes && owes)?;
         Ok(reply)
     }
 
@@ -155,7 +159,9 @@ impl<S: Store, D: Device> KeptDisk<S, D> {
         ensures usable { OnOk result (IsUsable D.seen D.may_leave self.new) }
         ensures flushed { OnOk result (opened (D.seen self.new.journal.device)
             ≡ Some (powered (disk_of self.old.target))) }
-        ensures target { self.new.target ≡ self.old.target }
+        ensures disk { disk_of self.new.target ≡ disk_of self.old.target }
+        ensures short { OnOk result (self.new.journal.end
+            ≤ longest_uncompacted (len self.new.target.state.disk.contents)) }
         ensures any_moment { LeavesOnly D.moment D.left_since self.old.journal.device
             self.new.journal.device
             (IsBeforeOr (D.seen self.old.journal.device) (disk_of self.old.target)) }
@@ -168,7 +174,7 @@ impl<S: Store, D: Device> KeptDisk<S, D> {
         if self.journal.end > LONGEST_FILE {
             return Err(DeviceError);
         }
-        write_batch_if(&mut self.journal, &mut self.batch, true)
+        self.write_waiting(true)
     }
 
     /// Writes what waits to the file. At `Ok` opening the file finds the disk, after power on.
@@ -180,7 +186,10 @@ impl<S: Store, D: Device> KeptDisk<S, D> {
         ensures usable { OnOk result (IsAlive self.new × IsUsable D.seen D.may_leave self.new) }
         ensures flushed { OnOk result (opened (D.seen self.new.journal.device)
             ≡ Some (powered (disk_of self.old.target))) }
-        ensures target { self.new.target ≡ self.old.target }
+        ensures disk { disk_of self.new.target ≡ disk_of self.old.target }
+        // The file is at most twice as long as a snapshot of the disk, and 16 MiB.
+        ensures short { IsAlive self.new → self.new.journal.end
+            ≤ longest_uncompacted (len self.new.target.state.disk.contents) }
 
         // A crash at any moment leaves what the file had, or the disk after power on.
         ensures any_moment { IsAlive self.old → LeavesOnly D.moment D.left_since
@@ -231,6 +240,9 @@ impl<S: Store, D: Device> KeptDisk<S, D> {
         ensures owed { IsAlive self.new → owes_flush (disk_of self.new.target) cdb.now
             (executed_operation (disk_of self.old.target) initiator cdb.now data_out.now) ≡ true
             → opened (D.seen self.new.journal.device) ≡ Some (powered (disk_of self.new.target)) }
+        // The file is at most twice as long as a snapshot of the disk, and 16 MiB.
+        ensures short { IsAlive self.new → self.new.journal.end
+            ≤ longest_uncompacted (len self.new.target.state.disk.contents) }
 
         // A crash at any moment leaves what the file had, or the disk with this command, after power on.
         ensures any_moment { IsAlive self.old → LeavesOnly D.moment D.left_since

@@ -1,5 +1,6 @@
 // Group commit: several commands, and one flush for all.
 ghost use Rattle.std.specs.Prelude.{◌≡◌, ◌⊎◌, ◌≤◌, ◌<◌, [], ◌∷◌, false, length};
+ghost use Rattle.std.specs.FinMap.{len};
 ghost use Rattle.sg_journal.specs.Device.{LeavesOnly};
 ghost use Rattle.sg_target.specs.Armed.{armed_step};
 ghost use Rattle.sg_target.specs.DataInBound.{longest_data_in};
@@ -7,6 +8,7 @@ ghost use Rattle.sg_target.specs.Execution.{IsExecuted};
 ghost use Rattle.sg_target.specs.Target.{disk_of};
 ghost use Rattle.sg_target.specs.declared.call.Call.{Call};
 ghost use Rattle.sg_target.specs.declared.event.Event.TheVariants.{Call as Command};
+ghost use Rattle.sg_kept.specs.Compaction.{longest_uncompacted};
 ghost use Rattle.sg_kept.specs.Disk.{IsAlive, IsDead, IsUsable, failure_reply, longest_file};
 ghost use Rattle.sg_kept.specs.History.{AddsEvents, IsSent};
 ghost use Rattle.sg_kept.specs.Opened.{IsBeforeOr};
@@ -35,6 +37,9 @@ impl<S: Store, D: Device> KeptDisk<S, D> {
         ensures executed { IsAlive self.new → IsExecuted initiator cdb.now data_out.now
             (disk_of self.old.target) (disk_of self.new.target) result buf.old buf.new }
         ensures usable { IsAlive self.new → IsUsable D.seen D.may_leave self.new }
+        // The file is at most twice as long as a snapshot of the disk, and 16 MiB.
+        ensures short { IsAlive self.new → self.new.journal.end
+            ≤ longest_uncompacted (len self.new.target.state.disk.contents) }
 
         // A crash at any moment leaves what the file had, or the disk with this command, after power on.
         ensures any_moment { IsAlive self.old → LeavesOnly D.moment D.left_since

@@ -1,17 +1,19 @@
 // What happens to a disk in a file between two commands, and what a script runner asks of it.
 ghost use Rattle.std.specs.Prelude.{◌≡◌, ◌⊎◌, ◌<◌, ◌≤◌, [], ◌∷◌, true, OnOk, IsErr, Some};
+ghost use Rattle.std.specs.FinMap.{len};
 ghost use Rattle.sg_journal.specs.Device.{LeavesOnly};
 ghost use Rattle.sg_target.specs.Runs.{armed_after_happening};
 ghost use Rattle.sg_target.specs.State.{profile_of};
 ghost use Rattle.sg_target.specs.Target.{disk_of};
 ghost use Rattle.sg_target.specs.declared.event.Event.TheVariants.{Happen};
+ghost use Rattle.sg_kept.specs.Compaction.{longest_uncompacted};
 ghost use Rattle.sg_kept.specs.Disk.{IsAlive, IsDead, IsUsable, longest_file};
 ghost use Rattle.sg_kept.specs.History.{AddsEvents};
 ghost use Rattle.sg_kept.specs.Kept.{powered};
 ghost use Rattle.sg_kept.specs.Opened.{IsBeforeOr, opened};
 
 use crate::KeptDisk;
-use crate::disk::{LONGEST_FILE, write_batch_if};
+use crate::disk::LONGEST_FILE;
 use crate::recording::happen_and_record;
 use sg_faults::ArmedFault;
 use sg_journal::{Device, DeviceError};
@@ -31,6 +33,8 @@ impl<S: Store, D: Device> KeptDisk<S, D> {
         ensures any_moment { LeavesOnly D.moment D.left_since self.old.journal.device
             self.new.journal.device (IsBeforeOr (D.seen self.old.journal.device)
             (armed_after_happening (disk_of self.old.target) happening)) }
+        ensures short { OnOk result (self.new.journal.end
+            ≤ longest_uncompacted (len self.new.target.state.disk.contents)) }
         ensures later { D.failures self.old.journal.device ≤ D.failures self.new.journal.device }
         ensures cause { IsErr result
             → (D.failures self.old.journal.device < D.failures self.new.journal.device)
@@ -41,7 +45,7 @@ impl<S: Store, D: Device> KeptDisk<S, D> {
             return Err(DeviceError);
         }
         happen_and_record(&mut self.target, &mut self.batch, &happening);
-        write_batch_if(&mut self.journal, &mut self.batch, true)
+        self.write_waiting(true)
     }
 
     /// Lets something happen to the disk, between two commands. At `Ok` it is in the file, with all that
@@ -57,6 +61,9 @@ impl<S: Store, D: Device> KeptDisk<S, D> {
         // Opening the file finds the disk with this happening.
         ensures written { OnOk result (opened (D.seen self.new.journal.device)
             ≡ Some (powered (disk_of self.new.target))) }
+        // The file is at most twice as long as a snapshot of the disk, and 16 MiB.
+        ensures short { IsAlive self.new → self.new.journal.end
+            ≤ longest_uncompacted (len self.new.target.state.disk.contents) }
 
         // A crash at any moment leaves what the file had, or the disk with this happening, after power on.
         ensures any_moment { IsAlive self.old → LeavesOnly D.moment D.left_since

@@ -1,8 +1,7 @@
-use Rattle.std.proofs.Common.{◌≡◌, [], ◌∷◌, length, refl, sym, ap, subst, ◌∙◌}
+use Rattle.std.proofs.Common.{[], ◌∷◌, refl, sym, ap, subst, ◌∙◌}
 use Rattle.sg_changes.specs.FirstRecord.{new_disk_kept}
 use Rattle.sg_changes.specs.Laws.{IsSound}
 use Rattle.sg_journal.specs.Journal.{IsBeforeOrAfter}
-use Rattle.sg_target.specs.Target.{disk_of}
 use Rattle.sg_kept.specs.Kept.{restored}
 use Rattle.sg_kept.specs.Opened.{IsBeforeOr}
 use Rattle.sg_kept.proofs.MomentsLemmas.{weaker}

@@ -16,7 +16,7 @@ returns-in-Ok-clause-events g c =
     let flushed = c.in-Ok.ensures.flushed in
     adds-events g.D.Device.seen old c.write_out.new.self [] (disk_of old.target) refl g.D.Device.moment
     g.D.Device.left_since true (λ alive. c.write_out.ensures.any_moment)
-    (λ alive. (cc c.write_out.ensures.target, (inr flushed, λ yes. flushed)))
+    (λ alive. (c.write_out.ensures.disk, (inr flushed, λ yes. flushed)))
 
 pub returns-in-Err-clause-events : goal.returns-in-Err-clause-events
 returns-in-Err-clause-events g c =

@@ -1,4 +1,4 @@
-use Rattle.std.proofs.Common.{◌≡◌, Some, refl, sym, ap, ◌∙◌}
+use Rattle.std.proofs.Common.{Some, refl, sym, ap, ◌∙◌}
 use Rattle.sg_journal.specs.BatchValue.{BatchValue}
 use Rattle.sg_kept.proofs.OpenedLemmas.{opened-is}
 use Rattle.sg_kept.proofs.OpeningLemmas.{started}
