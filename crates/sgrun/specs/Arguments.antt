@@ -1,9 +1,10 @@
 -- The request that the words of the command line make (docs/SCRIPT.md). Of two stops, the first in
--- this order is returned: `Usage`; `Number`; `Profile`; `Seed`; and then `Blocks` and `Pool`, in the
--- order of a disk's checks.
+-- this order is returned: `Usage`; `Number`; `Profile`; and then, for a new disk, `Seed`, `Blocks` and
+-- `Pool`, in the order of a disk's checks.
 use Rattle.std.specs.Prelude.{◌≡◌, ◌⊎◌, ℕ, ◌^◌, ◌-◌, List, codes, Option, Some, None, Result, Ok}
 use Rattle.std.specs.Prelude.{Err, [], ◌∷◌, bytes_eq, find, Bool, true, false, not, ◌&&◌, is_some}
 use Rattle.std.specs.Prelude.{if◌then◌else◌, option_map}
+use Rattle.std.specs.Option.{unwrap_or}
 use Rattle.clap.specs.Words.{Row, Text}
 use Rattle.sg_wire.specs.declared.profile.Profile.{Profile}
 use Rattle.sg_wire.specs.declared.profile.Profile.TheVariants.{Base, Extended}
@@ -17,6 +18,7 @@ use Rattle.sg_tools.specs.GivenOptions.{given_options, text_of}
 use Rattle.sg_tools.specs.OptionTexts.{number_or}
 use Rattle.sg_tools.specs.declared.tool_fault.ToolFault.{ToolFault}
 use Rattle.sgrun.specs.Options.{command_line}
+use Rattle.sgrun.specs.declared.disk_options.DiskOptions.{DiskOptions}
 use Rattle.sgrun.specs.declared.named_profile.NamedProfile.{NamedProfile}
 use Rattle.sgrun.specs.Stops.{stop_of_config, stop_of_identity, stop_of_options}
 use Rattle.sgrun.specs.declared.stop.Stop.{Stop}
@@ -94,48 +96,66 @@ checked_disk blocks pool named (Err fault) = Err (stop_of_identity fault)
 checked_disk blocks pool named (Ok names) =
     by_config (checked_config (disk_with blocks pool named names))
 
--- The number of an option's text, or the default if the option is not given.
-abbrev pub number_of_option : (default : ℕ) → Option Text → Option ℕ
-number_of_option default text = number_or default (2 ^ 64 - 1) text
+-- The number of an option's text, which may be missing. None if the text is no number.
+abbrev pub number_of_option : Option Text → Option (Option ℕ)
+number_of_option None = Some None
+number_of_option (Some text) = option_map Some (number_or 0 (2 ^ 64 - 1) (Some text))
 
-abbrev pub with_number : Option ℕ → (ℕ → Result ConfigFields Stop) → Result ConfigFields Stop
+abbrev pub with_number : Option (Option ℕ) → (Option ℕ → Result DiskOptions Stop)
+    → Result DiskOptions Stop
 with_number None disk = Err Number
 with_number (Some number) disk = disk number
 
-abbrev pub with_profile : Option NamedProfile → (NamedProfile → Result ConfigFields Stop)
-    → Result ConfigFields Stop
+abbrev pub with_profile : Option NamedProfile → (NamedProfile → Result DiskOptions Stop)
+    → Result DiskOptions Stop
 with_profile None disk = Err BadProfile
 with_profile (Some named) disk = disk named
 
--- The numbers and the profile are read before a number is checked.
-abbrev pub disk_by : Option NamedProfile → List Row → Result ConfigFields Stop
+-- The numbers are read before the profile.
+abbrev pub disk_by : Option NamedProfile → List Row → Result DiskOptions Stop
 disk_by profile rows =
-    with_number (number_of_option default_blocks (text_of (codes "blocks") rows)) (λ blocks.
-    with_number (number_of_option default_pool (text_of (codes "pool") rows)) (λ pool.
-    with_number (number_of_option default_seed (text_of (codes "seed") rows)) (λ seed.
+    with_number (number_of_option (text_of (codes "blocks") rows)) (λ blocks.
+    with_number (number_of_option (text_of (codes "pool") rows)) (λ pool.
+    with_number (number_of_option (text_of (codes "seed") rows)) (λ seed.
     with_profile profile (λ named.
-    checked_disk blocks pool named (identity_of_seed seed)))))
+    Ok (record {
+      blocks = blocks;
+      pool = pool;
+      profile = option_map (λ name. named) (text_of (codes "profile") rows);
+      seed = seed;
+    })))))
 
 -- A seed that the profile does not take is refused first, as an option that does not exist is.
-abbrev pub disk_of : List Row → Result ConfigFields Stop
-disk_of rows =
+abbrev pub disk_options : List Row → Result DiskOptions Stop
+disk_options rows =
     let profile = profile_named (text_of (codes "profile") rows) in
     if is_some (text_of (codes "seed") rows) && not (takes_seed profile) then Err Usage
     else disk_by profile rows
 
+-- The new disk that options ask for.
+abbrev pub config_of : DiskOptions → Result ConfigFields Stop
+config_of options =
+    checked_disk (unwrap_or options.blocks default_blocks) (unwrap_or options.pool default_pool)
+    (unwrap_or options.profile (named_profile Base false))
+    (identity_of_seed (unwrap_or options.seed default_seed))
+
 -- ---- Every option
 
--- The disk, and the file that holds the script. None is standard input.
+-- What the options say of the disk, the file that keeps it, and the file that holds the script. None
+-- is a new disk in memory, and standard input.
 pub record ArgumentFields : Type 0 where
-  pub disk : ConfigFields
+  pub disk : DiskOptions
+  pub file : Option Text
   pub script : Option Text
 
-abbrev pub with_script : Option Text → Result ConfigFields Stop → Result ArgumentFields Stop
-with_script script (Err stop) = Err stop
-with_script script (Ok disk) = Ok (record { disk = disk; script = script })
+abbrev pub with_files : (file script : Option Text) → Result DiskOptions Stop
+    → Result ArgumentFields Stop
+with_files file script (Err stop) = Err stop
+with_files file script (Ok disk) = Ok (record { disk = disk; file = file; script = script })
 
 abbrev pub arguments_of : List Row → Result ArgumentFields Stop
-arguments_of rows = with_script (text_of (codes "script") rows) (disk_of rows)
+arguments_of rows =
+    with_files (text_of (codes "disk") rows) (text_of (codes "script") rows) (disk_options rows)
 
 abbrev pub arguments_by : Result (List Row) ToolFault → Result ArgumentFields Stop
 arguments_by (Err fault) = Err (stop_of_options fault)

@@ -14,6 +14,7 @@ options =
     ∷ text_option (codes "pool")  -- how many of them can be mapped or anchored at once
     ∷ text_option (codes "profile")  -- which commands it has
     ∷ text_option (codes "seed")  -- what its names are made of
+    ∷ text_option (codes "disk")  -- the file that keeps the disk
     ∷ text_option (codes "script")  -- the file that holds the script
     ∷ []
 

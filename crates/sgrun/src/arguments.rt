@@ -1,12 +1,14 @@
 // The words of the command line become a disk and a script, or the reason for a stop.
-use sg_target::Config;
+use crate::disk_options::DiskOptions;
 use std::marker::Model;
 
 /// The request of the command line.
 #[derive(Drop)]
 pub(crate) struct Arguments<'a> {
-    /// The disk that the script runs on.
-    pub(crate) disk: Config,
+    /// What the words say of the disk that the script runs on.
+    pub(crate) disk: DiskOptions,
+    /// The file that keeps the disk. None is a new disk in memory.
+    pub(crate) file: Option<&'a str>,
     /// The file that holds the script. None is standard input.
     pub(crate) script: Option<&'a str>,
 }
@@ -19,6 +21,7 @@ impl<'a> Model for Arguments<'a> {
 
     ghost view = { λ a. record {
       disk = a.disk;
+      file = option_map (λ file. file.now) a.file;
       script = option_map (λ file. file.now) a.script;
     } };
 }
@@ -27,24 +30,15 @@ ghost use Rattle.std.specs.Prelude.{◌≡◌, IfOk, map, option_map, false};
 ghost use Rattle.std.specs.String.{string_bytes};
 ghost use Rattle.clap.specs.Words.{app_of, rule_of};
 ghost use Rattle.sg_tools.specs.Options.{rule};
-ghost use Rattle.sgrun.specs.Arguments.{IsUnlessOutOfMemory, arguments, arguments_of, checked_disk};
-ghost use Rattle.sgrun.specs.Arguments.{disk_by, disk_of, number_of_option};
+ghost use Rattle.sgrun.specs.Arguments.{IsUnlessOutOfMemory, arguments, arguments_of, disk_by};
+ghost use Rattle.sgrun.specs.Arguments.{disk_options, number_of_option};
 ghost use Rattle.sgrun.specs.Options.{command_line, text_option};
 
 use crate::named_profile::{NamedProfile, profile_named, takes_seed};
 use crate::stop::Stop;
 use clap::{Arg, ArgAction, Command};
-use sg_pages::{Identity, IdentityFault};
 use sg_tools::{GivenOptions, number_or};
 use std::alloc::{AllocError, Global};
-
-// The disk's logical blocks, the number of them that can be mapped at once, and the seed of its names,
-// if no option gives them.
-const DEFAULT_BLOCKS: u64 = 4_096;
-
-const DEFAULT_POOL: u64 = 4;
-
-const DEFAULT_SEED: u64 = 1;
 
 impl<'a> Arguments<'a> {
     /// Reads the request that words make. The first word is the program's name.
@@ -55,8 +49,6 @@ impl<'a> Arguments<'a> {
     ///   without a profile that takes it.
     /// - `Number` if the text of `--blocks`, `--pool` or `--seed` is no number.
     /// - `Profile` if no profile has the name of `--profile`.
-    /// - `Seed` if the seed has more than 60 bits.
-    /// - `Blocks` or `Pool` if there is no disk of that size.
     ///
     /// If memory is refused, `OutOfMemory` is returned in place of any of these, and of a success.
     pub(crate) fn parse(alloc: Global, words: &'a [String]) -> Result<Arguments<'a>, Stop<'a>>
@@ -71,15 +63,16 @@ impl<'a> Arguments<'a> {
         ensures { result ≡ arguments_of options.now }
     {
         Ok(Arguments {
-            disk: disk(options)?,
+            disk: disk_options(options)?,
+            file: options.text("disk"),
             script: options.text("script"),
         })
     }
 }
 
-/// The disk that options ask for.
-fn disk<'a>(options: &GivenOptions) -> Result<Config, Stop<'a>>
-    ensures { result ≡ disk_of options.now }
+/// What options say of a disk.
+fn disk_options<'a>(options: &GivenOptions) -> Result<DiskOptions, Stop<'a>>
+    ensures { result ≡ disk_options options.now }
 {
     let profile = profile_named(options.text("profile"));
     if options.text("seed").is_some() && !takes_seed(profile) {
@@ -88,39 +81,34 @@ fn disk<'a>(options: &GivenOptions) -> Result<Config, Stop<'a>>
     disk_by(profile, options)
 }
 
-/// The disk of a profile that options ask for. None is no profile.
-fn disk_by<'a>(profile: Option<NamedProfile>, options: &GivenOptions) -> Result<Config, Stop<'a>>
+/// What options say of a disk of a profile. None is no profile.
+fn disk_by<'a>(
+    profile: Option<NamedProfile>,
+    options: &GivenOptions,
+) -> Result<DiskOptions, Stop<'a>>
     ensures { result ≡ disk_by profile options.now }
 {
-    let blocks = number_of_option(DEFAULT_BLOCKS, options.text("blocks")).ok_or(Stop::Number)?;
-    let pool = number_of_option(DEFAULT_POOL, options.text("pool")).ok_or(Stop::Number)?;
-    let seed = number_of_option(DEFAULT_SEED, options.text("seed")).ok_or(Stop::Number)?;
+    let blocks = number_of_option(options.text("blocks")).ok_or(Stop::Number)?;
+    let pool = number_of_option(options.text("pool")).ok_or(Stop::Number)?;
+    let seed = number_of_option(options.text("seed")).ok_or(Stop::Number)?;
     let named = profile.ok_or(Stop::Profile)?;
-    checked_disk(blocks, pool, named, Identity::from_seed(seed))
+    let is_given = options.text("profile").is_some();
+    Ok(DiskOptions {
+        blocks,
+        pool,
+        profile: if is_given { Some(named) } else { None },
+        seed,
+    })
 }
 
-/// The number of a text, or the default if there is no text.
-fn number_of_option(default: u64, text: Option<&str>) -> Option<u64>
-    ensures { result ≡ number_of_option default (option_map (λ t. t.now) text.entry) }
+/// The number of an option's text, which may be missing. None if the text is no number.
+fn number_of_option(text: Option<&str>) -> Option<Option<u64>>
+    ensures { result ≡ number_of_option (option_map (λ t. t.now) text.entry) }
 {
-    number_or(default, u64::MAX, text)
-}
-
-/// A disk of a size and a profile, with the names of an identity, if there can be one.
-fn checked_disk<'a>(
-    blocks: u64,
-    pool: u64,
-    named: NamedProfile,
-    names: Result<Identity, IdentityFault>,
-) -> Result<Config, Stop<'a>>
-    ensures { result ≡ checked_disk blocks pool named names }
-{
-    // A number that is no u32 is too large for any pool. So it is refused as 0 is.
-    let pool = u32::try_from(pool).unwrap_or(0);
-    let identity = names?
-        .with_profile(named.profile)
-        .with_short_data_out(named.takes_short_data_out);
-    Ok(Config::new(blocks, pool, identity)?)
+    match text {
+        Some(_) => Some(Some(number_or(0, u64::MAX, text)?)),
+        None => Some(None),
+    }
 }
 
 /// The command line of the program.
@@ -132,6 +120,7 @@ fn command_line<'a>(alloc: Global) -> Result<Command<'a>, AllocError>
         .arg(text_option(alloc, "pool"))?
         .arg(text_option(alloc, "profile"))?
         .arg(text_option(alloc, "seed"))?
+        .arg(text_option(alloc, "disk"))?
         .arg(text_option(alloc, "script"))
 }
 

@@ -1,19 +1,31 @@
-//! `sgrun`: reads a script from standard input or a file, executes its commands on a disk in memory
-//! and prints their replies. Its exit status is the first status of a line that is not 0.
+//! `sgrun`: reads a script from standard input or a file, executes its commands on a disk in memory,
+//! or on one that a file keeps, and prints their replies. Its exit status is the first status of a line
+//! that is not 0.
 #![tactic(auto)]
 
 mod arguments;
+mod disk_options;
+mod kept_disk;
 mod named_profile;
 mod new_disk;
 mod stop;
 #[cfg(test)]
 mod tests;
 
+ghost use Rattle.std.specs.Prelude.{◌≡◌, false};
+ghost use Rattle.sg_wire.specs.Watched.{has_failed};
+
 use arguments::Arguments;
+use disk_options::DiskOptions;
+use kept_disk::{open_disk, run_on_kept_disk};
 use new_disk::run_on_new_disk;
+use sg_extent_map::ExtentMap;
+use sg_file::{FileDevice, FileSource};
+use sg_kept::KeptDisk;
 use sg_wire::Watched;
 use std::env;
 use std::fs::File;
+use std::io::{Read, Write};
 use std::process::ExitCode;
 use std::rt::Runtime;
 use stop::{Stop, exit_status};
@@ -26,7 +38,10 @@ fn main(rt: HostRuntime) -> ExitCode {
     };
     if let Err(stop) = outcome {
         let (message, file) = stop.message();
-        let _ = eprintln!(rt; "sgrun: {message}{file}");
+        let _ = match stop.fault() {
+            Some(fault) => eprintln!(rt; "sgrun: {message}{file}: {fault}"),
+            None => eprintln!(rt; "sgrun: {message}{file}"),
+        };
     }
     ExitCode::from(exit_status(outcome))
 }
@@ -42,15 +57,49 @@ fn words<'a>(rt: &HostRuntime) -> Result<Vec<String>, Stop<'a>> {
 /// Runs the script that words ask for.
 fn run<'a>(rt: &HostRuntime, words: &'a [String]) -> Result<u8, Stop<'a>> {
     let arguments = Arguments::parse(rt.alloc(), words)?;
-    let disk = arguments.disk;
-    let mut writer = Watched::new(rt.stdout());
-    match arguments.script {
-        None => run_on_new_disk(rt.alloc(), disk, &mut Watched::new(rt.stdin()), &mut writer),
-        Some(file) => {
-            let mut reader = Watched::new(open(rt, file)?);
-            run_on_new_disk(rt.alloc(), disk, &mut reader, &mut writer)
-        }
+    if arguments.file.is_none() {
+        // A disk in memory is checked before the script is opened.
+        arguments.disk.config()?;
     }
+    match arguments.script {
+        None => run_from(rt, &arguments, &mut Watched::new(rt.stdin())),
+        Some(file) => run_from(rt, &arguments, &mut Watched::new(open(rt, file)?)),
+    }
+}
+
+/// Runs a script on the disk that words ask for.
+fn run_from<'a, R: Read>(
+    rt: &HostRuntime,
+    arguments: &Arguments<'a>,
+    reader: &mut Watched<R>,
+) -> Result<u8, Stop<'a>>
+    requires { has_failed reader.old ≡ false }
+{
+    let mut writer = Watched::new(rt.stdout());
+    match arguments.file {
+        None => run_on_new_disk(rt.alloc(), arguments.disk.config()?, reader, &mut writer),
+        Some(file) => run_on_file(rt, file, &arguments.disk, reader, &mut writer),
+    }
+}
+
+/// Runs a script on the disk that a file keeps.
+fn run_on_file<'a, R: Read, W: Write>(
+    rt: &HostRuntime,
+    file: &'a str,
+    options: &DiskOptions,
+    reader: &mut Watched<R>,
+    writer: &mut Watched<W>,
+) -> Result<u8, Stop<'a>>
+    requires reads { has_failed reader.old ≡ false }
+    requires writes { has_failed writer.old ≡ false }
+{
+    let source = match FileSource::open(rt, file) {
+        Ok(source) => source,
+        Err(error) => return Err(Stop::of_file(file, &error)),
+    };
+    // A disk of any profile is over an `ExtentMap`: the profile is in the file.
+    let mut disk: KeptDisk<ExtentMap, FileDevice> = open_disk(rt.alloc(), file, source, options)?;
+    run_on_kept_disk(rt.alloc(), file, &mut disk, reader, writer)
 }
 
 fn open<'a>(rt: &HostRuntime, file: &'a str) -> Result<File, Stop<'a>> {

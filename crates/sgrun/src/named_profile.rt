@@ -1,7 +1,9 @@
 // The names of `--profile`, and what each says of a disk.
 ghost use Rattle.std.specs.Prelude.{◌≡◌, option_map};
 ghost use Rattle.sgrun.specs.Arguments.{profile_named, takes_seed};
+ghost use Rattle.sgrun.specs.DiskInFile.{is_of};
 
+use sg_pages::Identity;
 use sg_wire::Profile;
 
 /// What a name of `--profile` says of a disk.
@@ -13,10 +15,21 @@ pub(crate) struct NamedProfile {
     pub(crate) takes_short_data_out: bool,
 }
 
-const BASE: NamedProfile = NamedProfile {
+pub(crate) const BASE: NamedProfile = NamedProfile {
     profile: Profile::Base,
     takes_short_data_out: false,
 };
+
+impl NamedProfile {
+    /// Whether it is what a disk has.
+    pub(crate) fn is_of(self, disk: &Identity) -> bool
+        ensures { result ≡ is_of self disk.now }
+    {
+        let is_extended = self.profile.has(Profile::Extended);
+        is_extended == disk.profile().has(Profile::Extended)
+            && self.takes_short_data_out == disk.takes_short_data_out()
+    }
+}
 
 const EXTENDED: NamedProfile = NamedProfile {
     profile: Profile::Extended,

@@ -3,12 +3,12 @@ ghost use Rattle.std.specs.Prelude.{◌≡◌, false};
 ghost use Rattle.sg_wire.specs.Watched.{has_failed};
 ghost use Rattle.sg_run.specs.ScriptRun.{snapshot};
 ghost use Rattle.sg_target.specs.Target.{disk_of};
-ghost use Rattle.sgrun.specs.NewDisk.{RunsOnNewDisk, RunsUnlessRefused, by_run};
+ghost use Rattle.sgrun.specs.NewDisk.{RunsOnNewDisk, RunsUnlessRefused};
 
-use crate::stop::Stop;
+use crate::stop::{Stop, outcome_of_run};
 use sg_block_map::BlockMap;
 use sg_extent_map::ExtentMap;
-use sg_run::{RunFault, Session, run_script};
+use sg_run::{Session, run_script};
 use sg_store::Store;
 use sg_target::{Config, Target};
 use sg_wire::{Profile, Watched};
@@ -75,12 +75,4 @@ fn run_in_new_session<'a, R: Read, W: Write, S: Store>(
 {
     let mut session = Session::new(alloc)?;
     outcome_of_run(run_script(alloc, reader, writer, &mut session, target))
-}
-
-/// The outcome of a run. This is a function of its own, so that the session is dropped in one
-/// place: the prover follows that once.
-fn outcome_of_run<'a>(ran: Result<u8, RunFault>) -> Result<u8, Stop<'a>>
-    ensures { result ≡ by_run ran }
-{
-    Ok(ran?)
 }

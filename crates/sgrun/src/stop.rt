@@ -1,7 +1,11 @@
 // The reasons why the program ends without a status of the script, and the message for each.
 ghost use Rattle.std.specs.Prelude.{◌≡◌, ◌++◌};
-ghost use Rattle.sgrun.specs.Stops.{exit_status, row_of, stop_of_open, stop_of_words};
+ghost use Rattle.sgrun.specs.Stops.{exit_status, fault_of, row_of, stop_of_disk, stop_of_making};
+ghost use Rattle.sgrun.specs.NewDisk.{by_run};
+ghost use Rattle.sgrun.specs.Stops.{stop_of_open, stop_of_words};
 
+use sg_file::FileError;
+use sg_kept::{MakeError, OpenDiskError};
 use sg_pages::IdentityFault;
 use sg_run::RunFault;
 use sg_target::ConfigFault;
@@ -24,8 +28,22 @@ pub(crate) enum Stop<'a> {
     Blocks,
     /// A disk can't have a pool of this size.
     Pool,
+    /// The disk in the file has another number of blocks than `--blocks` says.
+    OtherBlocks,
+    /// The disk in the file has another pool than `--pool` says.
+    OtherPool,
+    /// The disk in the file has another profile than `--profile` says.
+    OtherProfile,
+    /// The disk in the file has another identity than `--seed` says.
+    OtherSeed,
     /// The file with this name could not be opened.
     CannotOpen(&'a str),
+    /// Another program has the disk in the file with this name.
+    Busy(&'a str),
+    /// The file with this name has no disk, and why.
+    NoDisk(&'a str, OpenDiskError),
+    /// The file with this name could not be written. The disk may have lost what the script has changed.
+    CannotWrite(&'a str),
     /// The script could not be read to its end.
     Read,
     /// A reply could not be written.
@@ -55,6 +73,45 @@ impl<'a> Stop<'a> {
         }
     }
 
+    /// Why the file of a disk can't be opened.
+    pub(crate) fn of_file(file: &'a str, error: &FileError) -> Stop<'a> {
+        match error {
+            FileError::Busy => Stop::Busy(file),
+            FileError::Io(error) => Stop::of_open(file, error.kind()),
+        }
+    }
+
+    /// Why there is no disk in a file.
+    pub(crate) fn of_disk(file: &'a str, error: OpenDiskError) -> Stop<'a>
+        ensures { result ≡ stop_of_disk file.entry error }
+    {
+        match error {
+            OpenDiskError::Memory => Stop::OutOfMemory,
+            OpenDiskError::Device => Stop::CannotOpen(file),
+            error => Stop::NoDisk(file, error),
+        }
+    }
+
+    /// Why a file was not made a disk.
+    pub(crate) fn of_making(file: &'a str, error: MakeError) -> Stop<'a>
+        ensures { result ≡ stop_of_making file.entry error }
+    {
+        match error {
+            MakeError::Memory => Stop::OutOfMemory,
+            MakeError::Device => Stop::CannotWrite(file),
+        }
+    }
+
+    /// What is wrong with the file of a disk.
+    pub(crate) fn fault(self) -> Option<OpenDiskError>
+        ensures { result ≡ fault_of self.entry }
+    {
+        match self {
+            Stop::NoDisk(_, error) => Some(error),
+            _ => None,
+        }
+    }
+
     /// The message to standard error, after the program's name: two texts, one after the other.
     pub(crate) fn message(self) -> (&'a str, &'a str)
         ensures { result.0.now ++ result.1.now ≡ (row_of self.entry).message }
@@ -66,7 +123,14 @@ impl<'a> Stop<'a> {
             Stop::Seed => ("seed", ""),
             Stop::Blocks => ("blocks", ""),
             Stop::Pool => ("pool", ""),
+            Stop::OtherBlocks => ("blocks differ", ""),
+            Stop::OtherPool => ("pool differs", ""),
+            Stop::OtherProfile => ("profile differs", ""),
+            Stop::OtherSeed => ("seed differs", ""),
             Stop::CannotOpen(file) => ("cannot open ", file),
+            Stop::Busy(file) => ("in use: ", file),
+            Stop::NoDisk(file, _) => ("cannot open ", file),
+            Stop::CannotWrite(file) => ("cannot write ", file),
             Stop::Read => ("read fault", ""),
             Stop::Write => ("write fault", ""),
             Stop::OutOfMemory => ("out of memory", ""),
@@ -79,7 +143,9 @@ impl<'a> Stop<'a> {
         match self {
             Stop::Usage | Stop::Number => 1,
             Stop::Profile | Stop::Seed | Stop::Blocks | Stop::Pool => 1,
+            Stop::OtherBlocks | Stop::OtherPool | Stop::OtherProfile | Stop::OtherSeed => 1,
             Stop::CannotOpen(_) | Stop::Read | Stop::Write => 15,
+            Stop::Busy(_) | Stop::NoDisk(_, _) | Stop::CannotWrite(_) => 15,
             Stop::OutOfMemory => 99,
         }
     }
@@ -152,4 +218,12 @@ pub(crate) fn exit_status(outcome: Result<u8, Stop>) -> u8
         Ok(status) => status,
         Err(stop) => stop.status(),
     }
+}
+
+/// The outcome of a run. This is a function of its own, so that the session is dropped in one
+/// place: the prover follows that once.
+pub(crate) fn outcome_of_run<'a>(ran: Result<u8, RunFault>) -> Result<u8, Stop<'a>>
+    ensures { result ≡ by_run ran }
+{
+    Ok(ran?)
 }

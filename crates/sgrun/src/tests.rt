@@ -1,5 +1,7 @@
 // The request of the command line, in the forms that clap takes, and its refusals.
 use crate::arguments::Arguments;
+use crate::stop::Stop;
+use sg_target::Config;
 use sg_wire::Profile;
 use std::alloc::{AllocError, Global};
 use std::test::Fail;
@@ -142,6 +144,11 @@ fn words(alloc: Global, line: &str) -> Result<Vec<String>, AllocError> {
     Ok(words)
 }
 
+/// The new disk that the words of a command line ask for.
+fn disk_of<'a>(alloc: Global, words: &'a [String]) -> Result<Config, Stop<'a>> {
+    Arguments::parse(alloc, words)?.disk.config()
+}
+
 #[test]
 fn words_ask_for_a_disk_and_a_script(rt: HostRuntime) -> Result<(), Fail> {
     for (line, blocks, pool, profile, script) in ASKED {
@@ -149,9 +156,12 @@ fn words_ask_for_a_disk_and_a_script(rt: HostRuntime) -> Result<(), Fail> {
         let Ok(arguments) = Arguments::parse(rt.alloc(), words.as_slice()) else {
             return Err(Fail::from(line));
         };
-        assert_eq!(rt; arguments.disk.blocks(), blocks);
-        assert_eq!(rt; arguments.disk.pool(), pool);
-        assert_eq!(rt; arguments.disk.identity().profile(), profile);
+        let Ok(disk) = arguments.disk.config() else {
+            return Err(Fail::from(line));
+        };
+        assert_eq!(rt; disk.blocks(), blocks);
+        assert_eq!(rt; disk.pool(), pool);
+        assert_eq!(rt; disk.identity().profile(), profile);
         assert_eq!(rt; arguments.script, script);
     }
     Ok(())
@@ -161,10 +171,10 @@ fn words_ask_for_a_disk_and_a_script(rt: HostRuntime) -> Result<(), Fail> {
 fn a_seed_names_the_disk(rt: HostRuntime) -> Result<(), Fail> {
     for (line, serial, local) in NAMED {
         let words = words(rt.alloc(), line)?;
-        let Ok(arguments) = Arguments::parse(rt.alloc(), words.as_slice()) else {
+        let Ok(disk) = disk_of(rt.alloc(), words.as_slice()) else {
             return Err(Fail::from(line));
         };
-        let identity = arguments.disk.identity();
+        let identity = disk.identity();
         assert!(rt; identity.serial() == serial && identity.local() == local);
     }
     Ok(())
@@ -174,10 +184,10 @@ fn a_seed_names_the_disk(rt: HostRuntime) -> Result<(), Fail> {
 fn a_profile_says_whether_too_little_data_out_is_taken(rt: HostRuntime) -> Result<(), Fail> {
     for (line, takes) in TAKING {
         let words = words(rt.alloc(), line)?;
-        let Ok(arguments) = Arguments::parse(rt.alloc(), words.as_slice()) else {
+        let Ok(disk) = disk_of(rt.alloc(), words.as_slice()) else {
             return Err(Fail::from(line));
         };
-        assert_eq!(rt; arguments.disk.identity().takes_short_data_out(), takes);
+        assert_eq!(rt; disk.identity().takes_short_data_out(), takes);
     }
     Ok(())
 }
@@ -186,7 +196,7 @@ fn a_profile_says_whether_too_little_data_out_is_taken(rt: HostRuntime) -> Resul
 fn words_are_refused(rt: HostRuntime) -> Result<(), Fail> {
     for (line, message) in REFUSED {
         let words = words(rt.alloc(), line)?;
-        let Err(stop) = Arguments::parse(rt.alloc(), words.as_slice()) else {
+        let Err(stop) = disk_of(rt.alloc(), words.as_slice()) else {
             return Err(Fail::from(line));
         };
         assert_eq!(rt; stop.message(), (message, ""));

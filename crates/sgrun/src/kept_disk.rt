@@ -1,0 +1,174 @@
+// Opens the disk that a file keeps, or makes it, and runs the script on it.
+ghost use Rattle.std.specs.Prelude.{◌≡◌, ◌≤◌, ◌<◌, [], false, IfErr, IfOk, OnOk, Ok, Some};
+ghost use Rattle.sg_journal.specs.JournalState.{HasBatches};
+ghost use Rattle.sg_kept.specs.Disk.{IsAlive, IsDead, IsUsable, longest_file};
+ghost use Rattle.sg_kept.specs.Kept.{powered};
+ghost use Rattle.sg_kept.specs.Opened.{opened};
+ghost use Rattle.sg_kept.specs.Opening.{HasStarted};
+ghost use Rattle.sg_run.specs.ScriptRun.{snapshot};
+ghost use Rattle.sg_target.specs.Target.{disk_of};
+ghost use Rattle.sg_wire.specs.Watched.{has_failed};
+ghost use Rattle.sgrun.specs.Arguments.{config_of};
+ghost use Rattle.sgrun.specs.declared.stop.Stop.TheVariants.{CannotWrite};
+ghost use Rattle.sgrun.specs.DiskInFile.{IsMade, RunsOnKeptDisk, checked_against};
+
+use crate::disk_options::DiskOptions;
+use crate::stop::{Stop, outcome_of_run};
+use sg_changes::NewDisk;
+use sg_journal::{Batch, Device, DeviceError, Journal, OpenError, Reader, Source};
+use sg_kept::{KeptDisk, OpenDiskError};
+use sg_run::{Session, run_script};
+use sg_store::Store;
+use sg_wire::Watched;
+use std::alloc::Global;
+use std::io::{Read, Write};
+
+/// The longest file of a disk, in bytes.
+const LONGEST_FILE: u64 = 1 << 60;
+
+/// Opens the disk that a file keeps. If the file is empty, the new disk is made that the options ask
+/// for. If the file has a disk, the options that are given have to be the disk's.
+///
+/// # Errors
+/// The file has no disk, or the disk has not what an option says: then nothing was written. Or there is
+/// no such new disk, or memory was refused, or the file failed.
+pub(crate) fn open_disk<'a, S: Store, F: Source + Drop>(
+    alloc: Global,
+    file: &'a str,
+    source: F,
+    options: &DiskOptions,
+) -> Result<KeptDisk<S, F::Device>, Stop<'a>>
+where
+    F::Device: Drop,
+    requires fresh { F.taken source ≡ [] }
+    ensures started { IfOk result (HasStarted F.Device.seen F.Device.may_leave) }
+
+    // An empty file becomes the new disk.
+    ensures made { F.left source ≡ 0
+        → IfOk result (λ disk. IsMade options.now (disk_of disk.target)) }
+
+    // Else it is the disk that the file had, and it has what the options say.
+    ensures opened { 0 < F.left source → IfOk result (λ disk.
+        opened (F.Device.opening disk.journal.device) ≡ Some (disk_of disk.target)) }
+    ensures agrees { 0 < F.left source → IfOk result (λ disk.
+        checked_against options.now (disk_of disk.target).state ≡ Ok tt) }
+{
+    if source.left() == 0 {
+        return make_disk(alloc, file, source, options);
+    }
+    match KeptDisk::open::<F>(alloc, source) {
+        Ok(disk) => {
+            options.check(disk.target.config())?;
+            Ok(disk)
+        }
+        Err((error, _)) => Err(Stop::of_disk(file, error)),
+    }
+}
+
+/// Makes the new disk that options ask for in an empty file.
+fn make_disk<'a, S: Store, F: Source + Drop>(
+    alloc: Global,
+    file: &'a str,
+    source: F,
+    options: &DiskOptions,
+) -> Result<KeptDisk<S, F::Device>, Stop<'a>>
+where
+    F::Device: Drop,
+    requires fresh { F.taken source ≡ [] }
+    requires is_empty { F.left source ≡ 0 }
+    ensures started { IfOk result (HasStarted F.Device.seen F.Device.may_leave) }
+    ensures made { IfOk result (λ disk. IsMade options.now (disk_of disk.target)) }
+{
+    let config = options.config()?;
+    let Some(new) = NewDisk::new(config.blocks(), config.pool(), *config.identity()) else {
+        return Err(Stop::Pool);
+    };
+    let journal = empty_journal(alloc, file, source)?;
+    match KeptDisk::make(alloc, journal, &new) {
+        Ok(disk) => Ok(disk),
+        Err((error, _)) => Err(Stop::of_making(file, error)),
+    }
+}
+
+/// The journal of a file without batches.
+fn empty_journal<'a, F: Source + Drop>(
+    alloc: Global,
+    file: &'a str,
+    source: F,
+) -> Result<Journal<F::Device>, Stop<'a>>
+    requires fresh { F.taken source ≡ [] }
+    ensures batches { IfOk result (λ journal.
+        HasBatches F.Device.seen F.Device.may_leave journal []) }
+    ensures end { IfOk result (λ journal. journal.end ≤ longest_file) }
+{
+    let mut reader = match Reader::open(source) {
+        Ok(reader) => reader,
+        Err((error, _)) => return Err(stop_of_file(file, error)),
+    };
+    let mut batch = Batch::new(alloc, reader.sector)?;
+    let has_batch = match reader.next(&mut batch) {
+        Ok(more) => more,
+        Err(error) => return Err(stop_of_file(file, error)),
+    };
+    if has_batch || reader.end > LONGEST_FILE {
+        return Err(Stop::NoDisk(file, OpenDiskError::TooLong));
+    }
+    match reader.into_journal() {
+        Ok(journal) => Ok(journal),
+        Err((DeviceError, _)) => Err(Stop::CannotOpen(file)),
+    }
+}
+
+fn stop_of_file(file: &str, error: OpenError) -> Stop<'_> {
+    match error {
+        OpenError::Device => Stop::CannotOpen(file),
+        OpenError::File(fault) => Stop::NoDisk(file, OpenDiskError::File(fault)),
+    }
+}
+
+/// Runs a script on a disk that a file keeps, and writes what waits to the file. Returns the script's
+/// status.
+///
+/// # Errors
+/// Memory was refused, before anything was read; or the file failed; or the reader or the writer did.
+pub(crate) fn run_on_kept_disk<'a, R: Read, W: Write, S: Store, D: Device>(
+    alloc: Global,
+    file: &'a str,
+    disk: &mut KeptDisk<S, D>,
+    reader: &mut Watched<R>,
+    writer: &mut Watched<W>,
+) -> Result<u8, Stop<'a>>
+    requires usable { IsAlive disk.old → IsUsable D.seen D.may_leave disk.old }
+    requires reads { has_failed reader.old ≡ false }
+    requires writes { has_failed writer.old ≡ false }
+    ensures { RunsOnKeptDisk D.seen file.entry disk.old disk.new
+        (snapshot R.remaining W.contents reader.old writer.old)
+        (snapshot R.remaining W.contents reader.new writer.new)
+        result }
+{
+    let mut session = Session::new(alloc)?;
+    let ran = run_script(alloc, reader, writer, &mut session, disk);
+    save(file, disk)?;
+    outcome_of_run(ran)
+}
+
+/// Writes what waits to the file.
+///
+/// # Errors
+/// `CannotWrite` if the file failed, now or earlier.
+fn save<'a, S: Store, D: Device>(file: &'a str, disk: &mut KeptDisk<S, D>) -> Result<(), Stop<'a>>
+    requires usable { IsAlive disk.old → IsUsable D.seen D.may_leave disk.old }
+    ensures alive { OnOk result (IsAlive disk.old) }
+    ensures saved { OnOk result (opened (D.seen disk.new.journal.device)
+        ≡ Some (powered (disk_of disk.new.target))) }
+    ensures disk { disk_of disk.new.target ≡ disk_of disk.old.target }
+    ensures failed { IfErr result (λ stop. IsDead disk.new × (stop ≡ CannotWrite file.entry)) }
+{
+    if disk.is_dead {
+        return Err(Stop::CannotWrite(file));
+    }
+    match disk.flush() {
+        Ok(()) => Ok(()),
+        Err(DeviceError) => Err(Stop::CannotWrite(file)),
+    }
+}
