@@ -399,6 +399,10 @@ impl<S: Store, D: Device> KeptDisk<S, D> {
             (disk_of self.old.target) (D.seen self.new.journal.device)) }
         ensures short { OnOk result (self.new.journal.end
             ≤ longest_uncompacted (len self.old.target.state.disk.contents)) }
+        // A short file is left as it is.
+        ensures spared { self.old.journal.end
+            ≤ longest_uncompacted (len self.old.target.state.disk.contents)
+            → self.new ≡ self.old }
         ensures disk { disk_of self.new.target ≡ disk_of self.old.target }
         ensures any_moment { LeavesOnly D.moment D.left_since self.old.journal.device
             self.new.journal.device
