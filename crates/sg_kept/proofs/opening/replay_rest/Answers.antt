@@ -1,4 +1,5 @@
-use Rattle.std.proofs.Common.{◌≡◌, [], ◌∷◌, ◌++◌, List, ℕ, Some, Err, length-append, sym, ap, subst, ◌∙◌, arith}
+use Rattle.std.proofs.Common.{◌≡◌, [], ◌∷◌, ◌++◌, List, ℕ, Some, Err, length-append, sym, ap, subst}
+use Rattle.std.proofs.Common.{◌∙◌, arith}
 use Rattle.sg_changes.specs.Replay.{IsDamagedAt, replayed}
 use Rattle.sg_kept.proofs.OpenedLemmas.{filed-push}
 use Rattle.sg_kept.proofs.RefusedLemmas.{begins, rest-says}
