@@ -387,10 +387,11 @@ impl<S: Store, D: Device> KeptDisk<S, D> {
         }
     }
 
-    /// Writes the file afresh if it is long: longer than two snapshots of the disk and 16 MiB.
+    /// Writes the file afresh if it is long: longer than two of the longest snapshots of such a disk, and
+    /// 16 MiB.
     ///
-    /// This is called after each write to the file. Its own writes come to about the bytes of all others
-    /// at most.
+    /// Each time the file gets shorter by more bytes than are written. So in all it writes at most about
+    /// the bytes of the flushes.
     fn keep_short(&mut self) -> Result<(), DeviceError>
         requires usable { IsUsable D.seen D.may_leave self.old }
         ensures usable { OnOk result (IsUsable D.seen D.may_leave self.new) }

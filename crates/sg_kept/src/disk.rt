@@ -187,7 +187,7 @@ impl<S: Store, D: Device> KeptDisk<S, D> {
         ensures flushed { OnOk result (opened (D.seen self.new.journal.device)
             ≡ Some (powered (disk_of self.old.target))) }
         ensures disk { disk_of self.new.target ≡ disk_of self.old.target }
-        // The file is at most twice as long as a snapshot of the disk, and 16 MiB.
+        // The file is at most twice as long as the longest snapshot of such a disk, and 16 MiB.
         ensures short { IsAlive self.new → self.new.journal.end
             ≤ longest_uncompacted (len self.new.target.state.disk.contents) }
 
@@ -240,7 +240,7 @@ impl<S: Store, D: Device> KeptDisk<S, D> {
         ensures owed { IsAlive self.new → owes_flush (disk_of self.new.target) cdb.now
             (executed_operation (disk_of self.old.target) initiator cdb.now data_out.now) ≡ true
             → opened (D.seen self.new.journal.device) ≡ Some (powered (disk_of self.new.target)) }
-        // The file is at most twice as long as a snapshot of the disk, and 16 MiB.
+        // The file is at most twice as long as the longest snapshot of such a disk, and 16 MiB.
         ensures short { IsAlive self.new → self.new.journal.end
             ≤ longest_uncompacted (len self.new.target.state.disk.contents) }
 

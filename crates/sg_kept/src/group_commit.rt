@@ -37,7 +37,7 @@ impl<S: Store, D: Device> KeptDisk<S, D> {
         ensures executed { IsAlive self.new → IsExecuted initiator cdb.now data_out.now
             (disk_of self.old.target) (disk_of self.new.target) result buf.old buf.new }
         ensures usable { IsAlive self.new → IsUsable D.seen D.may_leave self.new }
-        // The file is at most twice as long as a snapshot of the disk, and 16 MiB.
+        // The file is at most twice as long as the longest snapshot of such a disk, and 16 MiB.
         ensures short { IsAlive self.new → self.new.journal.end
             ≤ longest_uncompacted (len self.new.target.state.disk.contents) }
 

@@ -61,7 +61,7 @@ impl<S: Store, D: Device> KeptDisk<S, D> {
         // Opening the file finds the disk with this happening.
         ensures written { OnOk result (opened (D.seen self.new.journal.device)
             ≡ Some (powered (disk_of self.new.target))) }
-        // The file is at most twice as long as a snapshot of the disk, and 16 MiB.
+        // The file is at most twice as long as the longest snapshot of such a disk, and 16 MiB.
         ensures short { IsAlive self.new → self.new.journal.end
             ≤ longest_uncompacted (len self.new.target.state.disk.contents) }
 
