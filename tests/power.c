@@ -1,10 +1,12 @@
 /* A power failure, as a library that is preloaded. It counts the calls that write, cut, sync or rename
    files. At the call with the number FAIL_AT the power fails, before the call or after it: what was
    written since a file's last sync is kept, lost or torn, sector by sector, and the process is killed.
-   A rename since the last sync of the folder may be undone. SEED decides what is lost. If the power
-   does not fail, the number of calls is written to descriptor 9. */
+   A rename since the last sync of the folder may be undone. SEED decides what is lost. With ERROR_AT
+   that call and each later one fails instead, and does nothing. If the process is not killed, the
+   number of calls is written to descriptor 9. */
 #define _GNU_SOURCE
 #include <dlfcn.h>
+#include <errno.h>
 #include <fcntl.h>
 #include <signal.h>
 #include <stdio.h>
@@ -87,15 +89,22 @@ static void fail(void) {
   raise(SIGKILL);
 }
 
-static int is_now(void) {
-  const char *at = getenv("FAIL_AT"), *seed = getenv("SEED");
-  if (++calls == 1 && seed != NULL) state = strtoul(seed, NULL, 10) * 2654435761UL + 1;
-  return at != NULL && calls == atol(at);
+static long number_in(const char *name) {
+  const char *text = getenv(name);
+  return text == NULL ? 0 : atol(text);
 }
+
+static int is_now(void) {
+  if (++calls == 1) state = number_in("SEED") * 2654435761UL + 1;
+  return calls == number_in("FAIL_AT");
+}
+
+static int is_refused(void) { return number_in("ERROR_AT") > 0 && calls >= number_in("ERROR_AT"); }
 
 /* A call of the file at a descriptor. The power fails before it or after it. */
 #define AROUND(result_of) do { \
     int fails = is_now(), before = fails && number_below(2); \
+    if (is_refused()) { errno = EIO; return -1; } \
     if (before) fail(); \
     __typeof__(result_of) result = (result_of); \
     if (fails) fail(); \
