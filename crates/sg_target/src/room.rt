@@ -1,5 +1,6 @@
 // The length that the buffer for data-in needs, and commands with a buffer of any length.
 ghost use Rattle.std.specs.Prelude.{◌≡◌, ◌≤◌, false, length, IfNone, IfOk, IfSome, is_some, nat_le};
+ghost use Rattle.sg_wire.specs.CdbDecoding.{command_in};
 ghost use Rattle.sg_target.specs.DataInBound.{longest_data_in};
 ghost use Rattle.sg_faults.specs.Faults.{is_armed};
 ghost use Rattle.sg_target.specs.Charge.{ChargesCommand, cost_bounds};
@@ -9,7 +10,7 @@ ghost use Rattle.sg_target.specs.Execution.{IsExecuted};
 ghost use Rattle.sg_target.specs.Extents.{AreOnDisk};
 ghost use Rattle.sg_target.specs.Semantics.{medium_use};
 ghost use Rattle.sg_target.specs.Demands.{data_out_length};
-ghost use Rattle.sg_target.specs.State.{IsWithinLimits, config_of};
+ghost use Rattle.sg_target.specs.State.{IsWithinLimits, config_of, profile_of};
 ghost use Rattle.sg_target.specs.Target.{disk_of};
 
 use crate::armed::arms_fault;
@@ -26,7 +27,7 @@ use crate::target::Target;
 use sg_pages::{CAPACITY_10_LENGTH, CAPACITY_16_LENGTH, LONGEST_MODE_LIST, LONGEST_REPORT};
 use sg_store::{Counts, Store};
 use sg_units::LONGEST_RESERVE_IN_DATA;
-use sg_wire::{Command, Initiator};
+use sg_wire::{CdbFault, Command, Initiator};
 
 impl<'a> Operation<'a> {
     /// The most bytes of data-in that it returns.
@@ -113,9 +114,43 @@ impl<S: Store> Target<S> {
         ensures kept { IfNone result (self.new ≡ self.old) }
         ensures untouched { IfNone result (buf.new ≡ buf.old) }
     {
-        let command = Command::read_in(self.profile(), cdb);
-        let asked = asked_bytes(&command);
-        let checked = self.check_command(initiator, cdb, &command, data_out);
+        // The compiler drops what a command does not need if it knows the command.
+        if Command::is_test_unit_ready(cdb) {
+            let command = &Ok(Command::TestUnitReady);
+            return self.execute_command_within(initiator, cdb, command, data_out, buf);
+        }
+        if let Some(extent) = Command::read_10(cdb) {
+            let command = &Ok(Command::Read10(extent));
+            return self.execute_command_within(initiator, cdb, command, data_out, buf);
+        }
+        let command = &Command::read_in(self.profile(), cdb);
+        self.execute_command_within(initiator, cdb, command, data_out, buf)
+    }
+
+    /// Executes a CDB, in which the disk reads `command`, if the buffer is long enough.
+    #[inline(always)]
+    fn execute_command_within(
+        &mut self,
+        initiator: Initiator,
+        cdb: &[u8],
+        command: &Result<Command, CdbFault>,
+        data_out: &[u8],
+        buf: &mut [u8],
+    ) -> Option<Reply>
+        requires { command.now ≡ command_in (profile_of self.old.state) cdb.now }
+        ensures room { is_some result
+            ≡ nat_le (needed_buffer self.old.state initiator cdb.now data_out.now) (length buf.old) }
+        ensures at_most { needed_buffer self.old.state initiator cdb.now data_out.now
+            ≤ longest_data_in }
+        ensures executed { IfSome result (λ reply. IsExecuted initiator cdb.now data_out.now
+            (disk_of self.old) (disk_of self.new) reply buf.old buf.new) }
+        ensures charged { IfSome result (λ reply. ChargesCommand (cost_bounds S.price S.least)
+            initiator cdb.now data_out.now self.old self.new reply) }
+        ensures kept { IfNone result (self.new ≡ self.old) }
+        ensures untouched { IfNone result (buf.new ≡ buf.old) }
+    {
+        let asked = asked_bytes(command);
+        let checked = self.check_command(initiator, cdb, command, data_out);
         if buf.len() < data_in_bound(&checked) {
             return None;
         }
