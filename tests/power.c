@@ -3,7 +3,7 @@
    written since a file's last sync is kept, lost or torn, sector by sector, and the process is killed.
    A rename since the last sync of the folder may be undone. SEED decides what is lost. With ERROR_AT
    that call and each later one fails instead, and does nothing. If the process is not killed, the
-   number of calls is written to descriptor 9. */
+   number of calls is written to the file with the name COUNT_TO. */
 #define _GNU_SOURCE
 #include <dlfcn.h>
 #include <errno.h>
@@ -22,6 +22,7 @@ static struct { int is_known, is_dirty; struct bytes durable; } files[FILES];
 /* The file that a rename has replaced, until the folder is synced. */
 static struct { char path[4096]; struct bytes before; int is_pending; } renamed;
 static long calls;
+static int is_over;
 static unsigned long state;
 
 #define NEXT(name) \
@@ -139,7 +140,7 @@ ssize_t pwrite(int fd, const void *bytes, size_t count, off_t at) {
 }
 ssize_t write(int fd, const void *bytes, size_t count) {
   NEXT(write);
-  if (fd < 3 || fd == 9) return next_write(fd, bytes, count);
+  if (fd < 3 || is_over) return next_write(fd, bytes, count);
   will_write(fd);
   AROUND(next_write(fd, bytes, count));
 }
@@ -171,4 +172,9 @@ int close(int fd) {
   if (fd >= 3 && fd < FILES) files[fd].is_known = files[fd].is_dirty = 0;
   return next_close(fd);
 }
-__attribute__((destructor)) static void write_count(void) { dprintf(9, "%ld", calls); }
+__attribute__((destructor)) static void write_count(void) {
+  const char *name = getenv("COUNT_TO");
+  is_over = 1;
+  int fd = name == NULL ? -1 : open(name, O_WRONLY | O_CREAT | O_TRUNC, 0666);
+  if (fd >= 0) dprintf(fd, "%ld", calls);
+}
