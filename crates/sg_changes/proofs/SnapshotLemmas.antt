@@ -7,7 +7,7 @@ use Rattle.std.proofs.lemmas.Bool.{cases_lt, le-leb}
 use Rattle.std.proofs.lemmas.Bool.Decides.{nat_tests}
 use Rattle.std.proofs.lemmas.List.{length-append}
 use Rattle.std.proofs.lemmas.List.FromFn.{get_or-range_with_len, length-range_with_len}
-use Rattle.std.proofs.lemmas.List.Sums.{prefix_len_passes, prefix_len_stops}
+use Rattle.std.proofs.lemmas.List.Sums.{prefix_len_stops}
 use Rattle.std.specs.Cmp.{nat_cmp_total}
 use Rattle.std.specs.FinMap as map
 use Rattle.std.specs.FinMap.{get-empty, len, nat_cmp-IsAntisymmetric, same_map}
@@ -19,9 +19,10 @@ use Rattle.sg_store.specs.Disk.{blocks, data_in, disk_anchored, disk_written, em
 use Rattle.sg_store.specs.Disk.{remapped, unmapped, zero_block}
 use Rattle.sg_store.specs.Disk.Mapping.{Anchored, Data}
 use Rattle.sg_store.specs.LbaStatus.{count_alike, descriptor_at, max_addresses, status_at, status_in}
-use Rattle.sg_store.proofs.DescriptorLemmas.{alike-within, same_status}
+use Rattle.sg_store.proofs.DescriptorLemmas.{alike-within}
 use Rattle.sg_store.proofs.DiskLemmas.{above, below, inside, lies_in-none}
 use Rattle.sg_store.proofs.NeedLemmas.{len-needed}
+use Rattle.sg_store.proofs.ReportLemmas.{alike-status}
 use Rattle.sg_store.proofs.UnmapLemmas.{get-unmapped}
 use Rattle.sg_store.proofs.WriteLemmas.{get-remapped}
 use Rattle.sg_wire.specs.LbaStatus.{code_of}
@@ -36,17 +37,6 @@ use Rattle.sg_changes.specs.Snapshot.{HasStatus, disk_below, kept_below, pool_bl
 use Rattle.sg_changes.proofs.SoundLemmas.{all-needed, len-unmapped}
 
 -- ---- The descriptor at an address
-
-alike-status : (m : Contents) (capacity a i : ℕ) → i < count_alike m capacity a
-    → status_at m (a + i) ≡ status_at m a
-unfolding count_alike
-alike-status m capacity a i lt =
-    let n = min max_addresses (capacity - a) in
-    let within = alike-within m capacity a in
-    let passes = prefix_len_passes (λ x. code_of (status_at m x) == code_of (status_at m a))
-    (range_with_len a n) i 0 lt in
-    let at : get_or (range_with_len a n) i 0 ≡ a + i = get_or-range_with_len a n i 0 (omega arith) in
-    same_status (status_at m (a + i)) (status_at m a) (rw at at passes)
 
 alike-some : (m : Contents) (capacity a : ℕ) → a < capacity → 0 < count_alike m capacity a
 unfolding count_alike

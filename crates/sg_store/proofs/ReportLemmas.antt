@@ -20,7 +20,7 @@ use Rattle.sg_store.proofs.DescriptorLemmas.{alike-within, covered-first, descri
 use Rattle.sg_store.proofs.DescriptorLemmas.{descriptors-first, descriptors-none, same_status}
 
 -- the addresses that a descriptor covers
-alike-status : (m : Contents) (capacity a i : ℕ) → i < count_alike m capacity a
+pub alike-status : (m : Contents) (capacity a i : ℕ) → i < count_alike m capacity a
     → status_at m (a + i) ≡ status_at m a
 unfolding count_alike
 alike-status m capacity a i lt =

@@ -86,6 +86,15 @@ pub(crate) fn data_in_bound(checked: &Result<Operation<'_>, Refusal>) -> usize
 }
 
 impl<S: Store> Target<S> {
+    /// The length that the buffer for the data-in of a command needs, in bytes, if the command came now.
+    pub fn needed_buffer(&self, initiator: Initiator, cdb: &[u8], data_out: &[u8]) -> usize
+        ensures value { result ≡ needed_buffer self.now.state initiator cdb.now data_out.now }
+        ensures at_most { result ≤ longest_data_in }
+    {
+        let command = Command::read_in(self.profile(), cdb);
+        data_in_bound(&self.check_command(initiator, cdb, &command, data_out))
+    }
+
     /// Executes a command as [`Target::execute`] does, with a buffer of any length. None if the
     /// buffer is shorter than the data-in that the command asks for. Nothing has changed then.
     ///
