@@ -9,9 +9,9 @@ ghost use Rattle.sg_journal.specs.JournalState.{Drafts, HasBatches};
 ghost use Rattle.sg_journal.specs.declared.journal.Tail.TheVariants.{Unmade, Torn, Closed};
 
 use crate::batch::seal;
-use crate::layout::{write_first_sector, write_gate};
+use crate::layout::{NEW_SECTOR, write_first_sector, write_gate};
 use crate::writes::{add_batch, begin_draft_with, close_and_exchange, cut_and_close, draft_batch};
-use crate::{Batch, Device, DeviceError};
+use crate::{Batch, Device, DeviceError, Source};
 
 /// What follows the batches of a file.
 #[derive(Clone, Copy)]
@@ -42,6 +42,26 @@ pub struct Journal<D: Device> {
 }
 
 impl<D: Device> Journal<D> {
+    /// The journal of a file of no bytes. It takes no memory and writes nothing: the first
+    /// [`flush`](Journal::flush) makes the file, with sectors of 4,096 bytes.
+    pub fn unmade<F: Source<Device = D>>(source: F) -> Journal<D>
+        requires fresh { F.taken source ≡ [] }
+        requires nothing { F.left source ≡ 0 }
+        ensures batches { HasBatches D.seen D.may_leave result [] }
+        ensures opening { D.opening result.device ≡ [] }
+        ensures moment { D.moment result.device ≡ 0 }
+        ensures sector { result.sector ≡ NEW_SECTOR }
+        ensures end { result.end ≡ 0 }
+    {
+        Journal {
+            device: source.into_device(),
+            sector: NEW_SECTOR,
+            end: 0,
+            drafted: 0,
+            tail: Tail::Unmade,
+        }
+    }
+
     /// Adds a batch. At `Ok` it is acknowledged: from then on each crash leaves a file that has it.
     ///
     /// A file that was not made yet is made, and a torn end is repaired first.
