@@ -1,8 +1,6 @@
--- Blocks of contents, joined and apart, and what remapping takes of the pool.
-use Rattle.std.proofs.Common.{◌≡◌, ◌≤◌, ◌<◌, ℕ, ◌+◌, ◌-◌, ◌*◌, zero, suc, List, [], ◌∷◌, ◌++◌}
-use Rattle.std.proofs.Common.{length, take, drop, Some, cond, refl, sym, ap, ap₂, ◌∙◌, arith}
-use Rattle.std.proofs.Math.Seq.{drop-append-add, take-append_seam}
-use Rattle.std.proofs.lemmas.List.{length-append}
+-- Blocks that are remapped and written anew, and what that takes of the pool.
+use Rattle.std.proofs.Common.{◌≡◌, ◌≤◌, ◌<◌, ℕ, ◌+◌, ◌-◌, ◌*◌, zero, suc, List, [], ◌∷◌}
+use Rattle.std.proofs.Common.{take, Some, cond, sym, ap, ap₂, ◌∙◌, arith}
 use Rattle.std.specs.FinMap.{get, insert, len}
 use Rattle.sg_store.specs.Disk.{Contents, IsWellFormed, Mapping, anchored, block, block_at, blocks}
 use Rattle.sg_store.specs.Disk.{data_in, remapped, replaced, written}
@@ -12,8 +10,8 @@ use Rattle.sg_store.proofs.NeedLemmas.{len-needed}
 use Rattle.sg_store.proofs.WriteLemmas.{get-remapped}
 use Rattle.sg_target.specs.ProvisioningCommands.{changed_in_turn}
 use Rattle.sg_target.proofs.CommandLemmas.{first-block}
-use Rattle.sg_target.proofs.OrWriteLemmas.{length-block}
 use Rattle.sg_wire.specs.declared.extent.Extent.{Extent}
+use Rattle.sg_changes.proofs.SnapshotLemmas.{block_at-blocks}
 
 -- ---- Remapping
 
@@ -45,33 +43,7 @@ anchored-le m (extent ∷ rest) =
     let more = anchored-le (anchored m extent.lba extent.count) rest in
     omega (arith, one, more)
 
--- ---- Joined blocks
-
-module _ (capacity : ℕ) (m : Contents) (well : IsWellFormed capacity m) where
-  pub length-blocks : (a k : ℕ) → length (blocks m a k) ≡ 512 * k
-  unfolding blocks
-  length-blocks a zero = refl
-  length-blocks a (suc k) =
-      let rest = length-blocks (a + 1) k in
-      let first = length-block capacity m a well in
-      length-append (block m a) (blocks m (a + 1) k) ∙ omega (arith, rest, first)
-
-  -- the block at an index is that of its address
-  block_at-blocks : (a k i : ℕ) → i < k → block_at (blocks m a k) i ≡ block m (a + i)
-  unfolding blocks
-  block_at-blocks a zero i lt = absurd (omega arith)
-  block_at-blocks a (suc k) zero lt =
-      let first = length-block capacity m a well in
-      let e : a + 0 ≡ a = omega arith in
-      ap (λ n. take n (block m a ++ blocks m (a + 1) k)) (sym first)
-      ∙ take-append_seam (block m a) (blocks m (a + 1) k) ∙ ap (block m) (sym e)
-  block_at-blocks a (suc k) (suc i) lt =
-      let first = length-block capacity m a well in
-      let skipped : 512 * suc i ≡ length (block m a) + 512 * i = omega (arith, first) in
-      let e : a + 1 + i ≡ a + suc i = omega arith in
-      ap (λ n. take 512 (drop n (block m a ++ blocks m (a + 1) k))) skipped
-      ∙ ap (take 512) (drop-append-add (block m a) (blocks m (a + 1) k) (512 * i))
-      ∙ block_at-blocks (a + 1) k i (omega arith) ∙ ap (block m) e
+-- ---- Blocks that are written anew
 
 -- the block that a replacement leaves at an index
 block-replaced : (m : Contents) (a k : ℕ) (f : ℕ → List ℕ) (i : ℕ) → i < k

@@ -144,19 +144,18 @@ sent-is disk call i cdb data_out sent =
     ∙ ap (λ l. (armed_step disk i l call.data_out.now).after) sent.same_cdb
     ∙ ap (λ l. (armed_step disk i cdb l).after) sent.same_data_out)
 
--- ---- From the opening on
+-- ---- From a moment on at which the file stands for the disk
 
 pub history-begins : {S D : Type 0} (seen : D → List ℕ) (start : KeptDisk S D)
-    → opened (seen start.journal.device) ≡ Some (disk_of start.target)
-    → powered (disk_of start.target) ≡ disk_of start.target
+    → opened (seen start.journal.device) ≡ Some (powered (disk_of start.target))
     → HasHistory seen start (disk_of start.target) [] 0
-history-begins seen start opened powered = record {
+history-begins seen start opened = record {
   memory = refl;
   file = record {
     count = 0;
     at_least = omega arith;
     at_most = omega arith;
-    opens = opened ∙ ap Some (sym powered);
+    opens = opened;
   };
 }
 

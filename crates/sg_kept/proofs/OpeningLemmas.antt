@@ -11,6 +11,7 @@ use Rattle.sg_changes.specs.Format.{◌>>=◌, made, passing}
 use Rattle.sg_changes.specs.KeptFields.{KeptFields}
 use Rattle.sg_changes.specs.Laws.{FirstRecordsAreExact}
 use Rattle.sg_changes.specs.Replay.{replayed}
+use Rattle.sg_journal.specs.Device.{LeavesOnly}
 use Rattle.sg_journal.specs.Journal.{found, IsBeforeOrAfter}
 use Rattle.sg_journal.specs.JournalState.{HasBatches}
 use Rattle.sg_target.specs.Armed.{Armed}
@@ -25,6 +26,7 @@ use Rattle.sg_kept.specs.Kept.{kept, powered, restored}
 use Rattle.sg_kept.specs.Opened.{IsBeforeOr, begun, filed, replayed_all}
 use Rattle.sg_kept.specs.Opening.{HasStarted}
 use Rattle.sg_kept.specs.Recording.{longest_write}
+use Rattle.sg_kept.proofs.MomentsLemmas.{weaker}
 use Rattle.sg_kept.proofs.OpenedLemmas.{opened-is, opened-same, replayed-nil}
 
 -- ---- The first record
@@ -148,8 +150,8 @@ pub filed-one : (first : List ℕ) (left : KeptFields) → begun first ≡ Some 
     → filed (first ∷ []) ≡ Some left
 filed-one first left e = ap (option_and_then (replayed_all [])) e
 
--- a crash of the call that makes a file
-pub unmade-or : (before first : List ℕ) (left : KeptFields) (disk : Armed) → found before ≡ Ok []
+-- what a crash of the call that makes a file left
+unmade-or : (before first : List ℕ) (left : KeptFields) (disk : Armed) → found before ≡ Ok []
     → begun first ≡ Some left → disk ≡ restored left
     → (file : List ℕ) → IsBeforeOrAfter [] first file → IsBeforeOr before disk file
 unmade-or before first left disk f e is file here =
@@ -157,3 +159,12 @@ unmade-or before first left disk f e is file here =
     (λ now. inr (opened-is file (first ∷ []) left now (filed-one first left e)
     ∙ ap Some (sym (ap powered is ∙ powered-restored left))))
     here
+
+-- a crash at any moment of that call
+pub unmade-leaves : {D : Type 0} (moment : D → ℕ) (left_since : D → ℕ → List ℕ → Type 0) (old new : D)
+    (before first : List ℕ) (left : KeptFields) → found before ≡ Ok [] → begun first ≡ Some left
+    → LeavesOnly moment left_since old new (IsBeforeOrAfter [] first)
+    → LeavesOnly moment left_since old new (IsBeforeOr before (restored left))
+unmade-leaves moment left_since old new before first left f e leaves =
+    weaker moment left_since old new (IsBeforeOrAfter [] first) (IsBeforeOr before (restored left)) leaves
+    (unmade-or before first left (restored left) f e refl)

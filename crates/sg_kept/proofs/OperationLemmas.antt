@@ -8,6 +8,7 @@ use Rattle.sg_changes.specs.Change.{Change, applied_all}
 use Rattle.sg_changes.specs.Change as change
 use Rattle.sg_changes.specs.Change.Change.{Write as Written, Fill as Filled, Pages, Reservations}
 use Rattle.sg_changes.specs.KeptFields.{KeptFields}
+use Rattle.sg_changes.proofs.SnapshotLemmas.{length-blocks}
 use Rattle.sg_faults.specs.Faults.{Faults}
 use Rattle.sg_store.specs.Disk.{Contents, blocks, disk_filled, disk_written, written}
 use Rattle.sg_target.specs.BlockCommands.{ored, ored_block}
@@ -31,7 +32,7 @@ use Rattle.sg_kept.specs.Kept.{kept}
 use Rattle.sg_kept.specs.Laws.{HasItsBytes, OperationsMakeTheirChanges}
 use Rattle.sg_kept.proofs.AppliedLemmas.{anchors-in-turn, filled-fits, next, restored-persistent}
 use Rattle.sg_kept.proofs.AppliedLemmas.{unmaps-in-turn, with-disk, written-fits}
-use Rattle.sg_kept.proofs.BlocksLemmas.{length-blocks, written-first, written-replaced}
+use Rattle.sg_kept.proofs.BlocksLemmas.{written-first, written-replaced}
 
 -- the result that an operation needs, from each value that it may have found
 sound-makes : {A : Type 0} (P : Effect → Type 0) (found : Result A Refusal) (becomes : A → Effect)

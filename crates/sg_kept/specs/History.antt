@@ -51,7 +51,7 @@ pub record AddsEvents {S D : Type 0} (seen : D → List ℕ) (moment : D → ℕ
       → LeavesOnly moment left_since old.journal.device new.journal.device
       (HasFirstEvents first (past ++ added) least)
 
--- ---- From the opening on
+-- ---- From a moment on at which the file stands for the disk
 
 -- A call that has succeeded: the disk after it, the events that it has added, and whether it has flushed.
 pub record Done (S D : Type 0) : Type 0 where
@@ -84,9 +84,9 @@ flushed_events count flushed (call ∷ calls) =
     let now = count + length call.added in
     flushed_events now (if call.has_flushed then now else flushed) calls
 
--- What a crash leaves from the opening of a file on. Any calls have succeeded, and a crash comes at any
--- moment of the next call. Then opening the file finds the disk after power on, after the first events of
--- all calls, and at least those up to the last flush.
+-- What a crash leaves from the start on. Any calls have succeeded, and a crash comes at any moment of the
+-- next call. Then opening the file finds the disk after power on, after the first events of all calls, and
+-- at least those up to the last flush.
 pub record CrashesLeaveFirstEvents {S D : Type 0} (seen : D → List ℕ) (moment : D → ℕ)
     (left_since : D → ℕ → List ℕ → Type 0) (start : KeptDisk S D) : Type 0 where
   pub crash : (calls : List (Done S D)) → AreDone seen moment left_since start calls

@@ -3,7 +3,7 @@ use Rattle.std.specs.Prelude.{◌≡◌, ◌≤◌, ℕ, List, length, Some, IfO
 use Rattle.sg_changes.specs.Change.{applied_all}
 use Rattle.sg_faults.specs.Faults.{Faults}
 use Rattle.sg_kept.specs.Changes.{changes_of, command_changes, happening_changes}
-use Rattle.sg_kept.specs.Kept.{kept, powered, restored}
+use Rattle.sg_kept.specs.Kept.{kept, powered, restored, without_port}
 use Rattle.sg_store.specs.Disk.{block_length}
 use Rattle.sg_target.specs.Armed.{Armed, armed_step}
 use Rattle.sg_target.specs.BlockCommands.{bytes_of}
@@ -60,3 +60,9 @@ abbrev pub HappeningsMakeTheirChanges : Type 0
 HappeningsMakeTheirChanges =
     (disk : Armed) (happening : Happening) → let after = armed_after_happening disk happening in
     applied_all (kept disk) (happening_changes disk after happening) ≡ Some (kept after)
+
+-- A port that is gone changes nothing that is kept. A power cycle leaves the same disk with the port and
+-- without it.
+pub record GonePortsChangeNothingKept : Type 0 where
+  pub kept : (disk : Armed) (initiator : ℕ) → kept (without_port disk initiator) ≡ kept disk
+  pub powered : (disk : Armed) (initiator : ℕ) → powered (without_port disk initiator) ≡ powered disk

@@ -1,10 +1,10 @@
 // A disk whose changes are kept in a file.
-ghost use Rattle.std.specs.Prelude.{◌≡◌, ◌⊎◌, ◌≤◌, ◌<◌, ◌+◌, ◌^◌, [], ◌∷◌, length, true, Some};
-ghost use Rattle.std.specs.Prelude.{IfOk, IsErr, OnOk};
+ghost use Rattle.std.specs.Prelude.{◌≡◌, ◌⊎◌, ◌≤◌, ◌<◌, ◌+◌, ◌^◌, [], ◌∷◌, length, min, true, Some};
+ghost use Rattle.std.specs.Prelude.{◌&&◌, IfOk, IsErr, OnOk};
 ghost use Rattle.std.specs.FinMap.{len};
 ghost use Rattle.sg_journal.specs.Device.{HasCause, LeavesOnly};
 ghost use Rattle.sg_target.specs.Armed.{Armed, armed_step};
-ghost use Rattle.sg_target.specs.DataInBound.{longest_data_in};
+ghost use Rattle.sg_target.specs.DataInBound.{longest_data_in, needed_buffer};
 ghost use Rattle.sg_target.specs.Executed.{executed_operation};
 ghost use Rattle.sg_target.specs.Execution.{IsExecuted};
 ghost use Rattle.sg_target.specs.Target.{disk_of};
@@ -115,7 +115,8 @@ impl<S: Store, D: Device> KeptDisk<S, D> {
         buf: &mut [u8],
         flushes: bool,
     ) -> Result<Reply, DeviceError>
-        requires buffer { longest_data_in ≤ length buf.old }
+        requires buffer { min (needed_buffer self.old.target.state initiator cdb.now data_out.now)
+            longest_data_in ≤ length buf.old }
         requires usable { IsUsable D.seen D.may_leave self.old }
 
         ensures executed { IfOk result (λ reply. IsExecuted initiator cdb.now data_out.now
@@ -217,6 +218,54 @@ impl<S: Store, D: Device> KeptDisk<S, D> {
         }
     }
 
+    /// Executes a command, or refuses it if the device fails or has failed. Flushes if the batch gets full.
+    /// If `flushes` is `true`, it also flushes if the command owes that.
+    pub(crate) fn execute_or_refuse(
+        &mut self,
+        initiator: Initiator,
+        cdb: &[u8],
+        data_out: &[u8],
+        buf: &mut [u8],
+        flushes: bool,
+    ) -> Reply
+        requires buffer { min (needed_buffer self.old.target.state initiator cdb.now data_out.now)
+            longest_data_in ≤ length buf.old }
+        requires usable { IsAlive self.old → IsUsable D.seen D.may_leave self.old }
+
+        ensures executed { IsAlive self.new → IsExecuted initiator cdb.now data_out.now
+            (disk_of self.old.target) (disk_of self.new.target) result buf.old buf.new }
+        ensures usable { IsAlive self.new → IsUsable D.seen D.may_leave self.new }
+        ensures owed { IsAlive self.new → flushes ≡ true → owes_flush (disk_of self.new.target) cdb.now
+            (executed_operation (disk_of self.old.target) initiator cdb.now data_out.now) ≡ true
+            → opened (D.seen self.new.journal.device) ≡ Some (powered (disk_of self.new.target)) }
+        ensures short { IsAlive self.new → self.new.journal.end
+            ≤ longest_uncompacted (len self.new.target.state.disk.contents) }
+        ensures any_moment { IsAlive self.old → LeavesOnly D.moment D.left_since
+            self.old.journal.device self.new.journal.device
+            (IsBeforeOr (D.seen self.old.journal.device)
+            (armed_step (disk_of self.old.target) initiator cdb.now data_out.now).after) }
+        ensures events { (call : Call) → IsSent call initiator cdb.now data_out.now
+            → AddsEvents D.seen D.moment D.left_since self.old self.new (Command call ∷ [])
+            (flushes && owes_flush (disk_of self.new.target) cdb.now
+            (executed_operation (disk_of self.old.target) initiator cdb.now data_out.now)) }
+        ensures failed { IsDead self.new → result ≡ failure_reply self.new.target.state }
+        ensures cause { IsAlive self.old → IsDead self.new
+            → (D.failures self.old.journal.device < D.failures self.new.journal.device)
+            ⊎ (longest_file < self.old.journal.end) }
+        ensures stays_dead { IsDead self.old → self.new ≡ self.old }
+    {
+        if self.is_dead {
+            return self.target.failure_reply();
+        }
+        match self.step(initiator, cdb, data_out, buf, flushes) {
+            Ok(reply) => reply,
+            Err(DeviceError) => {
+                self.is_dead = true;
+                self.target.failure_reply()
+            }
+        }
+    }
+
     /// Executes a command, as [`Target::execute`] does. What it owes to the file is there when the reply
     /// is returned.
     ///
@@ -229,7 +278,8 @@ impl<S: Store, D: Device> KeptDisk<S, D> {
         data_out: &[u8],
         buf: &mut [u8],
     ) -> Reply
-        requires buffer { longest_data_in ≤ length buf.old }
+        requires buffer { min (needed_buffer self.old.target.state initiator cdb.now data_out.now)
+            longest_data_in ≤ length buf.old }
         requires usable { IsAlive self.old → IsUsable D.seen D.may_leave self.old }
 
         // While the device has not failed, the reply and the disk after it are those of the command.
@@ -262,15 +312,6 @@ impl<S: Store, D: Device> KeptDisk<S, D> {
             ⊎ (longest_file < self.old.journal.end) }
         ensures stays_dead { IsDead self.old → self.new ≡ self.old }
     {
-        if self.is_dead {
-            return self.target.failure_reply();
-        }
-        match self.step(initiator, cdb, data_out, buf, true) {
-            Ok(reply) => reply,
-            Err(DeviceError) => {
-                self.is_dead = true;
-                self.target.failure_reply()
-            }
-        }
+        self.execute_or_refuse(initiator, cdb, data_out, buf, true)
     }
 }

@@ -1,9 +1,9 @@
 // Group commit: several commands, and one flush for all.
-ghost use Rattle.std.specs.Prelude.{◌≡◌, ◌⊎◌, ◌≤◌, ◌<◌, [], ◌∷◌, false, length};
+ghost use Rattle.std.specs.Prelude.{◌≡◌, ◌⊎◌, ◌≤◌, ◌<◌, [], ◌∷◌, false, length, min};
 ghost use Rattle.std.specs.FinMap.{len};
 ghost use Rattle.sg_journal.specs.Device.{LeavesOnly};
 ghost use Rattle.sg_target.specs.Armed.{armed_step};
-ghost use Rattle.sg_target.specs.DataInBound.{longest_data_in};
+ghost use Rattle.sg_target.specs.DataInBound.{longest_data_in, needed_buffer};
 ghost use Rattle.sg_target.specs.Execution.{IsExecuted};
 ghost use Rattle.sg_target.specs.Target.{disk_of};
 ghost use Rattle.sg_target.specs.declared.call.Call.{Call};
@@ -14,7 +14,7 @@ ghost use Rattle.sg_kept.specs.History.{AddsEvents, IsSent};
 ghost use Rattle.sg_kept.specs.Opened.{IsBeforeOr};
 
 use crate::KeptDisk;
-use sg_journal::{Device, DeviceError};
+use sg_journal::Device;
 use sg_store::Store;
 use sg_target::Reply;
 use sg_wire::Initiator;
@@ -30,7 +30,8 @@ impl<S: Store, D: Device> KeptDisk<S, D> {
         data_out: &[u8],
         buf: &mut [u8],
     ) -> Reply
-        requires buffer { longest_data_in ≤ length buf.old }
+        requires buffer { min (needed_buffer self.old.target.state initiator cdb.now data_out.now)
+            longest_data_in ≤ length buf.old }
         requires usable { IsAlive self.old → IsUsable D.seen D.may_leave self.old }
 
         // While the device has not failed, the reply and the disk after it are those of the command.
@@ -57,15 +58,6 @@ impl<S: Store, D: Device> KeptDisk<S, D> {
             ⊎ (longest_file < self.old.journal.end) }
         ensures stays_dead { IsDead self.old → self.new ≡ self.old }
     {
-        if self.is_dead {
-            return self.target.failure_reply();
-        }
-        match self.step(initiator, cdb, data_out, buf, false) {
-            Ok(reply) => reply,
-            Err(DeviceError) => {
-                self.is_dead = true;
-                self.target.failure_reply()
-            }
-        }
+        self.execute_or_refuse(initiator, cdb, data_out, buf, false)
     }
 }

@@ -8,8 +8,8 @@ ghost use Rattle.sg_target.specs.Target.{disk_of};
 ghost use Rattle.sg_target.specs.declared.event.Event.TheVariants.{Happen};
 ghost use Rattle.sg_kept.specs.Compaction.{longest_uncompacted};
 ghost use Rattle.sg_kept.specs.Disk.{IsAlive, IsDead, IsUsable, longest_file};
-ghost use Rattle.sg_kept.specs.History.{AddsEvents};
-ghost use Rattle.sg_kept.specs.Kept.{powered};
+ghost use Rattle.sg_kept.specs.History.{AddsEvents, HasHistory};
+ghost use Rattle.sg_kept.specs.Kept.{powered, without_port};
 ghost use Rattle.sg_kept.specs.Opened.{IsBeforeOr, opened};
 
 use crate::KeptDisk;
@@ -19,7 +19,7 @@ use sg_faults::ArmedFault;
 use sg_journal::{Device, DeviceError};
 use sg_store::Store;
 use sg_target::Happening;
-use sg_wire::Profile;
+use sg_wire::{Initiator, Profile};
 
 impl<S: Store, D: Device> KeptDisk<S, D> {
     /// Lets something happen while the device has not failed, and writes all that waits.
@@ -91,6 +91,46 @@ impl<S: Store, D: Device> KeptDisk<S, D> {
                 Err(DeviceError)
             }
         }
+    }
+
+    /// Clears the unit attentions that are pending for an initiator whose port is gone, as
+    /// [`Target::forget`](sg_target::Target::forget) does. The next port with its number begins without
+    /// them. First it writes all that waits.
+    ///
+    /// # Errors
+    /// The device failed, now or earlier. The disk executes no command any more.
+    pub fn forget(&mut self, initiator: Initiator) -> Result<(), DeviceError>
+        requires usable { IsAlive self.old → IsUsable D.seen D.may_leave self.old }
+        ensures forgotten { OnOk result (disk_of self.new.target
+            ≡ without_port (disk_of self.old.target) initiator) }
+        ensures usable { OnOk result (IsAlive self.new × IsUsable D.seen D.may_leave self.new) }
+        // Opening the file finds the disk, after power on.
+        ensures written { OnOk result (opened (D.seen self.new.journal.device)
+            ≡ Some (powered (disk_of self.new.target))) }
+        // The file is at most twice as long as the longest snapshot of such a disk, and 16 MiB.
+        ensures short { IsAlive self.new → self.new.journal.end
+            ≤ longest_uncompacted (len self.new.target.state.disk.contents) }
+
+        // A crash at any moment leaves what the file had, or the disk after power on. Power on clears
+        // these unit attentions, too.
+        ensures any_moment { IsAlive self.old → LeavesOnly D.moment D.left_since
+            self.old.journal.device self.new.journal.device
+            (IsBeforeOr (D.seen self.old.journal.device) (disk_of self.old.target)) }
+        // All events before it are in the file. Those after it happen to the disk without the port.
+        ensures history { OnOk result (HasHistory D.seen self.new (disk_of self.new.target) [] 0) }
+
+        // It fails only if the device does, or if the file is too long. Then it stays dead, and has
+        // forgotten nothing.
+        ensures failed { IsErr result → IsDead self.new }
+        ensures remembered { IsErr result → disk_of self.new.target ≡ disk_of self.old.target }
+        ensures cause { IsAlive self.old → IsErr result
+            → (D.failures self.old.journal.device < D.failures self.new.journal.device)
+            ⊎ (longest_file < self.old.journal.end) }
+        ensures stays_dead { IsDead self.old → self.new ≡ self.old }
+    {
+        self.flush()?;
+        self.target.forget(initiator);
+        Ok(())
     }
 
     /// The profile of the disk.

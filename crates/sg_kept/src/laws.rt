@@ -1,10 +1,13 @@
 //! Laws of what a power cycle leaves of a disk.
-ghost use Rattle.sg_kept.specs.Laws.{CommandsMakeTheirChanges, HappeningsMakeTheirChanges};
+ghost use Rattle.sg_kept.specs.Laws.{CommandsMakeTheirChanges, GonePortsChangeNothingKept};
+ghost use Rattle.sg_kept.specs.Laws.{HappeningsMakeTheirChanges};
 ghost use Rattle.sg_kept.specs.Laws.{OperationsMakeTheirChanges, PowerCyclesLeaveWhatIsKept};
-ghost use Rattle.std.specs.Prelude.{[]};
+ghost use Rattle.std.specs.Prelude.{◌≡◌, [], Some};
 ghost use Rattle.sg_target.specs.Target.{disk_of};
+ghost use Rattle.sg_kept.specs.Disk.{IsAlive};
 ghost use Rattle.sg_kept.specs.History.{CrashesLeaveFirstEvents, HasHistory};
-ghost use Rattle.sg_kept.specs.Opening.{HasStarted};
+ghost use Rattle.sg_kept.specs.Kept.{powered};
+ghost use Rattle.sg_kept.specs.Opened.{opened};
 
 use crate::KeptDisk;
 use sg_journal::Device;
@@ -36,11 +39,18 @@ pub fn happenings_make_their_changes()
     ensures { HappeningsMakeTheirChanges }
 {}
 
-/// What a crash leaves from the opening of a file on: the disk after power on, after the first events of
-/// all calls, and at least those up to the last flush. Nothing has happened yet to a disk whose file was
-/// made or opened a moment ago.
+/// A port that is gone changes nothing that is kept. A power cycle leaves the same disk with the port and
+/// without it.
+pub fn gone_ports_change_nothing_kept()
+    ensures { GonePortsChangeNothingKept }
+{}
+
+/// What a crash leaves after any calls on a disk whose file stands for it. Opening the file finds the disk
+/// after power on, after the first events of all calls, and at least those up to the last flush. The file
+/// stands for the disk after it was made or opened, and after each flush, happening and `forget`.
 pub fn crashes_leave_first_events<S: Store, D: Device>(disk: &KeptDisk<S, D>)
-    requires started { HasStarted D.seen D.may_leave disk.now }
+    requires alive { IsAlive disk.now }
+    requires written { opened (D.seen disk.now.journal.device) ≡ Some (powered (disk_of disk.now.target)) }
     ensures begins { HasHistory D.seen disk.now (disk_of disk.now.target) [] 0 }
     ensures crash { CrashesLeaveFirstEvents D.seen D.moment D.left_since disk.now }
 {}

@@ -11,6 +11,7 @@ pub mod laws;
 mod opening;
 mod owing;
 mod recording;
+mod room;
 mod serving;
 
 pub use batch_sink::BatchSink;

@@ -61,12 +61,12 @@ pub enum OpenDiskError {
     #[error("the file was not made yet")]
     Unmade,
     /// A record cannot be read, or its change does not apply.
-    #[error("the record at byte {record} of batch {batch} is damaged")]
+    #[error("the record at byte {offset} of batch {batch} is damaged")]
     Damaged {
         /// The number of its batch. The first is 0.
         batch: u64,
         /// The offset of the record in the records of its batch, in bytes.
-        record: usize,
+        offset: usize,
     },
     /// The file is longer than 2^60 bytes.
     #[error("the file is longer than 2^60 bytes")]
@@ -223,7 +223,7 @@ fn begin<S: Store>(alloc: Global, first: &[u8]) -> Result<KeptParts<S>, OpenDisk
     let Some((disk, rest)) = NewDisk::read(first) else {
         return Err(OpenDiskError::Damaged {
             batch: 0,
-            record: 0,
+            offset: 0,
         });
     };
     let mut parts = KeptParts::new(alloc, &disk)?;
@@ -231,7 +231,7 @@ fn begin<S: Store>(alloc: Global, first: &[u8]) -> Result<KeptParts<S>, OpenDisk
         Ok(()) => Ok(parts),
         Err(damaged) => Err(OpenDiskError::Damaged {
             batch: 0,
-            record: damaged.record.saturating_add(NewDisk::RECORD_LENGTH),
+            offset: damaged.record.saturating_add(NewDisk::RECORD_LENGTH),
         }),
     }
 }
@@ -266,7 +266,7 @@ fn replay_rest<F: Source + Drop, S: Store>(
         if let Err(damaged) = parts.replay(batch.records()) {
             return Err(OpenDiskError::Damaged {
                 batch: number,
-                record: damaged.record,
+                offset: damaged.record,
             });
         }
         number += 1;

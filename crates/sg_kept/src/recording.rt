@@ -1,5 +1,5 @@
 // The records of what a command or a happening has changed.
-ghost use Rattle.std.specs.Prelude.{◌≡◌, ◌≤◌, ◌+◌, ◌*◌, ◌∷◌, [], length, map, IfSome, Some};
+ghost use Rattle.std.specs.Prelude.{◌≡◌, ◌≤◌, ◌+◌, ◌*◌, ◌∷◌, [], length, map, min, IfSome, Some};
 ghost use Rattle.sg_changes.specs.Change.Change.{Anchor as Anchored, Write as Written};
 ghost use Rattle.sg_faults.specs.Faults.{is_armed};
 ghost use Rattle.sg_journal.specs.declared.layout.TheConstants.{MAX_BATCH};
@@ -12,7 +12,7 @@ ghost use Rattle.sg_kept.specs.Recording.{Adds, IsReadable, longest_changes, lon
 ghost use Rattle.sg_kept.specs.Recording.{longest_write};
 ghost use Rattle.sg_store.specs.Disk.{blocks};
 ghost use Rattle.sg_target.specs.Armed.{Armed};
-ghost use Rattle.sg_target.specs.DataInBound.{longest_data_in};
+ghost use Rattle.sg_target.specs.DataInBound.{longest_data_in, needed_buffer};
 ghost use Rattle.sg_target.specs.Executed.{executed_operation};
 ghost use Rattle.sg_target.specs.Execution.{IsExecuted};
 ghost use Rattle.sg_target.specs.Runs.{armed_after_happening};
@@ -171,7 +171,8 @@ pub(crate) fn execute_and_record<S: Store>(
     buf: &mut [u8],
     scratch: &mut [u8],
 ) -> (Reply, bool)
-    requires buffer { longest_data_in ≤ length buf.old }
+    requires buffer { min (needed_buffer target.old.state initiator cdb.now data_out.now)
+        longest_data_in ≤ length buf.old }
     requires limits { IsWithinLimits target.old.state }
     requires room { length batch.old.records + longest_changes ≤ MAX_BATCH }
     requires scratch { length scratch.old ≡ longest_write }

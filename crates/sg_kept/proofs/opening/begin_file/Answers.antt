@@ -1,11 +1,8 @@
 use Rattle.std.proofs.Common.{[], ◌∷◌, refl, sym, ap, subst, ◌∙◌}
 use Rattle.sg_changes.specs.FirstRecord.{new_disk_kept}
 use Rattle.sg_changes.specs.Laws.{IsSound}
-use Rattle.sg_journal.specs.Journal.{IsBeforeOrAfter}
 use Rattle.sg_kept.specs.Kept.{restored}
-use Rattle.sg_kept.specs.Opened.{IsBeforeOr}
-use Rattle.sg_kept.proofs.MomentsLemmas.{weaker}
-use Rattle.sg_kept.proofs.OpeningLemmas.{filed-one, started, unmade-or}
+use Rattle.sg_kept.proofs.OpeningLemmas.{filed-one, started, unmade-leaves}
 use Rattle.sg_kept.proofs.opening.begin_file.Goals as goal
 
 pub target_of-target-requires-clause-sound : goal.target_of-target-requires-clause-sound
@@ -24,18 +21,14 @@ returns-in-Ok-clause-started g c =
 
 pub returns-in-Ok-clause-any_moment : goal.returns-in-Ok-clause-any_moment
 returns-in-Ok-clause-any_moment g c =
-    let before = g.D.Device.seen c.args.journal.device in
-    let left = new_disk_kept c.args.disk.now in
-    let first = c.add_first.new.batch.records in
-    weaker g.D.Device.moment g.D.Device.left_since c.args.journal.device c.write_first.new.journal.device
-    (IsBeforeOrAfter [] first) (IsBeforeOr before (restored left)) c.write_first.ensures.any_moment
-    (unmade-or before first left (restored left) c.requires.batches.found c.add_first.ensures.begun refl)
+    unmade-leaves g.D.Device.moment g.D.Device.left_since c.args.journal.device
+    c.write_first.new.journal.device (g.D.Device.seen c.args.journal.device) c.add_first.new.batch.records
+    (new_disk_kept c.args.disk.now) c.requires.batches.found c.add_first.ensures.begun
+    c.write_first.ensures.any_moment
 
 pub returns-in-Err-clause-any_moment_of_error : goal.returns-in-Err-clause-any_moment_of_error
 returns-in-Err-clause-any_moment_of_error g c =
-    let before = g.D.Device.seen c.args.journal.device in
-    let left = new_disk_kept c.args.disk.now in
-    let first = c.add_first.new.batch.records in
-    weaker g.D.Device.moment g.D.Device.left_since c.args.journal.device c.write_first.new.journal.device
-    (IsBeforeOrAfter [] first) (IsBeforeOr before (restored left)) c.write_first.ensures.any_moment
-    (unmade-or before first left (restored left) c.requires.batches.found c.add_first.ensures.begun refl)
+    unmade-leaves g.D.Device.moment g.D.Device.left_since c.args.journal.device
+    c.write_first.new.journal.device (g.D.Device.seen c.args.journal.device) c.add_first.new.batch.records
+    (new_disk_kept c.args.disk.now) c.requires.batches.found c.add_first.ensures.begun
+    c.write_first.ensures.any_moment
