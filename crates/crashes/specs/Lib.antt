@@ -1,0 +1,2 @@
+-- A disk in a file that keeps its calls.
+pub mod Ready
