@@ -1,5 +1,5 @@
 -- A file that was read and not written.
-use Rattle.std.proofs.Common.{◌≡◌, Bool, true, false, List, [], ◌∷◌, ◌++◌, ℕ, refl, ap}
+use Rattle.std.proofs.Common.{◌≡◌, true, false, List, [], ◌∷◌, ◌++◌, ℕ, refl, ap}
 use Rattle.sg_file.specs.Calls.{Call}
 use Rattle.sg_file.specs.Calls.Call.{Read, Write, CutTo, Sync, BeginDraft, WriteDraft, Exchange}
 use Rattle.sg_file.specs.History.{seen, opening, may_leave, moment, AreReads}

@@ -1,13 +1,13 @@
 -- What a file has is one of the contents that a crash may leave.
-use Rattle.std.proofs.Common.{◌≡◌, ◌⊎◌, inl, ℕ, ◌+◌, ◌≤◌, Bool, true, false, List, [], ◌∷◌, ◌++◌}
-use Rattle.std.proofs.Common.{length, take, drop, refl, ◌∙◌, ap, arith, length-append, length-take}
+use Rattle.std.proofs.Common.{inl, ℕ, ◌+◌, ◌≤◌, true, false, List, [], ◌∷◌, ◌++◌}
+use Rattle.std.proofs.Common.{length, take, drop, refl, ◌∙◌, ap, arith, length-append}
 use Rattle.std.proofs.Common.{length-drop}
 use Rattle.std.proofs.Common.{append_assoc}
 use Rattle.std.proofs.lemmas.List.{take_all, take_at, drop_at, length-take-le}
 use Rattle.sg_journal.specs.Device.{Torn, Cut}
 use Rattle.sg_file.specs.Calls.{Call}
 use Rattle.sg_file.specs.Calls.Call.{Read, Write, CutTo, Sync, BeginDraft, WriteDraft, Exchange}
-use Rattle.sg_file.specs.History.{seen, draft, may_leave, AreSound}
+use Rattle.sg_file.specs.History.{seen, may_leave, AreSound}
 
 torn_none : (at n : ℕ) (old : List ℕ) → Torn at n old old
 torn_none at n old = record {

@@ -1,6 +1,6 @@
 //! A file of the operating system as the journal sees it. Each call of the system is noted with its
 //! outcome, and what a crash may leave follows from the notes. A proof cannot see the calls themselves:
-//! the lines of `device.rt` and `source.rt` have to be read.
+//! the lines of `device.rt`, `source.rt` and `std_file.rt` have to be read.
 #![tactic(auto)]
 
 mod device;
@@ -8,10 +8,14 @@ mod error;
 pub mod laws;
 mod paths;
 mod source;
+mod std_file;
+mod system_file;
 
 pub use device::FileDevice;
 pub use error::FileError;
 pub use source::FileSource;
+pub use std_file::StdFile;
+pub use system_file::SystemFile;
 
 #[cfg(test)]
 mod tests {
@@ -22,9 +26,9 @@ mod tests {
 
     /// Reads a file of `into.len()` bytes.
     fn device_of<'a>(
-        mut source: FileSource<'a>,
+        mut source: FileSource<StdFile<'a>>,
         into: &mut [u8],
-    ) -> Result<FileDevice<'a>, DeviceError> {
+    ) -> Result<FileDevice<StdFile<'a>>, DeviceError> {
         if source.left() != into.len() as u64 {
             return Err(DeviceError);
         }
@@ -37,18 +41,18 @@ mod tests {
     fn a_file_outlives_its_device(rt: HostRuntime) -> Result<(), Fail> {
         let path = "sg-file-test.disk";
         let _gone = fs::remove_file(&rt, path);
-        let mut device = device_of(FileSource::open(&rt, path)?, &mut [])?;
+        let mut device = device_of(StdFile::open(&rt, path)?, &mut [])?;
         device.begin_draft()?;
         device.write_draft(b"first")?;
         device.write_draft(b" second")?;
         device.exchange()?;
         device.write_at(0, b"F")?;
-        let is_busy = matches!(FileSource::open(&rt, path), Err(FileError::Busy));
+        let is_busy = matches!(StdFile::open(&rt, path), Err(FileError::Busy));
         assert!(rt; is_busy);
         drop(device);
 
         let mut bytes = [0; 12];
-        let mut device = device_of(FileSource::open(&rt, path)?, &mut bytes)?;
+        let mut device = device_of(StdFile::open(&rt, path)?, &mut bytes)?;
         assert_eq!(rt; bytes.as_slice(), b"First second".as_slice());
         device.cut(0)?;
         device.write_at(0, b"third")?;

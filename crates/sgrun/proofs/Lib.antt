@@ -1,2 +1,4 @@
 pub mod ArgumentLemmas
 pub mod NewDiskLemmas
+pub mod KeptDiskLemmas
+pub mod ShownDiskLemmas

@@ -4,6 +4,7 @@
 use Rattle.std.specs.Prelude.{◌≡◌, ◌⊎◌, ℕ, ◌^◌, ◌-◌, List, codes, Option, Some, None, Result, Ok}
 use Rattle.std.specs.Prelude.{Err, [], ◌∷◌, bytes_eq, find, Bool, true, false, not, ◌&&◌, is_some}
 use Rattle.std.specs.Prelude.{if◌then◌else◌, option_map}
+use Rattle.std.specs.List.{list_any}
 use Rattle.std.specs.Option.{unwrap_or}
 use Rattle.clap.specs.Words.{Row, Text}
 use Rattle.sg_wire.specs.declared.profile.Profile.{Profile}
@@ -17,7 +18,8 @@ use Rattle.sg_target.specs.declared.config.ConfigFault.{ConfigFault}
 use Rattle.sg_tools.specs.GivenOptions.{given_options, text_of}
 use Rattle.sg_tools.specs.OptionTexts.{number_or}
 use Rattle.sg_tools.specs.declared.tool_fault.ToolFault.{ToolFault}
-use Rattle.sgrun.specs.Options.{command_line}
+use Rattle.sg_tools.specs.Options.{OptionRow}
+use Rattle.sgrun.specs.Options.{command_line, run_options}
 use Rattle.sgrun.specs.declared.disk_options.DiskOptions.{DiskOptions}
 use Rattle.sgrun.specs.declared.named_profile.NamedProfile.{NamedProfile}
 use Rattle.sgrun.specs.Stops.{stop_of_config, stop_of_identity, stop_of_options}
@@ -142,20 +144,31 @@ config_of options =
 -- ---- Every option
 
 -- What the options say of the disk, the file that keeps it, and the file that holds the script. None
--- is a new disk in memory, and standard input.
+-- is a new disk in memory, and standard input. Then the file whose disk is shown, if one is.
 pub record ArgumentFields : Type 0 where
   pub disk : DiskOptions
   pub file : Option Text
   pub script : Option Text
+  pub shown : Option Text
 
-abbrev pub with_files : (file script : Option Text) → Result DiskOptions Stop
+abbrev pub with_files : (file script shown : Option Text) → Result DiskOptions Stop
     → Result ArgumentFields Stop
-with_files file script (Err stop) = Err stop
-with_files file script (Ok disk) = Ok (record { disk = disk; file = file; script = script })
+with_files file script shown (Err stop) = Err stop
+with_files file script shown (Ok disk) =
+    Ok (record { disk = disk; file = file; script = script; shown = shown })
 
+-- An option of a run is given.
+abbrev pub gives_run_option : List Row → Bool
+gives_run_option rows =
+    list_any (λ (option : OptionRow). is_some (text_of option.long rows)) run_options
+
+-- If a disk is shown, nothing is run.
 abbrev pub arguments_of : List Row → Result ArgumentFields Stop
 arguments_of rows =
-    with_files (text_of (codes "disk") rows) (text_of (codes "script") rows) (disk_options rows)
+    let shown = text_of (codes "show-disk") rows in
+    if is_some shown && gives_run_option rows then Err Usage
+    else with_files (text_of (codes "disk") rows) (text_of (codes "script") rows) shown
+    (disk_options rows)
 
 abbrev pub arguments_by : Result (List Row) ToolFault → Result ArgumentFields Stop
 arguments_by (Err fault) = Err (stop_of_options fault)

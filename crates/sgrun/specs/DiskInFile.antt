@@ -9,6 +9,8 @@ use Rattle.sg_kept.specs.Disk.{IsDead}
 use Rattle.sg_kept.specs.Kept.{powered}
 use Rattle.sg_kept.specs.Opened.{opened}
 use Rattle.sg_kept.specs.declared.disk.KeptDisk.{KeptDisk}
+use Rattle.sg_kept.specs.declared.opening.MakeError.{MakeError}
+use Rattle.sg_kept.specs.declared.opening.OpenDiskError.{OpenDiskError}
 use Rattle.sg_run.specs.ScriptRun.{Snapshot}
 use Rattle.sg_target.specs.Armed.{Armed}
 use Rattle.sg_target.specs.Config.{ConfigFields}
@@ -16,6 +18,7 @@ use Rattle.sg_target.specs.State.{State}
 use Rattle.sg_target.specs.Target.{disk_of}
 use Rattle.sgrun.specs.Arguments.{config_of}
 use Rattle.sgrun.specs.NewDisk.{Ran, Refused, new_disk}
+use Rattle.sgrun.specs.Stops.{stop_of_disk, stop_of_making}
 use Rattle.sgrun.specs.declared.disk_options.DiskOptions.{DiskOptions}
 use Rattle.sgrun.specs.declared.named_profile.NamedProfile.{NamedProfile}
 use Rattle.sgrun.specs.declared.stop.Stop.{Stop}
@@ -59,6 +62,17 @@ pub record IsMade (options : DiskOptions) (disk : Armed) : Type 0 where
   pub config : ConfigFields
   pub asked : config_of options ≡ Ok config
   pub new : disk ≡ new_disk config
+
+-- Why no disk was made: there is no such new disk, or the making has failed.
+abbrev pub IsNotMade : (name : Bor (List ℕ)) → DiskOptions → Stop → Type 0
+IsNotMade name options stop =
+    (config_of options ≡ Err stop) ⊎ ((error : MakeError) × (stop ≡ stop_of_making name error))
+
+-- Why no disk was opened: the file has none, or its disk is not what an option says.
+abbrev pub IsNotOpened : (name : Bor (List ℕ)) → DiskOptions → Stop → Type 0
+IsNotOpened name options stop =
+    ((error : OpenDiskError) × (stop ≡ stop_of_disk name error))
+    ⊎ ((disk : State) × (checked_against options disk ≡ Err stop))
 
 -- ---- A script
 

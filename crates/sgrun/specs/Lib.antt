@@ -4,5 +4,7 @@ pub mod Arguments
 -- the run,
 pub mod NewDisk
 pub mod DiskInFile
+-- the text of a disk that a file keeps,
+pub mod ShownDisk
 -- and why there is no script's status.
 pub mod Stops

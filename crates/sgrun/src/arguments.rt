@@ -11,6 +11,8 @@ pub(crate) struct Arguments<'a> {
     pub(crate) file: Option<&'a str>,
     /// The file that holds the script. None is standard input.
     pub(crate) script: Option<&'a str>,
+    /// The file whose disk is shown. Then no script runs, and no other option is given.
+    pub(crate) shown: Option<&'a str>,
 }
 
 impl<'a> Model for Arguments<'a> {
@@ -23,15 +25,17 @@ impl<'a> Model for Arguments<'a> {
       disk = a.disk;
       file = option_map (λ file. file.now) a.file;
       script = option_map (λ file. file.now) a.script;
+      shown = option_map (λ file. file.now) a.shown;
     } };
 }
 
-ghost use Rattle.std.specs.Prelude.{◌≡◌, IfOk, map, option_map, false};
+ghost use Rattle.std.specs.Prelude.{◌≡◌, IfOk, is_some, map, option_map, false};
 ghost use Rattle.std.specs.String.{string_bytes};
 ghost use Rattle.clap.specs.Words.{app_of, rule_of};
+ghost use Rattle.sg_tools.specs.GivenOptions.{text_of};
 ghost use Rattle.sg_tools.specs.Options.{rule};
 ghost use Rattle.sgrun.specs.Arguments.{IsUnlessOutOfMemory, arguments, arguments_of, disk_by};
-ghost use Rattle.sgrun.specs.Arguments.{disk_options, number_of_option};
+ghost use Rattle.sgrun.specs.Arguments.{disk_options, gives_run_option, number_of_option};
 ghost use Rattle.sgrun.specs.Options.{command_line, text_option};
 
 use crate::named_profile::{NamedProfile, profile_named, takes_seed};
@@ -46,7 +50,7 @@ impl<'a> Arguments<'a> {
     /// # Errors
     /// The first of these that applies:
     /// - `Usage` if clap does not accept the words, or if they ask for help, or if they have `--seed`
-    ///   without a profile that takes it.
+    ///   without a profile that takes it, or `--show-disk` with another option.
     /// - `Number` if the text of `--blocks`, `--pool` or `--seed` is no number.
     /// - `Profile` if no profile has the name of `--profile`.
     ///
@@ -62,12 +66,34 @@ impl<'a> Arguments<'a> {
     fn of_options(options: &GivenOptions<'a>) -> Result<Arguments<'a>, Stop<'a>>
         ensures { result ≡ arguments_of options.now }
     {
-        Ok(Arguments {
-            disk: disk_options(options)?,
-            file: options.text("disk"),
-            script: options.text("script"),
-        })
+        match options.text("show-disk") {
+            Some(_) if gives_run_option(options) => Err(Stop::Usage),
+            shown => Ok(Arguments {
+                disk: disk_options(options)?,
+                file: options.text("disk"),
+                script: options.text("script"),
+                shown,
+            }),
+        }
     }
+}
+
+/// Whether an option of a run is given. `--show-disk` runs nothing, and takes none of them.
+fn gives_run_option(options: &GivenOptions) -> bool
+    ensures { result ≡ gives_run_option options.now }
+{
+    is_given(options, "blocks")
+        || is_given(options, "pool")
+        || is_given(options, "profile")
+        || is_given(options, "seed")
+        || is_given(options, "disk")
+        || is_given(options, "script")
+}
+
+fn is_given(options: &GivenOptions, option: &str) -> bool
+    ensures { result ≡ is_some (text_of option.now options.now) }
+{
+    options.text(option).is_some()
 }
 
 /// What options say of a disk.
@@ -121,7 +147,8 @@ fn command_line<'a>(alloc: Global) -> Result<Command<'a>, AllocError>
         .arg(text_option(alloc, "profile"))?
         .arg(text_option(alloc, "seed"))?
         .arg(text_option(alloc, "disk"))?
-        .arg(text_option(alloc, "script"))
+        .arg(text_option(alloc, "script"))?
+        .arg(text_option(alloc, "show-disk"))
 }
 
 /// An option without a short name, which has a text.

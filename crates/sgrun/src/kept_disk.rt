@@ -1,7 +1,6 @@
 // Opens the disk that a file keeps, or makes it, and runs the script on it.
-ghost use Rattle.std.specs.Prelude.{◌≡◌, ◌≤◌, ◌<◌, [], false, IfErr, IfOk, OnOk, Ok, Some};
-ghost use Rattle.sg_journal.specs.JournalState.{HasBatches};
-ghost use Rattle.sg_kept.specs.Disk.{IsAlive, IsDead, IsUsable, longest_file};
+ghost use Rattle.std.specs.Prelude.{◌≡◌, ◌<◌, [], false, IfErr, IfOk, OnOk, Ok, Err, Some};
+ghost use Rattle.sg_kept.specs.Disk.{IsAlive, IsDead, IsUsable};
 ghost use Rattle.sg_kept.specs.Kept.{powered};
 ghost use Rattle.sg_kept.specs.Opened.{opened};
 ghost use Rattle.sg_kept.specs.Opening.{HasStarted};
@@ -9,22 +8,22 @@ ghost use Rattle.sg_run.specs.ScriptRun.{snapshot};
 ghost use Rattle.sg_target.specs.Target.{disk_of};
 ghost use Rattle.sg_wire.specs.Watched.{has_failed};
 ghost use Rattle.sgrun.specs.Arguments.{config_of};
+ghost use Rattle.sgrun.specs.Stops.{stop_of_disk};
+ghost use Rattle.sgrun.specs.declared.stop.Stop.{Stop};
 ghost use Rattle.sgrun.specs.declared.stop.Stop.TheVariants.{CannotWrite};
-ghost use Rattle.sgrun.specs.DiskInFile.{IsMade, RunsOnKeptDisk, checked_against};
+ghost use Rattle.sgrun.specs.DiskInFile.{IsMade, IsNotMade, IsNotOpened, RunsOnKeptDisk};
+ghost use Rattle.sgrun.specs.DiskInFile.{checked_against};
 
 use crate::disk_options::DiskOptions;
 use crate::stop::{Stop, outcome_of_run};
 use sg_changes::NewDisk;
-use sg_journal::{Batch, Device, DeviceError, Journal, OpenError, Reader, Source};
+use sg_journal::{Device, DeviceError, Journal, Source};
 use sg_kept::{KeptDisk, OpenDiskError};
 use sg_run::{Session, run_script};
 use sg_store::Store;
 use sg_wire::Watched;
 use std::alloc::Global;
 use std::io::{Read, Write};
-
-/// The longest file of a disk, in bytes.
-const LONGEST_FILE: u64 = 1 << 60;
 
 /// Opens the disk that a file keeps. If the file is empty, the new disk is made that the options ask
 /// for. If the file has a disk, the options that are given have to be the disk's.
@@ -52,11 +51,33 @@ where
         opened (F.Device.opening disk.journal.device) ≡ Some (disk_of disk.target)) }
     ensures agrees { 0 < F.left source → IfOk result (λ disk.
         checked_against options.now (disk_of disk.target).state ≡ Ok tt) }
+
+    // The stop says which error there was.
+    ensures not_made { F.left source ≡ 0 → IfErr result (IsNotMade file.entry options.now) }
+    ensures not_opened { 0 < F.left source → IfErr result (IsNotOpened file.entry options.now) }
 {
     if source.left() == 0 {
         return make_disk(alloc, file, source, options);
     }
-    match KeptDisk::open::<F>(alloc, source) {
+    agreeing_disk(file, KeptDisk::open::<F>(alloc, source), options)
+}
+
+/// The disk that was opened, if it has what the options say.
+///
+/// # Errors
+/// The stop of the error if no disk was opened, or of the first option that the disk does not agree with.
+fn agreeing_disk<'a, S: Store, D: Device + Drop, F: Source + Drop>(
+    file: &'a str,
+    opening: Result<KeptDisk<S, D>, (OpenDiskError, F)>,
+    options: &DiskOptions,
+) -> Result<KeptDisk<S, D>, Stop<'a>>
+    ensures no_disk { IfErr opening (λ e. result ≡ Err (stop_of_disk file.entry e.0)) }
+    ensures differs { IfOk opening (λ disk. (stop : Stop) →
+        checked_against options.now (disk_of disk.target).state ≡ Err stop → result ≡ Err stop) }
+    ensures agrees { IfOk opening (λ disk.
+        checked_against options.now (disk_of disk.target).state ≡ Ok tt → result ≡ Ok disk) }
+{
+    match opening {
         Ok(disk) => {
             options.check(disk.target.config())?;
             Ok(disk)
@@ -78,51 +99,13 @@ where
     requires is_empty { F.left source ≡ 0 }
     ensures started { IfOk result (HasStarted F.Device.seen F.Device.may_leave) }
     ensures made { IfOk result (λ disk. IsMade options.now (disk_of disk.target)) }
+    ensures not_made { IfErr result (IsNotMade file.entry options.now) }
 {
     let config = options.config()?;
-    let Some(new) = NewDisk::new(config.blocks(), config.pool(), *config.identity()) else {
-        return Err(Stop::Pool);
-    };
-    let journal = empty_journal(alloc, file, source)?;
-    match KeptDisk::make(alloc, journal, &new) {
+    let new = NewDisk::new(config.blocks(), config.pool(), *config.identity()).unwrap();
+    match KeptDisk::make(alloc, Journal::unmade(source), &new) {
         Ok(disk) => Ok(disk),
         Err((error, _)) => Err(Stop::of_making(file, error)),
-    }
-}
-
-/// The journal of a file without batches.
-fn empty_journal<'a, F: Source + Drop>(
-    alloc: Global,
-    file: &'a str,
-    source: F,
-) -> Result<Journal<F::Device>, Stop<'a>>
-    requires fresh { F.taken source ≡ [] }
-    ensures batches { IfOk result (λ journal.
-        HasBatches F.Device.seen F.Device.may_leave journal []) }
-    ensures end { IfOk result (λ journal. journal.end ≤ longest_file) }
-{
-    let mut reader = match Reader::open(source) {
-        Ok(reader) => reader,
-        Err((error, _)) => return Err(stop_of_file(file, error)),
-    };
-    let mut batch = Batch::new(alloc, reader.sector)?;
-    let has_batch = match reader.next(&mut batch) {
-        Ok(more) => more,
-        Err(error) => return Err(stop_of_file(file, error)),
-    };
-    if has_batch || reader.end > LONGEST_FILE {
-        return Err(Stop::NoDisk(file, OpenDiskError::TooLong));
-    }
-    match reader.into_journal() {
-        Ok(journal) => Ok(journal),
-        Err((DeviceError, _)) => Err(Stop::CannotOpen(file)),
-    }
-}
-
-fn stop_of_file(file: &str, error: OpenError) -> Stop<'_> {
-    match error {
-        OpenError::Device => Stop::CannotOpen(file),
-        OpenError::File(fault) => Stop::NoDisk(file, OpenDiskError::File(fault)),
     }
 }
 

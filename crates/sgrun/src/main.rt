@@ -1,6 +1,6 @@
 //! `sgrun`: reads a script from standard input or a file, executes its commands on a disk in memory,
 //! or on one that a file keeps, and prints their replies. Its exit status is the first status of a line
-//! that is not 0.
+//! that is not 0. Or it shows what the file of a disk holds.
 #![tactic(auto)]
 
 mod arguments;
@@ -8,11 +8,12 @@ mod disk_options;
 mod kept_disk;
 mod named_profile;
 mod new_disk;
+mod show_disk;
 mod stop;
 #[cfg(test)]
 mod tests;
 
-ghost use Rattle.std.specs.Prelude.{◌≡◌, false};
+ghost use Rattle.std.specs.Prelude.{◌≡◌, [], false, IfOk};
 ghost use Rattle.sg_wire.specs.Watched.{has_failed};
 
 use arguments::Arguments;
@@ -20,9 +21,11 @@ use disk_options::DiskOptions;
 use kept_disk::{open_disk, run_on_kept_disk};
 use new_disk::run_on_new_disk;
 use sg_extent_map::ExtentMap;
-use sg_file::{FileDevice, FileSource};
+use sg_file::{FileDevice, FileSource, StdFile};
+use sg_journal::Source;
 use sg_kept::KeptDisk;
 use sg_wire::Watched;
+use show_disk::{open_to_show, show_disk};
 use std::env;
 use std::fs::File;
 use std::io::{Read, Write};
@@ -54,9 +57,15 @@ fn words<'a>(rt: &HostRuntime) -> Result<Vec<String>, Stop<'a>> {
     }
 }
 
-/// Runs the script that words ask for.
+/// Runs the script that words ask for, or shows the disk that they name.
 fn run<'a>(rt: &HostRuntime, words: &'a [String]) -> Result<u8, Stop<'a>> {
     let arguments = Arguments::parse(rt.alloc(), words)?;
+    // The lowest free numbers are those of standard streams that are closed. A folder takes them: it can
+    // neither be read nor written. Otherwise the file of a disk could become standard output.
+    let _streams = (open(rt, "/")?, open(rt, "/")?, open(rt, "/")?);
+    if let Some(file) = arguments.shown {
+        return show_file(rt, file);
+    }
     if arguments.file.is_none() {
         // A disk in memory is checked before the script is opened.
         arguments.disk.config()?;
@@ -93,13 +102,43 @@ fn run_on_file<'a, R: Read, W: Write>(
     requires reads { has_failed reader.old ≡ false }
     requires writes { has_failed writer.old ≡ false }
 {
-    let source = match FileSource::open(rt, file) {
-        Ok(source) => source,
-        Err(error) => return Err(Stop::of_file(file, &error)),
-    };
+    let source = open_source(rt, file)?;
     // A disk of any profile is over an `ExtentMap`: the profile is in the file.
-    let mut disk: KeptDisk<ExtentMap, FileDevice> = open_disk(rt.alloc(), file, source, options)?;
+    let mut disk: KeptDisk<ExtentMap, FileDevice<StdFile>> = open_disk(
+        rt.alloc(),
+        file,
+        source,
+        options,
+    )?;
     run_on_kept_disk(rt.alloc(), file, &mut disk, reader, writer)
+}
+
+/// Shows the disk that a file keeps.
+fn show_file<'a>(rt: &HostRuntime, file: &'a str) -> Result<u8, Stop<'a>> {
+    // `StdFile` makes a file that is missing. So the file is looked for first.
+    open(rt, file)?;
+    let source = open_source(rt, file)?;
+    let length = source.left();
+    let mut disk: KeptDisk<ExtentMap, FileDevice<StdFile>> = open_to_show(
+        rt.alloc(),
+        file,
+        source,
+    )?;
+    show_disk(length, &mut disk, &mut Watched::new(rt.stdout()))?;
+    Ok(0)
+}
+
+/// Opens the file of a disk.
+fn open_source<'a, 'r>(
+    rt: &'r HostRuntime,
+    file: &'a str,
+) -> Result<FileSource<StdFile<'r>>, Stop<'a>>
+    ensures { IfOk result (λ source. source.calls ≡ []) }
+{
+    match StdFile::open(rt, file) {
+        Ok(source) => Ok(source),
+        Err(error) => Err(Stop::of_file(file, &error)),
+    }
 }
 
 fn open<'a>(rt: &HostRuntime, file: &'a str) -> Result<File, Stop<'a>> {

@@ -58,7 +58,7 @@ const ASKED: [(&str, u64, u32, Profile, Option<&str>); 17] = [
 ];
 
 /// The words after the program's name, and the message of the stop.
-const REFUSED: [(&str, &str); 42] = [
+const REFUSED: [(&str, &str); 46] = [
     ("FILE", "usage"),
     ("-h", "usage"),
     ("--help", "usage"),
@@ -104,6 +104,18 @@ const REFUSED: [(&str, &str); 42] = [
     ("--profile base-cut --seed 1", "usage"),
     ("--profile extended-cut --pool 4294967296", "pool"),
     ("--profile extended-cut --seed 0x1000000000000000", "seed"),
+    ("--show-disk", "usage"),
+    ("--show-disk FILE --show-disk FILE", "usage"),
+    ("--show-disk FILE --disk FILE", "usage"),
+    ("--blocks zz --show-disk FILE", "usage"),
+];
+
+/// The words after the program's name, and the file whose disk is shown.
+const SHOWN: [(&str, Option<&str>); 4] = [
+    ("--disk FILE --script SCRIPT", None),
+    ("--show-disk FILE", Some("FILE")),
+    ("--show-disk=--disk", Some("--disk")),
+    ("--show-disk=", Some("")),
 ];
 
 /// The words after the program's name, and the disk's serial number and locally assigned identifier.
@@ -188,6 +200,18 @@ fn a_profile_says_whether_too_little_data_out_is_taken(rt: HostRuntime) -> Resul
             return Err(Fail::from(line));
         };
         assert_eq!(rt; disk.identity().takes_short_data_out(), takes);
+    }
+    Ok(())
+}
+
+#[test]
+fn words_ask_for_what_a_file_has(rt: HostRuntime) -> Result<(), Fail> {
+    for (line, shown) in SHOWN {
+        let words = words(rt.alloc(), line)?;
+        let Ok(arguments) = Arguments::parse(rt.alloc(), words.as_slice()) else {
+            return Err(Fail::from(line));
+        };
+        assert_eq!(rt; arguments.shown, shown);
     }
     Ok(())
 }

@@ -22,10 +22,12 @@ returns c =
     let fourth = c.text_option-4.ensures in
     let fifth = c.text_option-5.ensures in
     let sixth = c.text_option-6.ensures in
+    let seventh = c.text_option-7.ensures in
     let one = added _ _ _ _ _ c.new.ensures.app first.global first.rule c.in_ok-arg.ensures in
     let two = added _ _ _ _ _ one second.global second.rule c.in_ok-arg-2.ensures in
     let three = added _ _ _ _ _ two third.global third.rule c.in_ok-arg-3.ensures in
     let four = added _ _ _ _ _ three fourth.global fourth.rule c.in_ok-arg-4.ensures in
     let five = added _ _ _ _ _ four fifth.global fifth.rule c.in_ok-arg-5.ensures in
-    IfOk-weaker c.arg-6.result _ _
-    (λ command adds. added _ _ _ _ _ five sixth.global sixth.rule adds) c.arg-6.ensures
+    let six = added _ _ _ _ _ five sixth.global sixth.rule c.in_ok-arg-6.ensures in
+    IfOk-weaker c.arg-7.result _ _
+    (λ command adds. added _ _ _ _ _ six seventh.global seventh.rule adds) c.arg-7.ensures
