@@ -7,10 +7,13 @@ use crate::source::FileSource;
 use crate::system_file::SystemFile;
 use std::fs::{self, File};
 use std::io::{self, ErrorKind, Read, Write};
-use std::os::unix::fs::{FileExt, MetadataExt};
+use std::os::unix::fs::{FileExt, MetadataExt, OpenOptionsExt, fchown};
+
+/// The mode of a new draft: only its owner may read and write it.
+const PRIVATE: u32 = 0o600;
 
 /// A file of `std::fs` that is open and locked. Its draft is in the same folder, and has the same
-/// name with `.new` added.
+/// name with `.new` added. The draft gets the permissions of the file, and its owner if that is allowed.
 #[derive(Drop)]
 pub struct StdFile<'a> {
     rt: &'a HostRuntime,
@@ -72,7 +75,18 @@ impl<'a> SystemFile for StdFile<'a> {
     }
 
     fn begin_draft(&mut self) -> io::Result<()> {
-        self.draft = Some(File::create(self.rt, &self.paths.draft)?);
+        let metadata = self.file.metadata()?;
+        // An earlier draft may be there, or none. A symbolic link there is not followed.
+        let _ = fs::remove_file(self.rt, &self.paths.draft);
+        let draft = File::options()
+            .write(true)
+            .create_new(true)
+            .mode(PRIVATE)
+            .open(self.rt, &self.paths.draft)?;
+        // Only root may give a file to somebody else.
+        let _ = fchown(&draft, Some(metadata.uid()), Some(metadata.gid()));
+        draft.set_permissions(metadata.permissions())?;
+        self.draft = Some(draft);
         Ok(())
     }
 
