@@ -52,7 +52,8 @@ where
     requires fresh { F.taken source ≡ [] }
     ensures opened { IfOk result (λ disk.
         opened (F.Device.opening disk.journal.device) ≡ Some (disk_of disk.target)) }
-    ensures refused { IfErr result (CannotShow F.taken F.left file.entry) }
+    ensures refused { IfErr result
+        (CannotShow F.taken F.left F.failures source file.entry) }
 {
     match KeptDisk::open::<F>(alloc, source) {
         Ok(disk) => Ok(disk),
