@@ -1,5 +1,5 @@
 -- A disk that a file keeps, what the options say of it, and a script on it.
-use Rattle.std.specs.Prelude.{◌≡◌, ◌⊎◌, ℕ, ◌==◌, ◌&&◌, Bool, true, false, not, Option, None, Some}
+use Rattle.std.specs.Prelude.{◌≡◌, ◌⊎◌, ◌<◌, ℕ, ◌==◌, ◌&&◌, Bool, true, false, not, Option, None, Some}
 use Rattle.std.specs.Prelude.{List, Result, Ok, Err, if◌then◌else◌}
 use Rattle.std.specs.Borrow.{Bor}
 use Rattle.sg_wire.specs.Profile.{is_in}
@@ -10,7 +10,9 @@ use Rattle.sg_kept.specs.Kept.{powered}
 use Rattle.sg_kept.specs.Opened.{opened}
 use Rattle.sg_kept.specs.declared.disk.KeptDisk.{KeptDisk}
 use Rattle.sg_kept.specs.declared.opening.MakeError.{MakeError}
+use Rattle.sg_kept.specs.Refused.{IsTrueOf}
 use Rattle.sg_kept.specs.declared.opening.OpenDiskError.{OpenDiskError}
+use Rattle.sg_kept.specs.declared.opening.OpenDiskError.TheVariants.{Device}
 use Rattle.sg_run.specs.ScriptRun.{Snapshot}
 use Rattle.sg_target.specs.Armed.{Armed}
 use Rattle.sg_target.specs.Config.{ConfigFields}
@@ -68,11 +70,22 @@ abbrev pub IsNotMade : (name : Bor (List ℕ)) → DiskOptions → Stop → Type
 IsNotMade name options stop =
     (config_of options ≡ Err stop) ⊎ ((error : MakeError) × (stop ≡ stop_of_making name error))
 
--- Why no disk was opened: the file has none, or its disk is not what an option says.
-abbrev pub IsNotOpened : (name : Bor (List ℕ)) → DiskOptions → Stop → Type 0
-IsNotOpened name options stop =
-    ((error : OpenDiskError) × (stop ≡ stop_of_disk name error))
-    ⊎ ((disk : State) × (checked_against options disk ≡ Err stop))
+-- The file has no disk: the error is true of the file, and decides the stop. A device is named only if it
+-- has failed since the file was opened.
+pub record HasNoDisk {F : Type 0} (taken : F → List ℕ) (left failures : F → ℕ) (source : F)
+    (name : Bor (List ℕ)) (stop : Stop) : Type 0 where
+  pub error : OpenDiskError
+  pub read : F
+  pub says : IsTrueOf error (taken read) (left read)
+  pub cause : error ≡ Device → failures source < failures read
+  pub stop_is : stop ≡ stop_of_disk name error
+
+-- The disk of a file is not what an option says.
+pub record HasOtherDisk (options : DiskOptions) (stop : Stop) : Type 0 where
+  pub bytes : List ℕ
+  pub disk : Armed
+  pub found : opened bytes ≡ Some disk
+  pub differs : checked_against options disk.state ≡ Err stop
 
 -- ---- A script
 

@@ -1,14 +1,10 @@
 -- The text of `--show-disk` (docs/SCRIPT.md): what the file of a disk holds, one fact a line.
-use Rattle.std.specs.Prelude.{◌≡◌, ◌<◌, ℕ, ◌-◌, List, [], ◌++◌, codes, decimal, Bool, true, false}
+use Rattle.std.specs.Prelude.{ℕ, ◌-◌, List, [], ◌++◌, codes, decimal, Bool, true, false}
 use Rattle.std.specs.Prelude.{Option, Some, None}
-use Rattle.std.specs.Borrow.{Bor}
 use Rattle.std.specs.FinMap.{len}
 use Rattle.std.specs.Int.{to_be_bytes, w64}
 use Rattle.std.specs.List.{flat_map}
 use Rattle.hex.specs.Hex.{encode_lower}
-use Rattle.sg_kept.specs.Refused.{IsTrueOf}
-use Rattle.sg_kept.specs.declared.opening.OpenDiskError.{OpenDiskError}
-use Rattle.sg_kept.specs.declared.opening.OpenDiskError.TheVariants.{Device}
 use Rattle.sg_pages.specs.Identity.{IdentityFields}
 use Rattle.sg_pages.specs.ModePage.{byte_2}
 use Rattle.sg_pages.specs.declared.mode_pages.mode_page.PageValues.{PageValues}
@@ -28,8 +24,6 @@ use Rattle.sg_wire.specs.declared.lba_status.ProvisioningStatus.TheVariants.{Dea
 use Rattle.sg_wire.specs.declared.lba_status.StatusDescriptor.{StatusDescriptor}
 use Rattle.sg_wire.specs.declared.profile.Profile.{Profile}
 use Rattle.sg_wire.specs.declared.profile.Profile.TheVariants.{Base, Extended}
-use Rattle.sgrun.specs.Stops.{stop_of_disk}
-use Rattle.sgrun.specs.declared.stop.Stop.{Stop}
 
 -- ---- A line: two blanks, a label, a colon, a blank and a value
 
@@ -160,15 +154,3 @@ abbrev pub shown_disk : (length : ℕ) → Armed → List ℕ
 shown_disk length disk =
     facts length disk.state
     ++ (codes "FAULTS\n" ++ (faults_text disk.faults ++ block_lines disk.state.disk))
-
--- ---- Nothing is shown
-
--- The file has no disk: the error is true of the file, and decides the stop. A device is named only if it
--- has failed since the file was opened.
-pub record CannotShow {F : Type 0} (taken : F → List ℕ) (left failures : F → ℕ) (opened : F)
-    (name : Bor (List ℕ)) (stop : Stop) : Type 0 where
-  pub error : OpenDiskError
-  pub source : F
-  pub says : IsTrueOf error (taken source) (left source)
-  pub cause : error ≡ Device → failures opened < failures source
-  pub stop_is : stop ≡ stop_of_disk name error

@@ -1,5 +1,5 @@
 // Opens the disk that a file keeps, or makes it, and runs the script on it.
-ghost use Rattle.std.specs.Prelude.{◌≡◌, ◌<◌, [], false, IfErr, IfOk, OnOk, Ok, Err, Some};
+ghost use Rattle.std.specs.Prelude.{◌≡◌, ◌⊎◌, ◌<◌, [], false, IfErr, IfOk, OnOk, Ok, Err, Some};
 ghost use Rattle.sg_kept.specs.Disk.{IsAlive, IsDead, IsUsable};
 ghost use Rattle.sg_kept.specs.Kept.{powered};
 ghost use Rattle.sg_kept.specs.Opened.{opened};
@@ -9,10 +9,9 @@ ghost use Rattle.sg_target.specs.Target.{disk_of};
 ghost use Rattle.sg_wire.specs.Watched.{has_failed};
 ghost use Rattle.sgrun.specs.Arguments.{config_of};
 ghost use Rattle.sgrun.specs.Stops.{stop_of_disk};
-ghost use Rattle.sgrun.specs.declared.stop.Stop.{Stop};
 ghost use Rattle.sgrun.specs.declared.stop.Stop.TheVariants.{CannotWrite};
-ghost use Rattle.sgrun.specs.DiskInFile.{IsMade, IsNotMade, IsNotOpened, RunsOnKeptDisk};
-ghost use Rattle.sgrun.specs.DiskInFile.{checked_against};
+ghost use Rattle.sgrun.specs.DiskInFile.{HasNoDisk, HasOtherDisk, IsMade, IsNotMade};
+ghost use Rattle.sgrun.specs.DiskInFile.{RunsOnKeptDisk, checked_against};
 
 use crate::disk_options::DiskOptions;
 use crate::stop::{Stop, outcome_of_run};
@@ -54,34 +53,48 @@ where
 
     // The stop says which error there was.
     ensures not_made { F.left source ≡ 0 → IfErr result (IsNotMade file.entry options.now) }
-    ensures not_opened { 0 < F.left source → IfErr result (IsNotOpened file.entry options.now) }
+    ensures not_opened { 0 < F.left source → IfErr result (λ stop.
+        HasNoDisk F.taken F.left F.failures source file.entry stop ⊎ HasOtherDisk options.now stop) }
 {
     if source.left() == 0 {
         return make_disk(alloc, file, source, options);
     }
-    agreeing_disk(file, KeptDisk::open::<F>(alloc, source), options)
+    let disk = open_kept(alloc, file, source)?;
+    options.check(disk.target.config())?;
+    Ok(disk)
 }
 
-/// The disk that was opened, if it has what the options say.
+/// Opens the disk that a file keeps. Nothing is written.
 ///
 /// # Errors
-/// The stop of the error if no disk was opened, or of the first option that the disk does not agree with.
-fn agreeing_disk<'a, S: Store, D: Device + Drop, F: Source + Drop>(
+/// The file has no disk, memory was refused, or the file could not be read.
+pub(crate) fn open_kept<'a, S: Store, F: Source + Drop>(
+    alloc: Global,
+    file: &'a str,
+    source: F,
+) -> Result<KeptDisk<S, F::Device>, Stop<'a>>
+where
+    F::Device: Drop,
+    requires fresh { F.taken source ≡ [] }
+    ensures started { IfOk result (HasStarted F.Device.seen F.Device.may_leave) }
+    ensures opened { IfOk result (λ disk.
+        opened (F.Device.opening disk.journal.device) ≡ Some (disk_of disk.target)) }
+    ensures refused { IfErr result
+        (HasNoDisk F.taken F.left F.failures source file.entry) }
+{
+    found_disk(file, KeptDisk::open::<F>(alloc, source))
+}
+
+/// The disk that opening a file has found, or the stop of the error.
+fn found_disk<'a, S: Store, D: Device, F: Source + Drop>(
     file: &'a str,
     opening: Result<KeptDisk<S, D>, (OpenDiskError, F)>,
-    options: &DiskOptions,
 ) -> Result<KeptDisk<S, D>, Stop<'a>>
+    ensures found { IfOk opening (λ disk. result ≡ Ok disk) }
     ensures no_disk { IfErr opening (λ e. result ≡ Err (stop_of_disk file.entry e.0)) }
-    ensures differs { IfOk opening (λ disk. (stop : Stop) →
-        checked_against options.now (disk_of disk.target).state ≡ Err stop → result ≡ Err stop) }
-    ensures agrees { IfOk opening (λ disk.
-        checked_against options.now (disk_of disk.target).state ≡ Ok tt → result ≡ Ok disk) }
 {
     match opening {
-        Ok(disk) => {
-            options.check(disk.target.config())?;
-            Ok(disk)
-        }
+        Ok(disk) => Ok(disk),
         Err((error, _)) => Err(Stop::of_disk(file, error)),
     }
 }

@@ -18,14 +18,14 @@ ghost use Rattle.sg_wire.specs.Watched.{has_failed};
 
 use arguments::Arguments;
 use disk_options::DiskOptions;
-use kept_disk::{open_disk, run_on_kept_disk};
+use kept_disk::{open_disk, open_kept, run_on_kept_disk};
 use new_disk::run_on_new_disk;
 use sg_extent_map::ExtentMap;
 use sg_file::{FileDevice, FileSource, StdFile};
 use sg_journal::Source;
 use sg_kept::KeptDisk;
 use sg_wire::Watched;
-use show_disk::{open_to_show, show_disk};
+use show_disk::show_disk;
 use std::env;
 use std::fs::File;
 use std::io::{Read, Write};
@@ -119,11 +119,7 @@ fn show_file<'a>(rt: &HostRuntime, file: &'a str) -> Result<u8, Stop<'a>> {
     open(rt, file)?;
     let source = open_source(rt, file)?;
     let length = source.left();
-    let mut disk: KeptDisk<ExtentMap, FileDevice<StdFile>> = open_to_show(
-        rt.alloc(),
-        file,
-        source,
-    )?;
+    let mut disk: KeptDisk<ExtentMap, FileDevice<StdFile>> = open_kept(rt.alloc(), file, source)?;
     show_disk(length, &mut disk, &mut Watched::new(rt.stdout()))?;
     Ok(0)
 }

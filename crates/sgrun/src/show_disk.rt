@@ -7,7 +7,7 @@ ghost use Rattle.sg_target.specs.Target.{disk_of};
 ghost use Rattle.sg_units.specs.ReservationType.{code_of};
 ghost use Rattle.sg_wire.specs.Printer.{PrintsText};
 ghost use Rattle.sg_wire.specs.Watched.{SendsText, has_failed};
-ghost use Rattle.sgrun.specs.ShownDisk.{CannotShow, block_lines, extent_line, facts, flag, hex_line};
+ghost use Rattle.sgrun.specs.ShownDisk.{block_lines, extent_line, facts, flag, hex_line};
 ghost use Rattle.sgrun.specs.ShownDisk.{held_reservation_line, holder_text, identity_lines, line};
 ghost use Rattle.sgrun.specs.ShownDisk.{name_line, number_line, page_lines, profile_name};
 ghost use Rattle.sgrun.specs.ShownDisk.{registration_line};
@@ -19,7 +19,7 @@ ghost use Rattle.sgrun.specs.declared.stop.Stop.TheVariants.{Write as WriteFault
 use crate::stop::Stop;
 use sg_changes::laws::runs_make_the_disk;
 use sg_decode::{GATHERED, put_number};
-use sg_journal::{Device, Source};
+use sg_journal::Device;
 use sg_kept::KeptDisk;
 use sg_pages::{Identity, PageValues};
 use sg_run::print_faults;
@@ -28,7 +28,6 @@ use sg_store::lba_status::{ProvisioningStatus, StatusDescriptor};
 use sg_target::Target;
 use sg_units::{Registration, Reservation, ReservationType, Reservations};
 use sg_wire::{Initiator, Printer, Profile, Watched};
-use std::alloc::Global;
 use std::io;
 use std::io::Write;
 
@@ -37,29 +36,6 @@ const WCE: u8 = 0x04;
 
 /// The most bytes that a mode page has after its first two.
 const LONGEST_PAGE: usize = 18;
-
-/// Opens the disk that a file keeps, to show it. Nothing is written.
-///
-/// # Errors
-/// The file has no disk, memory was refused, or the file could not be read.
-pub(crate) fn open_to_show<'a, S: Store, F: Source + Drop>(
-    alloc: Global,
-    file: &'a str,
-    source: F,
-) -> Result<KeptDisk<S, F::Device>, Stop<'a>>
-where
-    F::Device: Drop,
-    requires fresh { F.taken source ≡ [] }
-    ensures opened { IfOk result (λ disk.
-        opened (F.Device.opening disk.journal.device) ≡ Some (disk_of disk.target)) }
-    ensures refused { IfErr result
-        (CannotShow F.taken F.left F.failures source file.entry) }
-{
-    match KeptDisk::open::<F>(alloc, source) {
-        Ok(disk) => Ok(disk),
-        Err((error, _)) => Err(Stop::of_disk(file, error)),
-    }
-}
 
 /// Prints what an opened disk and its file hold. The file has `length` bytes.
 ///
