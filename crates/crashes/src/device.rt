@@ -157,6 +157,8 @@ impl Source for LoggedSource {
 
     ghost failures = { λ s. ⟦<MemorySource as Source>⟧.failures s.file };
 
+    ghost known = { λ s. ⟦<MemorySource as Source>⟧.known s.file };
+
     fn left(&self) -> u64 {
         self.file.left()
     }

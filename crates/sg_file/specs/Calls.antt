@@ -1,5 +1,5 @@
 -- The calls on a file, and the events by which they are noted.
-use Rattle.std.specs.Prelude.{ℕ, Bool, List, map, ◌==◌, if◌then◌else◌}
+use Rattle.std.specs.Prelude.{ℕ, Bool, List, [], map, ◌==◌, if◌then◌else◌}
 use Rattle.sg_journal.specs.Record.{Event}
 
 -- A call, and whether it succeeded. A `Read` is of the next bytes, before any other call.
@@ -31,3 +31,11 @@ call_of e = call_numbered e.call e.place e.succeeded e.bytes
 -- In the order of their events.
 abbrev pub calls : List Event → List Call
 calls events = map call_of events
+
+-- ---- Bytes
+
+-- The bytes that a call writes.
+abbrev pub bytes_of : Call → List ℕ
+bytes_of (Write at bytes ok) = bytes
+bytes_of (WriteDraft bytes ok) = bytes
+bytes_of _ = []

@@ -1,112 +1,69 @@
-// A file that is written. Each method makes one call of a system file, and then notes it with its
-// outcome.
-ghost use Rattle.std.specs.Prelude.{◌≡◌, ◌∷◌, true, false, Ok, IsErr};
-ghost use Rattle.sg_file.specs.Calls.{call_numbered, calls};
+// A file that is written, as a journal sees it.
+ghost use Rattle.std.specs.Prelude.{◌≡◌};
 ghost use Rattle.sg_file.specs.Moments.{counts_now, only_now};
 ghost use Rattle.sg_file.specs.History.{draft, failures, left_since, may_leave, moment, opening};
 ghost use Rattle.sg_file.specs.History.{seen};
 
 use crate::system_file::SystemFile;
-use sg_journal::{Device, DeviceError, Record};
+use sg_journal::{Device, DeviceError};
 
-// The numbers under which calls are noted.
-const WRITE: u64 = 1;
-
-const CUT: u64 = 2;
-
-const SYNC: u64 = 3;
-
-const BEGIN_DRAFT: u64 = 4;
-
-const WRITE_DRAFT: u64 = 5;
-
-const EXCHANGE: u64 = 6;
-
-/// A file that was read, and is written now. It makes the calls of a [`SystemFile`].
+/// A file that was read, and is written now. What a crash may leave of it follows from the calls of its
+/// [`SystemFile`].
 #[derive(Drop)]
 pub struct FileDevice<F: SystemFile> {
-    file: F,
-    // After a call has failed, no other is made: a sync can succeed although an earlier one has lost what
-    // it could not write.
-    failed: bool,
-    notes: Record,
+    /// The file that the calls go to.
+    pub file: F,
 }
 
 impl<F: SystemFile> FileDevice<F> {
     /// The device of a file that was read.
-    pub(crate) fn after_reading(file: F, notes: Record) -> FileDevice<F>
-        ensures { result.notes ≡ notes }
+    pub fn new(file: F) -> FileDevice<F>
+        ensures { result.file ≡ file }
     {
-        FileDevice {
-            file,
-            failed: false,
-            notes,
-        }
-    }
-
-    /// Notes a call, and returns its outcome.
-    fn noted(&mut self, call: u64, at: u64, ok: bool, bytes: &[u8]) -> Result<(), DeviceError>
-        ensures noted { calls self.new.notes.events
-            ≡ call_numbered call at ok bytes.now ∷ calls self.old.notes.events }
-        ensures ok { ok ≡ true → result ≡ Ok tt }
-        ensures err { ok ≡ false → IsErr result }
-    {
-        self.notes.note(&[call, at, u64::from(ok)], bytes);
-        if ok {
-            Ok(())
-        } else {
-            self.failed = true;
-            Err(DeviceError)
-        }
+        FileDevice { file }
     }
 }
 
 impl<F: SystemFile> Device for FileDevice<F> {
-    ghost seen = { λ f. seen (calls f.notes.events) };
+    ghost seen = { λ d. seen (F.calls d.file) };
 
-    ghost may_leave = { λ f. may_leave (calls f.notes.events) };
+    ghost may_leave = { λ d. may_leave (F.calls d.file) };
 
-    ghost moment = { λ f. moment (calls f.notes.events) };
+    ghost moment = { λ d. moment (F.calls d.file) };
 
-    ghost left_since = { λ f. left_since (calls f.notes.events) };
+    ghost left_since = { λ d. left_since (F.calls d.file) };
 
-    ghost failures = { λ f. failures (calls f.notes.events) };
+    ghost failures = { λ d. failures (F.calls d.file) };
 
-    ghost opening = { λ f. opening (calls f.notes.events) };
+    ghost opening = { λ d. opening (F.calls d.file) };
 
-    ghost draft = { λ f. draft (calls f.notes.events) };
+    ghost draft = { λ d. draft (F.calls d.file) };
 
-    ghost counts_now = { λ f t c le now. counts_now (calls f.notes.events) t c now };
+    ghost counts_now = { λ d t c le now. counts_now (F.calls d.file) t c now };
 
-    ghost only_now = { λ f c left. only_now (calls f.notes.events) c left };
+    ghost only_now = { λ d c left. only_now (F.calls d.file) c left };
 
     fn write_at(&mut self, at: u64, bytes: &[u8]) -> Result<(), DeviceError> {
-        let ok = !self.failed && self.file.write_all_at(at, bytes).is_ok();
-        self.noted(WRITE, at, ok, bytes)
+        self.file.write_all_at(at, bytes)
     }
 
     fn cut(&mut self, len: u64) -> Result<(), DeviceError> {
-        let ok = !self.failed && self.file.set_len(len).is_ok();
-        self.noted(CUT, len, ok, &[])
+        self.file.set_len(len)
     }
 
     fn sync(&mut self) -> Result<(), DeviceError> {
-        let ok = !self.failed && self.file.sync_data().is_ok();
-        self.noted(SYNC, 0, ok, &[])
+        self.file.sync_data()
     }
 
     fn begin_draft(&mut self) -> Result<(), DeviceError> {
-        let ok = !self.failed && self.file.begin_draft().is_ok();
-        self.noted(BEGIN_DRAFT, 0, ok, &[])
+        self.file.begin_draft()
     }
 
     fn write_draft(&mut self, bytes: &[u8]) -> Result<(), DeviceError> {
-        let ok = !self.failed && self.file.extend_draft(bytes).is_ok();
-        self.noted(WRITE_DRAFT, 0, ok, bytes)
+        self.file.extend_draft(bytes)
     }
 
     fn exchange(&mut self) -> Result<(), DeviceError> {
-        let ok = !self.failed && self.file.put_draft().is_ok();
-        self.noted(EXCHANGE, 0, ok, &[])
+        self.file.put_draft()
     }
 }

@@ -1,11 +1,12 @@
-//! A file of the operating system as the journal sees it. Each call of the system is noted with its
-//! outcome, and what a crash may leave follows from the notes. A proof cannot see the calls themselves:
-//! the lines of `device.rt`, `source.rt` and `std_file.rt` have to be read.
+//! A file as the journal sees it. A [`SystemFile`] has the calls on the file with their outcomes, and what a
+//! crash may leave follows from them. [`StdFile`] makes each call by `std::fs` and notes it. A proof cannot
+//! see the calls themselves: the lines of `open_file.rt` and `std_file.rt` have to be read.
 #![tactic(auto)]
 
 mod device;
 mod error;
 pub mod laws;
+mod open_file;
 mod paths;
 mod source;
 mod std_file;
@@ -26,7 +27,7 @@ mod tests {
 
     /// Reads a file of `into.len()` bytes.
     fn device_of<'a>(
-        mut source: FileSource<StdFile<'a>>,
+        mut source: FileSource<'a>,
         into: &mut [u8],
     ) -> Result<FileDevice<StdFile<'a>>, DeviceError> {
         if source.left() != into.len() as u64 {

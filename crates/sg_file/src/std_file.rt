@@ -1,25 +1,38 @@
-// A file of `std::fs`, for programs.
-ghost use Rattle.std.specs.Prelude.{◌≡◌, [], IfOk};
+// A file of `std::fs`, for programs. Each method makes one call, and then notes it with its outcome.
+ghost use Rattle.std.specs.Prelude.{◌≡◌, ◌∷◌, [], IfOk, OnOk, is_ok};
+ghost use Rattle.sg_file.specs.Calls.{call_numbered, calls};
+ghost use Rattle.sg_file.specs.Calls.Call.{Read};
 
 use crate::error::FileError;
-use crate::paths::Paths;
+use crate::open_file::OpenFile;
 use crate::source::FileSource;
 use crate::system_file::SystemFile;
-use std::fs::{self, File};
-use std::io::{self, ErrorKind, Read, Write};
-use std::os::unix::fs::{FileExt, MetadataExt, OpenOptionsExt, fchown};
+use sg_journal::{DeviceError, Record};
 
-/// The mode of a new draft: only its owner may read and write it.
-const PRIVATE: u32 = 0o600;
+// The numbers under which calls are noted.
+const READ: u64 = 0;
+
+const WRITE: u64 = 1;
+
+const CUT: u64 = 2;
+
+const SYNC: u64 = 3;
+
+const BEGIN_DRAFT: u64 = 4;
+
+const WRITE_DRAFT: u64 = 5;
+
+const EXCHANGE: u64 = 6;
 
 /// A file of `std::fs` that is open and locked. Its draft is in the same folder, and has the same
 /// name with `.new` added. The draft gets the permissions of the file, and its owner if that is allowed.
 #[derive(Drop)]
 pub struct StdFile<'a> {
-    rt: &'a HostRuntime,
-    paths: Paths,
-    file: File,
-    draft: Option<File>,
+    file: OpenFile<'a>,
+    // After a call has failed, no other is made: a sync can succeed although an earlier one has lost what
+    // it could not write.
+    failed: bool,
+    pub(crate) notes: Record,
 }
 
 impl<'a> StdFile<'a> {
@@ -31,81 +44,73 @@ impl<'a> StdFile<'a> {
     /// - `Busy` if another program or handle has the file open, or if it has put another file at the
     ///   path meanwhile.
     /// - `Io` if the system refuses a call.
-    pub fn open(rt: &'a HostRuntime, path: &str) -> Result<FileSource<StdFile<'a>>, FileError>
+    pub fn open(rt: &'a HostRuntime, path: &str) -> Result<FileSource<'a>, FileError>
         ensures { IfOk result (λ source. source.calls ≡ []) }
     {
-        let file = File::options()
-            .read(true)
-            .write(true)
-            .create(true)
-            .open(rt, path)?;
-        file.try_lock()?;
-        let metadata = file.metadata()?;
-        let at_path = fs::metadata(rt, path)?;
-        if metadata.dev() != at_path.dev() || metadata.ino() != at_path.ino() {
-            return Err(FileError::Busy);
-        }
-        file.sync_all()?;
-        let paths = Paths::of(rt, path)?;
+        let (file, len) = OpenFile::open(rt, path)?;
         let file = StdFile {
-            rt,
-            paths,
             file,
-            draft: None,
+            failed: false,
+            notes: Record::new(),
         };
-        Ok(FileSource::new(file, metadata.len()))
+        Ok(FileSource::new(file, len))
+    }
+
+    /// Reads the next bytes of the file, as many as `into` has.
+    pub(crate) fn read_exact(&mut self, into: &mut [u8]) -> Result<(), DeviceError>
+        ensures { calls self.new.notes.events
+            ≡ Read into.new (is_ok result) ∷ calls self.old.notes.events }
+    {
+        let ok = !self.failed && self.file.read_exact(into).is_ok();
+        self.noted(READ, 0, ok, into)
+    }
+
+    /// Notes a call, and returns its outcome.
+    fn noted(&mut self, call: u64, at: u64, ok: bool, bytes: &[u8]) -> Result<(), DeviceError>
+        ensures noted { calls self.new.notes.events
+            ≡ call_numbered call at (is_ok result) bytes.now ∷ calls self.old.notes.events }
+        ensures outcome { is_ok result ≡ ok }
+    {
+        self.notes.note(&[call, at, u64::from(ok)], bytes);
+        if ok {
+            Ok(())
+        } else {
+            self.failed = true;
+            Err(DeviceError)
+        }
     }
 }
 
 impl<'a> SystemFile for StdFile<'a> {
-    fn read_exact(&mut self, into: &mut [u8]) -> io::Result<()> {
-        self.file.read_exact(into)
+    ghost calls = { λ f. calls f.notes.events };
+
+    fn write_all_at(&mut self, at: u64, bytes: &[u8]) -> Result<(), DeviceError> {
+        let ok = !self.failed && self.file.write_all_at(at, bytes).is_ok();
+        self.noted(WRITE, at, ok, bytes)
     }
 
-    fn write_all_at(&mut self, at: u64, bytes: &[u8]) -> io::Result<()> {
-        self.file.write_all_at(bytes, at)
+    fn set_len(&mut self, len: u64) -> Result<(), DeviceError> {
+        let ok = !self.failed && self.file.set_len(len).is_ok();
+        self.noted(CUT, len, ok, &[])
     }
 
-    fn set_len(&mut self, len: u64) -> io::Result<()> {
-        self.file.set_len(len)
+    fn sync_data(&mut self) -> Result<(), DeviceError> {
+        let ok = !self.failed && self.file.sync_data().is_ok();
+        self.noted(SYNC, 0, ok, &[])
     }
 
-    fn sync_data(&mut self) -> io::Result<()> {
-        self.file.sync_data()
+    fn begin_draft(&mut self) -> Result<(), DeviceError> {
+        let ok = !self.failed && self.file.begin_draft().is_ok();
+        self.noted(BEGIN_DRAFT, 0, ok, &[])
     }
 
-    fn begin_draft(&mut self) -> io::Result<()> {
-        let metadata = self.file.metadata()?;
-        // An earlier draft may be there, or none. A symbolic link there is not followed.
-        let _ = fs::remove_file(self.rt, &self.paths.draft);
-        let draft = File::options()
-            .write(true)
-            .create_new(true)
-            .mode(PRIVATE)
-            .open(self.rt, &self.paths.draft)?;
-        // Only root may give a file to somebody else.
-        let _ = fchown(&draft, Some(metadata.uid()), Some(metadata.gid()));
-        draft.set_permissions(metadata.permissions())?;
-        self.draft = Some(draft);
-        Ok(())
+    fn extend_draft(&mut self, bytes: &[u8]) -> Result<(), DeviceError> {
+        let ok = !self.failed && self.file.extend_draft(bytes).is_ok();
+        self.noted(WRITE_DRAFT, 0, ok, bytes)
     }
 
-    fn extend_draft(&mut self, bytes: &[u8]) -> io::Result<()> {
-        match &mut self.draft {
-            Some(draft) => draft.write_all(bytes),
-            None => Err(io::Error::from(ErrorKind::NotFound)),
-        }
-    }
-
-    fn put_draft(&mut self) -> io::Result<()> {
-        let Some(draft) = self.draft.take() else {
-            return Err(io::Error::from(ErrorKind::NotFound));
-        };
-        draft.sync_all()?;
-        draft.try_lock()?;
-        fs::rename(self.rt, &self.paths.draft, &self.paths.file)?;
-        File::open(self.rt, &self.paths.folder)?.sync_all()?;
-        self.file = draft;
-        Ok(())
+    fn put_draft(&mut self) -> Result<(), DeviceError> {
+        let ok = !self.failed && self.file.put_draft().is_ok();
+        self.noted(EXCHANGE, 0, ok, &[])
     }
 }

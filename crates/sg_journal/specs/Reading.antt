@@ -58,6 +58,14 @@ abbrev pub IsFaulty : (taken : List ℕ) → (left : ℕ) → Fault → Type 0
 IsFaulty taken left fault =
     (rest : List ℕ) → length rest ≡ left → found (taken ++ rest) ≡ Err fault
 
+-- A file was read to its end, and has these bytes.
+pub record WasRead {F : Type 0} (known taken : F → List ℕ) (left : F → ℕ) (source : F) (file : List ℕ)
+    : Type 0 where
+  pub read : F
+  pub same : known read ≡ known source
+  pub all : left read ≡ 0
+  pub is : file ≡ taken read
+
 -- The error that the device failed is returned only if it failed during the call.
 pub record IsHonest {T : Type 0} (before now : ℕ) (result : Result T OpenError) : Type 0 where
   pub later : before ≤ now

@@ -138,6 +138,8 @@ impl Source for MemorySource {
 
     ghost failures = { λ s. 0 };
 
+    ghost known = { λ s. s.bytes.items };
+
     fn left(&self) -> u64 {
         (self.bytes.len() - self.read) as u64
     }

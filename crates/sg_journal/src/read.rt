@@ -31,6 +31,7 @@ pub(crate) enum Next {
 pub(crate) fn skip<F: Source>(source: &mut F, count: u64) -> Result<(), DeviceError>
     requires within { count ≤ F.left source.old }
     ensures taken { OnOk result (TookMore F.taken F.left source.old source.new count) }
+    ensures known { F.known source.new ≡ F.known source.old }
     ensures cause { HasCause (F.failures source.old) (F.failures source.new) result }
 {
     let mut buffer = [0; 4096];
@@ -52,6 +53,7 @@ fn read_header<F: Source>(source: &mut F) -> Result<usize, OpenError>
         × (length header ≡ 16) × (sector_of header ≡ Ok sector)) }
     ensures fault { (fault : Fault) → IsErrOf result (File fault) →
         IsFaulty (F.taken source.new) (F.left source.new) fault }
+    ensures known { F.known source.new ≡ F.known source.old }
     ensures honest { IsHonest (F.failures source.old) (F.failures source.new) result }
 {
     if source.left() < HEADER_LENGTH as u64 {
@@ -73,6 +75,7 @@ pub(crate) fn read_first_sector<F: Source>(source: &mut F) -> Result<Option<usiz
     ensures fits { F.left source.old < 2 ^ 64 }
     ensures fault { (fault : Fault) → IsErrOf result (File fault) →
         IsFaulty (F.taken source.new) (F.left source.new) fault }
+    ensures known { F.known source.new ≡ F.known source.old }
     ensures honest { IsHonest (F.failures source.old) (F.failures source.new) result }
 {
     if source.left() == 0 {
@@ -94,6 +97,7 @@ pub(crate) fn read_whole<F: Source>(source: &mut F, into: &mut [u8]) -> Result<b
         × (F.left source.new + length into.new ≡ F.left source.old)) }
     ensures none { IfOk result (λ whole. IsFalse whole →
         (source.new ≡ source.old) × (F.left source.old < length into.old)) }
+    ensures known { F.known source.new ≡ F.known source.old }
     ensures cause { HasCause (F.failures source.old) (F.failures source.new) result }
 {
     if source.left() < into.len() as u64 {
@@ -111,6 +115,7 @@ pub(crate) fn read_gate<F: Source>(
     requires { 0 < length gate.old }
     ensures read { IfOk result (λ tail.
         IsGateRead F.taken F.left source.old source.new (length gate.old) gate.new tail) }
+    ensures known { F.known source.new ≡ F.known source.old }
     ensures cause { HasCause (F.failures source.old) (F.failures source.new) result }
 {
     if !read_whole(source, gate)? {
@@ -136,6 +141,7 @@ pub(crate) fn read_body<F: Source>(
     requires room { MAX_BATCH + 16 + 2 * sector ≤ length body.old }
     ensures read { IfOk result (λ len.
         IsBodyRead F.taken F.left source.old source.new sector body.new len) }
+    ensures known { F.known source.new ≡ F.known source.old }
     ensures cause { HasCause (F.failures source.old) (F.failures source.new) result }
 {
     let (first, rest) = body.split_at_mut(sector);
@@ -181,6 +187,7 @@ pub(crate) fn read_batch<F: Source>(
         IsFaulty (F.taken source.new) (F.left source.new) fault }
     ensures total { OnOk result (length (F.taken source.new) + F.left source.new
         ≡ length (F.taken source.old) + F.left source.old) }
+    ensures known { F.known source.new ≡ F.known source.old }
     ensures honest { IsHonest (F.failures source.old) (F.failures source.new) result }
 {
     if let Some(tail) = read_gate(source, gate)? {

@@ -4,7 +4,7 @@ ghost use Rattle.std.specs.Prelude.{IfOk, IfErr, OnOk, IsErrOf, IsTrue, IsFalse,
 ghost use Rattle.std.specs.Prelude.{is_some, true};
 ghost use Rattle.sg_journal.specs.Device.{HasCause};
 ghost use Rattle.sg_journal.specs.Journal.{found};
-ghost use Rattle.sg_journal.specs.Reading.{HasEnded, HasFound, IsFaulty, IsHonest};
+ghost use Rattle.sg_journal.specs.Reading.{HasEnded, HasFound, IsFaulty, IsHonest, WasRead};
 ghost use Rattle.sg_journal.specs.JournalState.{HasBatches};
 ghost use Rattle.sg_journal.specs.declared.fault.Fault.{Fault};
 ghost use Rattle.sg_journal.specs.declared.reader.OpenError.TheVariants.{Device, File};
@@ -60,9 +60,11 @@ impl<F: Source + Drop> Reader<F> {
         requires fresh { F.taken source ≡ [] }
         ensures found { IfOk result (λ reader. HasFound F.taken F.left reader []) }
         ensures new { F.left source ≡ 0 → IfOk result (λ reader. reader.sector ≡ NEW_SECTOR) }
+        ensures known { IfOk result (λ reader. F.known reader.source ≡ F.known source) }
         ensures later { IfOk result (λ reader. F.failures source ≤ F.failures reader.source) }
         ensures fault { IfErr result (λ e. (fault : Fault) → e.0 ≡ File fault →
             IsFaulty (F.taken e.1) (F.left e.1) fault) }
+        ensures known_of_error { IfErr result (λ e. F.known e.1 ≡ F.known source) }
         ensures cause { IfErr result (λ e. e.0 ≡ Device → F.failures source < F.failures e.1) }
     {
         let mut source = source;
@@ -102,6 +104,7 @@ impl<F: Source + Drop> Reader<F> {
             F.left self.new.source < F.left self.old.source) }
         ensures fault { (fault : Fault) → IsErrOf result (File fault) →
             IsFaulty (F.taken self.new.source) (F.left self.new.source) fault }
+        ensures known { F.known self.new.source ≡ F.known self.old.source }
         ensures honest { IsHonest (F.failures self.old.source) (F.failures self.new.source) result }
 
         ensures batch { batch.new.sector ≡ batch.old.sector }
@@ -136,9 +139,12 @@ impl<F: Source + Drop> Reader<F> {
         ensures opening { IfOk result (λ j. F.Device.seen j.device ≡ F.Device.opening j.device) }
         ensures found { IfOk result (λ j. (bs : List (List ℕ)) → HasFound F.taken F.left self bs →
             found (F.Device.opening j.device) ≡ Ok bs) }
+        ensures all { IfOk result (λ j.
+            WasRead F.known F.taken F.left self.source (F.Device.opening j.device)) }
         ensures moment { IfOk result (λ j. F.Device.moment j.device ≡ 0) }
         ensures sector { IfOk result (λ j. j.sector ≡ self.sector) }
         ensures end { IfOk result (λ j. j.end ≡ self.end) }
+        ensures known_of_error { IfErr result (λ e. F.known e.1 ≡ F.known self.source) }
         ensures cause { IfErr result (λ e. F.failures self.source < F.failures e.1) }
     {
         let mut source = self.source;

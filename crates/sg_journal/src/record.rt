@@ -17,6 +17,9 @@ impl Model for Record {
     ghost also_owns = { λ _. ftrue };
 }
 
+// It has no bytes, and owns nothing.
+unsafe impl Send for Record {}
+
 impl Record {
     /// No calls.
     pub fn new() -> Record

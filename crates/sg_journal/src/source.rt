@@ -18,6 +18,9 @@ pub trait Source {
     /// How often the device failed.
     ghost failures: { Self → ℕ };
 
+    /// What is known of the file before it is read. No call changes that.
+    ghost known: { Self → List ℕ };
+
     /// The number of bytes that were not read yet.
     fn left(&self) -> u64
         ensures { result ≡ left self.now };
@@ -27,6 +30,7 @@ pub trait Source {
         requires { length into.old ≤ left self.old }
         ensures taken { OnOk result (taken self.new ≡ taken self.old ++ into.new) }
         ensures left { OnOk result (left self.new + length into.new ≡ left self.old) }
+        ensures known { known self.new ≡ known self.old }
         ensures cause { HasCause (failures self.old) (failures self.new) result };
 
     /// The device, after all was read.

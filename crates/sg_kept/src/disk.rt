@@ -314,4 +314,12 @@ impl<S: Store, D: Device> KeptDisk<S, D> {
     {
         self.execute_or_refuse(initiator, cdb, data_out, buf, true)
     }
+
+    /// The device has failed, as a caller has found out who makes its calls later. The disk is dead from
+    /// now on.
+    pub fn fail(&mut self)
+        ensures { self.new ≡ record self.old { is_dead = true } }
+    {
+        self.is_dead = true;
+    }
 }

@@ -1,7 +1,7 @@
 // The calls that give a disk in a file: one makes the file, and one opens it.
 ghost use Rattle.std.specs.Prelude.{◌≡◌, ◌≤◌, ◌<◌, ◌+◌, ◌^◌, ℕ, List, [], ◌∷◌, length, true, IfErr, IfOk};
 ghost use Rattle.std.specs.Prelude.{IsErrOf, OnOk, Some};
-ghost use Rattle.sg_journal.specs.Reading.{HasEnded, HasFound, IsFaulty};
+ghost use Rattle.sg_journal.specs.Reading.{HasEnded, HasFound, IsFaulty, WasRead};
 ghost use Rattle.sg_journal.specs.declared.fault.Fault.{Fault as JournalFault};
 ghost use Rattle.sg_journal.specs.declared.reader.OpenError.TheVariants.{File as FileFaulty};
 ghost use Rattle.sg_journal.specs.declared.reader.OpenError.TheVariants.{Device as ReadingFailed};
@@ -250,6 +250,7 @@ fn replay_rest<F: Source + Drop, S: Store>(
     ensures read { OnOk result ((number : ℕ) × HasRead F.taken F.left reader.new number parts.new) }
     ensures steady { OnOk result (IsSteady parts.new) }
     ensures says { IfErr result (λ e. IsTrueOf e (F.taken reader.new.source) (F.left reader.new.source)) }
+    ensures known { F.known reader.new.source ≡ F.known reader.old.source }
     ensures later { F.failures reader.old.source ≤ F.failures reader.new.source }
     ensures cause { IsErrOf result DeviceFailed →
         F.failures reader.old.source < F.failures reader.new.source }
@@ -285,6 +286,7 @@ fn read_parts<F: Source + Drop, S: Store>(
     ensures read { IfOk result (λ parts. (number : ℕ) × HasRead F.taken F.left reader.new number parts) }
     ensures steady { IfOk result IsSteady }
     ensures says { IfErr result (λ e. IsTrueOf e (F.taken reader.new.source) (F.left reader.new.source)) }
+    ensures known { F.known reader.new.source ≡ F.known reader.old.source }
     ensures later { F.failures reader.old.source ≤ F.failures reader.new.source }
     ensures cause { IsErrOf result DeviceFailed →
         F.failures reader.old.source < F.failures reader.new.source }
@@ -311,6 +313,7 @@ fn read_disk<F: Source + Drop, S: Store>(
         × HasRead F.taken F.left reader.new number disk.parts) }
     ensures steady { IfOk result (λ disk. IsSteady disk.parts) }
     ensures says { IfErr result (λ e. IsTrueOf e (F.taken reader.new.source) (F.left reader.new.source)) }
+    ensures known { F.known reader.new.source ≡ F.known reader.old.source }
     ensures later { F.failures reader.old.source ≤ F.failures reader.new.source }
     ensures cause { IsErrOf result DeviceFailed →
         F.failures reader.old.source < F.failures reader.new.source }
@@ -374,10 +377,14 @@ impl<S: Store, D: Device + Drop> KeptDisk<S, D> {
         ensures started { IfOk result (HasStarted D.seen D.may_leave) }
         ensures opened { IfOk result (λ disk. opened (D.opening disk.journal.device)
             ≡ Some (disk_of disk.target)) }
+        // The file was read to its end.
+        ensures read { IfOk result (λ disk.
+            WasRead F.known F.taken F.left source (D.opening disk.journal.device)) }
         ensures short { IfOk result (λ _. F.left source ≤ longest_file) }
 
         // An error says what is true of the file, whatever is still to be read of it.
         ensures says { IfErr result (λ e. IsTrueOf e.0 (F.taken e.1) (F.left e.1)) }
+        ensures known { IfErr result (λ e. F.known e.1 ≡ F.known source) }
         // A file that stands for a disk is refused only for its length, or if memory or the device fails.
         ensures refused { IfErr result (λ e. IsOfBytes e.0 → IsNoDisk (F.taken e.1) (F.left e.1)) }
         ensures cause { IfErr result (λ e. e.0 ≡ DeviceFailed → F.failures source < F.failures e.1) }

@@ -125,10 +125,7 @@ fn show_file<'a>(rt: &HostRuntime, file: &'a str) -> Result<u8, Stop<'a>> {
 }
 
 /// Opens the file of a disk.
-fn open_source<'a, 'r>(
-    rt: &'r HostRuntime,
-    file: &'a str,
-) -> Result<FileSource<StdFile<'r>>, Stop<'a>>
+fn open_source<'a, 'r>(rt: &'r HostRuntime, file: &'a str) -> Result<FileSource<'r>, Stop<'a>>
     ensures { IfOk result (λ source. source.calls ≡ []) }
 {
     match StdFile::open(rt, file) {

@@ -22,6 +22,7 @@ loop-error-preserved g c =
         files = filed-push s.batches bytes c.loop-error.parts c.replay.new.self s.files replays;
       };
       room = omega (arith, c.loop-error.invariant.room, c.in-Ok-true.ensures.less c.in-Ok-true.field-0-test);
+      known = c.next.ensures.known ∙ c.loop-error.invariant.known;
       later = omega (arith, c.loop-error.invariant.later, c.next.ensures.honest.later);
       steady = steady-replayed c.kept_stays_sound.ensures bytes c.loop-error.parts c.replay.new.self
           c.loop-error.invariant.steady replays;

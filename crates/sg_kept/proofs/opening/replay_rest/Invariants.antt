@@ -6,6 +6,7 @@ abbrev pub invariant-loop-error : goal.invariant-loop-error
 invariant-loop-error g l = record {
   read : HasRead g.F.Source.taken g.F.Source.left l.reader l.number l.parts;
   room : l.number + g.F.Source.left l.reader.source < 2 ^ 64;
+  known : g.F.Source.known l.reader.source ≡ g.F.Source.known l.fn.reader.source;
   later : g.F.Source.failures l.fn.reader.source ≤ g.F.Source.failures l.reader.source;
   steady : IsSteady l.parts;
   sector : l.batch.sector ≡ l.reader.sector;

@@ -36,3 +36,13 @@ returns-clause-opened g c =
     opened-is (g.D.Device.opening c.in-Ok-into_journal.journal.device) read.batches made.disk.parts
     (c.in-Ok-into_journal.ensures.found read.batches read.found) read.files
     ∙ ap Some (sym c.target_of.ensures.disk)
+
+pub returns-clause-read : goal.returns-clause-read
+returns-clause-read g c =
+    let all = c.in-Ok-into_journal.ensures.all in
+    record {
+      read = all.read;
+      same = all.same ∙ (c.in-Ok-read_disk.ensures.known ∙ c.in-Ok.ensures.known);
+      all = all.all;
+      is = all.is;
+    }
