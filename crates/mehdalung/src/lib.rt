@@ -1,15 +1,19 @@
 //! The disk for programs in other languages: each function is one of C, which
 //! `embed/mehdalung.h` describes, and is carried out by its namesake of `sg_embed`.
 //!
-//! `embed/mehdalung.c` tests the pointers of C, and calls these.
+//! `embed/mehdalung.c` tests the pointers of C, and calls these. It makes the calls on a disk's file that
+//! wait after one of them.
 #![tactic(auto)]
+
+mod file;
 
 ghost use Rattle.std.specs.Prelude.{◌≡◌, ◌≢◌, None, Some, IfOk, MatchOption, Ok, IfErr, length};
 ghost use Rattle.sg_pages.specs.NewIdentity.{identity_of_seed, standard_identity};
 ghost use Rattle.sg_tools.specs.ExitStatus.{exit_status};
 ghost use Rattle.sg_wire.specs.SenseReading.{read_sense};
-ghost use Rattle.sg_embed.specs.Executed.{HasUndergone, IsAnswered, IsForgotten, disk_config};
-ghost use Rattle.sg_embed.specs.Executed.{new_disk, registrants};
+ghost use Rattle.sg_embed.specs.Ends.{done_outcome, ends, executed_outcome};
+ghost use Rattle.sg_embed.specs.Executed.{HasUndergone, IsAnswered, IsForgotten, IsUnchanged};
+ghost use Rattle.sg_embed.specs.Executed.{disk_config, new_disk, registrants};
 ghost use Rattle.sg_embed.specs.Happening.{asked_happening};
 ghost use Rattle.sg_embed.specs.Outcome.{IsCodeUnlessOutOfMemory, execute_outcome, happen_outcome};
 ghost use Rattle.sg_embed.specs.Outcome.{forget_outcome, make_as_outcome, make_outcome};
@@ -154,7 +158,7 @@ pub extern "C" fn mehdalung_free(alloc: Global, disk: &mut Slot)
     *disk = Slot::empty(alloc);
 }
 
-/// Executes a command.
+/// Executes a command. Calls on the disk's file may wait after it.
 #[unsafe(no_mangle)]
 pub extern "C" fn mehdalung_execute(
     disk: &mut Slot,
@@ -164,38 +168,44 @@ pub extern "C" fn mehdalung_execute(
     data_in: &mut [u8],
     reply: &mut ReplyRecord,
 ) -> u32
-    ensures outcome { result ≡ outcome_code
-        (execute_outcome disk.old.held initiator cdb.now data_out.now (length data_in.old)) }
-    ensures executed { result ≡ 0 → IsAnswered initiator cdb.now data_out.now
+    ensures outcome { result ≡ outcome_code (ends (execute_outcome disk.old.held initiator cdb.now
+        data_out.now (length data_in.old)) executed_outcome disk.new.held) }
+    ensures executed { execute_outcome disk.old.held initiator cdb.now data_out.now
+        (length data_in.old) ≡ Outcome.Done → IsAnswered initiator cdb.now data_out.now
         disk.old.held disk.new.held data_in.old data_in.new reply.new }
 
     // If it is refused, it changes nothing.
-    ensures kept { result ≢ 0 → disk.new.held ≡ disk.old.held }
-    ensures untouched { result ≢ 0 → data_in.new ≡ data_in.old }
-    ensures silent { result ≢ 0 → reply.new ≡ reply.old }
+    ensures refused { execute_outcome disk.old.held initiator cdb.now data_out.now
+        (length data_in.old) ≢ Outcome.Done → IsUnchanged disk.old.held disk.new.held
+        data_in.old data_in.new reply.old reply.new }
 {
     let outcome = disk.execute(initiator, cdb, data_out, data_in, reply);
     outcome.code()
 }
 
-/// Takes the power of a disk away, and gives it back.
+/// Takes the power of a disk away, and gives it back. Calls on the disk's file may wait after it.
 #[unsafe(no_mangle)]
 pub extern "C" fn mehdalung_power_cycle(disk: &mut Slot) -> u32
-    ensures outcome { result ≡ outcome_code (happen_outcome disk.old.held (Ok Happening.Power)) }
-    ensures cycled { result ≡ 0 → HasUndergone Happening.Power disk.old.held disk.new.held }
-    ensures refused { result ≢ 0 → disk.new.held ≡ disk.old.held }
+    ensures outcome { result ≡ outcome_code
+        (ends (happen_outcome disk.old.held (Ok Happening.Power)) done_outcome disk.new.held) }
+    ensures cycled { happen_outcome disk.old.held (Ok Happening.Power) ≡ Outcome.Done
+        → HasUndergone Happening.Power disk.old.held disk.new.held }
+    ensures refused { happen_outcome disk.old.held (Ok Happening.Power) ≢ Outcome.Done
+        → disk.new.held ≡ disk.old.held }
 {
     disk.happen(Happening::Power).code()
 }
 
-/// Lets something happen to a disk.
+/// Lets something happen to a disk. Calls on the disk's file may wait after it.
 #[unsafe(no_mangle)]
 pub extern "C" fn mehdalung_happen(disk: &mut Slot, happening: &HappeningRecord) -> u32
-    ensures outcome { result
-        ≡ outcome_code (happen_outcome disk.old.held (asked_happening happening.now)) }
-    ensures happened { result ≡ 0 → IfOk (asked_happening happening.now)
+    ensures outcome { result ≡ outcome_code (ends
+        (happen_outcome disk.old.held (asked_happening happening.now)) done_outcome disk.new.held) }
+    ensures happened { happen_outcome disk.old.held (asked_happening happening.now) ≡ Outcome.Done
+        → IfOk (asked_happening happening.now)
         (λ asked. HasUndergone asked disk.old.held disk.new.held) }
-    ensures refused { result ≢ 0 → disk.new.held ≡ disk.old.held }
+    ensures refused { happen_outcome disk.old.held (asked_happening happening.now) ≢ Outcome.Done
+        → disk.new.held ≡ disk.old.held }
 {
     match happening.read() {
         Ok(asked) => disk.happen(asked).code(),
@@ -237,12 +247,16 @@ pub extern "C" fn mehdalung_registered(disk: &mut Slot, mask: &mut u32) -> u32
     }
 }
 
-/// Clears the unit attentions that are pending for an initiator whose port is gone.
+/// Clears the unit attentions that are pending for an initiator whose port is gone. Calls on the disk's
+/// file may wait after it.
 #[unsafe(no_mangle)]
 pub extern "C" fn mehdalung_forget(disk: &mut Slot, initiator: u32) -> u32
-    ensures outcome { result ≡ outcome_code (forget_outcome disk.old.held initiator) }
-    ensures forgotten { result ≡ 0 → IsForgotten initiator disk.old.held disk.new.held }
-    ensures refused { result ≢ 0 → disk.new.held ≡ disk.old.held }
+    ensures outcome { result ≡ outcome_code
+        (ends (forget_outcome disk.old.held initiator) done_outcome disk.new.held) }
+    ensures forgotten { forget_outcome disk.old.held initiator ≡ Outcome.Done
+        → IsForgotten initiator disk.old.held disk.new.held }
+    ensures refused { forget_outcome disk.old.held initiator ≢ Outcome.Done
+        → disk.new.held ≡ disk.old.held }
 {
     disk.forget(initiator).code()
 }

@@ -1,5 +1,8 @@
 pub mod CommandLemmas
+pub mod FileDiskLemmas
+pub mod OpeningLemmas
 pub mod MaskLemmas
 pub mod RecordLemmas
+pub mod SlotFileLemmas
 pub mod SlotSteps
 mod InMemoryLemmas

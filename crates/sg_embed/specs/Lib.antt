@@ -6,9 +6,14 @@ pub mod Fault
 pub mod Happening
 pub mod Words
 pub mod Room
+pub mod FileDisk
 pub mod Served
+pub mod Ends
 pub mod Executed
 pub mod Records
+pub mod FileRecords
+pub mod Wanted
+pub mod Opening
 pub mod InMemory
 pub mod Structs
 pub mod Kinds

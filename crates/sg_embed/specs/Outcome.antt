@@ -1,6 +1,11 @@
 -- The outcome of each call, by the number that the header has for C.
 use Rattle.std.specs.Prelude.{◌≡◌, ◌⊎◌, ℕ, List, Option, None, Some, Result, Ok, Err, Bool, true, false}
-use Rattle.std.specs.Prelude.{if◌then◌else◌, not, nat_le, nat_lt}
+use Rattle.std.specs.Prelude.{if◌then◌else◌, is_some, not, nat_le, nat_lt}
+use Rattle.sg_journal.specs.declared.fault.Fault.TheVariants as journal_fault
+use Rattle.sg_kept.specs.declared.opening.MakeError.{MakeError}
+use Rattle.sg_kept.specs.declared.opening.MakeError.TheVariants as make_fault
+use Rattle.sg_kept.specs.declared.opening.OpenDiskError.{OpenDiskError}
+use Rattle.sg_kept.specs.declared.opening.OpenDiskError.TheVariants as open_fault
 use Rattle.sg_pages.specs.declared.identity.IdentityFault.{IdentityFault}
 use Rattle.sg_pages.specs.declared.identity.IdentityFault.TheVariants.{Text, Local}
 use Rattle.sg_wire.specs.Initiator.{initiator_count}
@@ -19,7 +24,7 @@ use Rattle.sg_run.specs.declared.request.text_fault.TextFault.TheVariants as tex
 use Rattle.sg_pages.specs.Identity.{IdentityFields}
 use Rattle.sg_embed.specs.Executed.{disk_config}
 use Rattle.sg_embed.specs.Room.{has_room_for}
-use Rattle.sg_embed.specs.Served.{target_of}
+use Rattle.sg_embed.specs.Served.{device_of, target_of}
 use Rattle.sg_embed.specs.declared.kept.Kept.{Kept}
 use Rattle.sg_embed.specs.declared.outcome.Outcome.{Outcome}
 use Rattle.sg_embed.specs.declared.outcome.Outcome.TheVariants.{Done, NoDisk, DiskExists}
@@ -32,9 +37,14 @@ use Rattle.sg_embed.specs.declared.outcome.Outcome.TheVariants.{UnknownProfile, 
 use Rattle.sg_embed.specs.declared.outcome.Outcome.TheVariants.{UnknownCondition}
 use Rattle.sg_embed.specs.declared.outcome.Outcome.TheVariants.{UnknownFault, SenseKey, FaultFlag}
 use Rattle.sg_embed.specs.declared.outcome.Outcome.TheVariants.{FaultNumber, TooManyFaults, UnknownVerb}
+use Rattle.sg_embed.specs.declared.outcome.Outcome.TheVariants.{FileFailed, NotADisk, OtherVersion}
+use Rattle.sg_embed.specs.declared.outcome.Outcome.TheVariants.{DamagedFile, FileTooLong, OtherProfile}
+use Rattle.sg_embed.specs.declared.outcome.Outcome.TheVariants.{OtherBlocks, OtherPool, OtherIdentity}
+use Rattle.sg_embed.specs.declared.outcome.Outcome.TheVariants.{CallsWait, NoCall, NoFile}
 
 -- The numbers of the header. Number 10 is MDL_NULL_POINTER: the functions that test C's pointers
--- return it before any call that is defined here.
+-- return it before any call that is defined here. Numbers 28, MDL_FILE_BUSY, and 39, MDL_CANNOT_OPEN,
+-- are of files that the system does not lock or open: the functions of C that open files return them.
 abbrev pub outcome_code : Outcome → ℕ
 outcome_code Done = 0
 outcome_code NoDisk = 1
@@ -62,6 +72,18 @@ outcome_code FaultFlag = 23
 outcome_code FaultNumber = 24
 outcome_code TooManyFaults = 25
 outcome_code UnknownVerb = 26
+outcome_code FileFailed = 27
+outcome_code NotADisk = 29
+outcome_code OtherVersion = 30
+outcome_code DamagedFile = 31
+outcome_code FileTooLong = 32
+outcome_code OtherProfile = 33
+outcome_code OtherBlocks = 34
+outcome_code OtherPool = 35
+outcome_code OtherIdentity = 36
+outcome_code CallsWait = 37
+outcome_code NoCall = 38
+outcome_code NoFile = 40
 
 -- A call asks for memory before it ends with this outcome.
 abbrev pub has_asked : Outcome → Bool
@@ -100,6 +122,22 @@ abbrev checked_outcome : Result ConfigFields ConfigFault → Outcome
 checked_outcome (Ok config) = Done
 checked_outcome (Err fault) = config_outcome fault
 
+-- The outcome of a file that is not opened. A file without a batch was never completely made.
+abbrev pub opening_outcome : OpenDiskError → Outcome
+opening_outcome open_fault.Memory = OutOfMemory
+opening_outcome open_fault.Device = FileFailed
+opening_outcome (open_fault.File journal_fault.NotADisk) = NotADisk
+opening_outcome (open_fault.File (journal_fault.OtherVersion version)) = OtherVersion
+opening_outcome (open_fault.File (journal_fault.Damaged at)) = DamagedFile
+opening_outcome open_fault.Unmade = NotADisk
+opening_outcome (open_fault.Damaged batch offset) = DamagedFile
+opening_outcome open_fault.TooLong = FileTooLong
+
+-- The outcome of a disk that is not made in an empty file.
+abbrev pub making_outcome : MakeError → Outcome
+making_outcome make_fault.Memory = OutOfMemory
+making_outcome make_fault.Device = FileFailed
+
 -- The outcome of making a disk, unless memory is refused.
 abbrev pub make_outcome : Option Kept → ConfigFields → Outcome
 make_outcome (Some disk) config = DiskExists
@@ -122,6 +160,11 @@ abbrev pub execute_outcome : Option Kept → (initiator : ℕ) → (cdb data_out
 execute_outcome held initiator cdb data_out room =
     if not (nat_lt initiator initiator_count) then UnknownInitiator
     else room_outcome held initiator cdb data_out room
+
+-- The outcome of a call that needs a disk in a file.
+abbrev pub file_outcome : Option Kept → Outcome
+file_outcome None = NoDisk
+file_outcome (Some disk) = if is_some (device_of disk.target) then Done else NoFile
 
 -- The outcome of forgetting an initiator's port. The initiator is checked first.
 abbrev pub forget_outcome : Option Kept → (initiator : ℕ) → Outcome
@@ -173,3 +216,9 @@ plan_outcome text room =
 abbrev pub outcome_of : {T : Type 0} → Result T Outcome → Outcome
 outcome_of (Ok value) = Done
 outcome_of (Err outcome) = outcome
+
+-- What holds by the outcome that has a number.
+pub record ByOutcome (P : Outcome → Type 0) (code : ℕ) : Type 0 where
+  pub outcome : Outcome
+  pub number : code ≡ outcome_code outcome
+  pub holds : P outcome

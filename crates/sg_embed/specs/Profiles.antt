@@ -1,6 +1,7 @@
 -- The profile of a new disk: its number in the header, and the identity that a disk of it has.
 use Rattle.std.specs.Prelude.{ℕ, Bool, true, false, List, [], ◌∷◌, Option, Some, None, Result, Ok}
-use Rattle.std.specs.Prelude.{Err, slice_get}
+use Rattle.std.specs.Prelude.{Err, ◌&&◌, not, slice_get}
+use Rattle.sg_wire.specs.Profile.{is_in}
 use Rattle.sg_wire.specs.declared.profile.Profile.{Profile}
 use Rattle.sg_wire.specs.declared.profile.Profile.TheVariants.{Base, Extended}
 use Rattle.sg_pages.specs.Identity.{IdentityFields}
@@ -30,12 +31,15 @@ abbrev pub profile_numbered : ℕ → Option NumberedProfile
 profile_numbered number = slice_get profiles number
 
 -- The names of an identity, with what a number says of the disk.
-abbrev pub with_profile : NumberedProfile → Result IdentityFields IdentityFault
-    → Result IdentityFields Outcome
-with_profile numbered (Ok names) = Ok (record names {
+abbrev pub of_profile : NumberedProfile → IdentityFields → IdentityFields
+of_profile numbered names = record names {
   profile = numbered.profile;
   takes_short_data_out = numbered.takes_short_data_out;
-})
+}
+
+abbrev pub with_profile : NumberedProfile → Result IdentityFields IdentityFault
+    → Result IdentityFields Outcome
+with_profile numbered (Ok names) = Ok (of_profile numbered names)
 with_profile numbered (Err fault) = Err (identity_outcome fault)
 
 abbrev pub with_known_profile : Option NumberedProfile → Result IdentityFields IdentityFault
@@ -48,3 +52,13 @@ with_known_profile (Some numbered) identity = with_profile numbered identity
 abbrev pub identity_with_profile : (number : ℕ) → Result IdentityFields IdentityFault
     → Result IdentityFields Outcome
 identity_with_profile number identity = with_known_profile (profile_numbered number) identity
+
+abbrev is_same : Bool → Bool → Bool
+is_same true b = b
+is_same false b = not b
+
+-- A disk is what a number says.
+abbrev pub has_profile : NumberedProfile → (disk : IdentityFields) → Bool
+has_profile numbered disk =
+    is_same (is_in Extended numbered.profile) (is_in Extended disk.profile)
+    && is_same numbered.takes_short_data_out disk.takes_short_data_out

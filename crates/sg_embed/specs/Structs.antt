@@ -5,6 +5,9 @@ use mir.Mem.{Cell}
 use Rattle.sg_embed.specs.InMemory.{number, bytes, flag, padding}
 use Rattle.sg_embed.specs.declared.command.CommandRecord.{CommandRecord}
 use Rattle.sg_embed.specs.declared.fault.FaultRecord.{FaultRecord}
+use Rattle.sg_embed.specs.declared.file_record.DamageRecord.{DamageRecord}
+use Rattle.sg_embed.specs.declared.file_record.FileCallRecord.{FileCallRecord}
+use Rattle.sg_embed.specs.declared.file_record.WantedRecord.{WantedRecord}
 use Rattle.sg_embed.specs.declared.happening.HappeningRecord.{HappeningRecord}
 use Rattle.sg_embed.specs.declared.record.IdentityRecord.{IdentityRecord}
 use Rattle.sg_embed.specs.declared.record.ReplyRecord.{ReplyRecord}
@@ -78,3 +81,26 @@ mdl_happening happening =
     ++ number 1 happening.number
     ++ padding 5
     ++ mdl_fault happening.fault
+
+abbrev pub mdl_damage : DamageRecord → List Cell
+mdl_damage damage = number 8 damage.batch ++ number 8 damage.offset
+
+-- ---- The structs of embed/mehdalung.c, for disks in files
+
+abbrev pub mdl_wanted : WantedRecord → List Cell
+mdl_wanted wanted =
+    number 8 wanted.blocks
+    ++ number 8 wanted.device
+    ++ number 4 wanted.pool
+    ++ number 4 wanted.profile
+    ++ number 4 wanted.has_identity
+    ++ padding 4
+    ++ mdl_identity wanted.identity
+
+abbrev pub mdl_call : FileCallRecord → List Cell
+mdl_call call =
+    number 4 call.kind
+    ++ padding 4
+    ++ number 8 call.place
+    ++ number 8 call.length
+    ++ number 8 call.device

@@ -1,4 +1,6 @@
 // The faults of the crates below as one enum, so that C has one number for each.
+use sg_journal::Fault;
+use sg_kept::{MakeError, OpenDiskError};
 use sg_pages::IdentityFault;
 use sg_run::{HappeningFault, TextFault};
 use sg_target::ConfigFault;
@@ -60,11 +62,37 @@ pub enum Outcome {
     TooManyFaults = 25,
     /// There is no word, or the first is no verb for something that happens to a disk.
     UnknownVerb = 26,
+    /// A call on the disk's file failed, now or earlier.
+    FileFailed = 27,
+    /// The file is not a disk, or it was never completely made. Number 28 stands for a file that
+    /// another program has, and number 39 for one that the system does not open. Only C returns them.
+    NotADisk = 29,
+    /// The file has another version of the format.
+    OtherVersion = 30,
+    /// A byte of the file is damaged, or a record.
+    DamagedFile = 31,
+    /// The file is longer than 2^60 bytes.
+    FileTooLong = 32,
+    /// The file's disk has another profile than was asked for.
+    OtherProfile = 33,
+    /// The file's disk has another number of blocks than was asked for.
+    OtherBlocks = 34,
+    /// The file's disk has another pool than was asked for.
+    OtherPool = 35,
+    /// The file's disk has other names than were asked for.
+    OtherIdentity = 36,
+    /// The call has done what it is for, and calls on the file wait. C makes them and returns
+    /// another number.
+    CallsWait = 37,
+    /// No call on the file waits.
+    NoCall = 38,
+    /// The disk is not in a file.
+    NoFile = 40,
 }
 
-ghost use Rattle.std.specs.Prelude.{◌≡◌};
-ghost use Rattle.sg_embed.specs.Outcome.{config_outcome, identity_outcome, outcome_code};
-ghost use Rattle.sg_embed.specs.Outcome.{text_outcome, tool_fault_outcome};
+ghost use Rattle.std.specs.Prelude.{◌≡◌, ◌≢◌};
+ghost use Rattle.sg_embed.specs.Outcome.{config_outcome, identity_outcome, making_outcome};
+ghost use Rattle.sg_embed.specs.Outcome.{opening_outcome, outcome_code, text_outcome, tool_fault_outcome};
 ghost use Rattle.sg_embed.specs.Words.{words_outcome};
 
 impl Outcome {
@@ -117,6 +145,33 @@ impl Outcome {
             HappeningFault::TooManyWords => Outcome::TooManyWords,
             HappeningFault::UnknownVerb => Outcome::UnknownVerb,
             HappeningFault::Usage => Outcome::Usage,
+        }
+    }
+
+    /// The outcome of a file that was not opened.
+    pub(crate) fn of_opening(error: OpenDiskError) -> Outcome
+        ensures value { result ≡ opening_outcome error }
+        ensures refused { result ≢ Outcome.Done }
+    {
+        match error {
+            OpenDiskError::Memory => Outcome::OutOfMemory,
+            OpenDiskError::Device => Outcome::FileFailed,
+            OpenDiskError::File(Fault::NotADisk) | OpenDiskError::Unmade => Outcome::NotADisk,
+            OpenDiskError::File(Fault::OtherVersion(_)) => Outcome::OtherVersion,
+            OpenDiskError::File(Fault::Damaged { .. }) => Outcome::DamagedFile,
+            OpenDiskError::Damaged { .. } => Outcome::DamagedFile,
+            OpenDiskError::TooLong => Outcome::FileTooLong,
+        }
+    }
+
+    /// The outcome of a disk that was not made in an empty file.
+    pub(crate) fn of_making(error: MakeError) -> Outcome
+        ensures value { result ≡ making_outcome error }
+        ensures refused { result ≢ Outcome.Done }
+    {
+        match error {
+            MakeError::Memory => Outcome::OutOfMemory,
+            MakeError::Device => Outcome::FileFailed,
         }
     }
 

@@ -1,6 +1,7 @@
 // The profiles of a disk, by the numbers that the header has for C.
 ghost use Rattle.std.specs.Prelude.{◌≡◌, ◌≢◌, IfErr};
-ghost use Rattle.sg_embed.specs.Profiles.{identity_with_profile, profile_numbered};
+ghost use Rattle.sg_embed.specs.Profiles.{has_profile, identity_with_profile, of_profile};
+ghost use Rattle.sg_embed.specs.Profiles.{profile_numbered};
 
 use crate::outcome::Outcome;
 use sg_pages::{Identity, IdentityFault};
@@ -13,6 +14,26 @@ pub(crate) struct NumberedProfile {
     profile: Profile,
     /// Whether it takes less data-out than a command needs.
     takes_short_data_out: bool,
+}
+
+impl NumberedProfile {
+    /// The names of an identity, for a disk of the profile.
+    pub(crate) fn of(self, names: Identity) -> Identity
+        ensures { result ≡ of_profile self names }
+    {
+        names
+            .with_profile(self.profile)
+            .with_short_data_out(self.takes_short_data_out)
+    }
+
+    /// Whether it is what a disk has.
+    pub(crate) fn is_of(self, disk: &Identity) -> bool
+        ensures { result ≡ has_profile self disk.now }
+    {
+        let is_extended = self.profile.has(Profile::Extended);
+        is_extended == disk.profile().has(Profile::Extended)
+            && self.takes_short_data_out == disk.takes_short_data_out()
+    }
 }
 
 const PROFILES: [NumberedProfile; 3] = [
@@ -46,17 +67,13 @@ pub fn identity_with_profile(
         return Err(Outcome::UnknownProfile);
     };
     match identity {
-        Ok(names) => Ok(
-            names
-                .with_profile(numbered.profile)
-                .with_short_data_out(numbered.takes_short_data_out),
-        ),
+        Ok(names) => Ok(numbered.of(names)),
         Err(fault) => Err(Outcome::of_identity(fault)),
     }
 }
 
 /// The profile with a number of the header.
-fn profile_numbered(number: u32) -> Option<NumberedProfile>
+pub(crate) fn profile_numbered(number: u32) -> Option<NumberedProfile>
     ensures { result ≡ profile_numbered number }
 {
     PROFILES.get(number as usize).copied()

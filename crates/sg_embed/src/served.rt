@@ -1,25 +1,32 @@
-// The target of a disk, over the store that serves the disk's profile.
+// What serves a disk: a target in memory, over the store of the disk's profile, or a disk in a file.
 ghost use Rattle.std.specs.Prelude.{◌≡◌, ◌≤◌, is_some, length, nat_le, IfNone, IfOk, IfSome};
 ghost use Rattle.sg_units.specs.Registrations.{registered_mask};
 ghost use Rattle.sg_target.specs.DataInBound.{longest_data_in, needed_buffer};
+ghost use Rattle.sg_embed.specs.Ends.{done_outcome, executed_outcome};
 ghost use Rattle.sg_embed.specs.Executed.{new_target};
 ghost use Rattle.sg_embed.specs.Room.{has_free_number, has_room_for};
-ghost use Rattle.sg_embed.specs.Served.{target_of, Executes, ForgetsPort, Undergoes};
+ghost use Rattle.sg_embed.specs.Served.{Executes, Fails, Flushes, ForgetsPort, HandsOut, Undergoes};
+ghost use Rattle.sg_embed.specs.Served.{device_of, target_of};
 
+use crate::file_disk::FileDisk;
+use crate::outcome::Outcome;
 use sg_block_map::BlockMap;
 use sg_extent_map::ExtentMap;
 use sg_faults::ArmedFault;
+use sg_queue::{QueuedCall, TooShort};
 use sg_target::{Config, Happening, Reply, Target};
 use sg_wire::{Initiator, Profile};
 use std::alloc::{AllocError, Global};
 
-/// A target over the store of its profile.
+/// A target over the store of its profile, or a disk in a file.
 #[derive(Drop)]
 pub enum Served {
     /// The base profile: a record for each run.
     Runs(Target<BlockMap>),
     /// The extended profile, whose pool can be far larger: a record for each extent.
     Extents(Target<ExtentMap>),
+    /// A disk in a file, of any profile: the profile is known only after the file was read.
+    InFile(FileDisk),
 }
 
 impl Served {
@@ -62,6 +69,7 @@ impl Served {
         match self {
             Served::Runs(target) => target.execute_within(initiator, cdb, data_out, buf),
             Served::Extents(target) => target.execute_within(initiator, cdb, data_out, buf),
+            Served::InFile(disk) => disk.execute_within(initiator, cdb, data_out, buf),
         }
     }
 
@@ -82,6 +90,7 @@ impl Served {
         match self {
             Served::Runs(target) => target.faults(),
             Served::Extents(target) => target.faults(),
+            Served::InFile(disk) => disk.target().faults(),
         }
     }
 
@@ -92,6 +101,7 @@ impl Served {
         match self {
             Served::Runs(target) => target.happen(happening),
             Served::Extents(target) => target.happen(happening),
+            Served::InFile(disk) => disk.happen(happening),
         }
     }
 
@@ -102,6 +112,7 @@ impl Served {
         match self {
             Served::Runs(target) => target.registered_mask(),
             Served::Extents(target) => target.registered_mask(),
+            Served::InFile(disk) => disk.target().registered_mask(),
         }
     }
 
@@ -112,6 +123,76 @@ impl Served {
         match self {
             Served::Runs(target) => target.forget(initiator),
             Served::Extents(target) => target.forget(initiator),
+            Served::InFile(disk) => disk.forget(initiator),
+        }
+    }
+
+    /// How a command ends that was executed: calls on the disk's file wait, or none.
+    #[inline(always)]
+    pub(crate) fn executed(&self) -> Outcome
+        ensures { result ≡ executed_outcome self.now }
+    {
+        match self {
+            Served::Runs(_) | Served::Extents(_) => Outcome::Done,
+            Served::InFile(disk) => disk.executed(),
+        }
+    }
+
+    /// How any other call ends that was carried out.
+    pub(crate) fn done(&self) -> Outcome
+        ensures { result ≡ done_outcome self.now }
+    {
+        match self {
+            Served::Runs(_) | Served::Extents(_) => Outcome::Done,
+            Served::InFile(disk) => disk.done(),
+        }
+    }
+
+    /// Writes all that was changed to the disk's file. Returns `false` if the disk is not in a file.
+    pub(crate) fn flush(&mut self) -> bool
+        ensures { Flushes self.old self.new result }
+    {
+        match self {
+            Served::Runs(_) | Served::Extents(_) => false,
+            Served::InFile(disk) => {
+                disk.flush();
+                true
+            }
+        }
+    }
+
+    /// The disk's file has failed. Returns the disk's reply to each command from now on. None if the disk is
+    /// not in a file.
+    pub(crate) fn fail(&mut self) -> Option<Reply>
+        ensures { Fails self.old self.new result }
+    {
+        match self {
+            Served::Runs(_) | Served::Extents(_) => None,
+            Served::InFile(disk) => Some(disk.fail()),
+        }
+    }
+
+    /// Hands out the oldest call on the disk's file that waits, and writes its bytes to the beginning of the
+    /// buffer. None if no call waits.
+    ///
+    /// # Errors
+    /// The buffer is shorter than the call's bytes.
+    pub(crate) fn next_call(&mut self, bytes: &mut [u8]) -> Result<Option<QueuedCall>, TooShort>
+        ensures { HandsOut bytes.old bytes.new self.old self.new result }
+    {
+        match self {
+            Served::Runs(_) | Served::Extents(_) => Ok(None),
+            Served::InFile(disk) => disk.next_call(bytes),
+        }
+    }
+
+    /// What C calls the device of the disk's file. None if the disk is not in a file.
+    pub(crate) fn device(&self) -> Option<u64>
+        ensures { result ≡ device_of self.now }
+    {
+        match self {
+            Served::Runs(_) | Served::Extents(_) => None,
+            Served::InFile(disk) => Some(disk.device()),
         }
     }
 }

@@ -68,7 +68,7 @@ impl Slot {
     }
 
     /// The disk where it is, if there is one.
-    fn kept(&mut self) -> Option<&mut Kept>
+    pub(crate) fn kept(&mut self) -> Option<&mut Kept>
         ensures* lends { sem 𝓛 (lends_kept self.entry result) }
         ensures value { option_map (λ kept. kept.now) result ≡ self.old.held }
     {
@@ -111,7 +111,8 @@ impl Drop for Slot {
 
 impl Slot {
     ghost use Rattle.std.specs.Prelude.{◌≢◌, ◌≡◌, length, Ok};
-    ghost use Rattle.sg_embed.specs.Executed.{HasUndergone, IsAnswered, IsForgotten};
+    ghost use Rattle.sg_embed.specs.Executed.{HasUndergone, IsAnswered, IsForgotten, IsUnchanged};
+    ghost use Rattle.sg_embed.specs.Ends.{done_outcome, ends, executed_outcome};
     ghost use Rattle.sg_embed.specs.Executed.{disk_config, new_disk, registrants};
     ghost use Rattle.sg_embed.specs.Outcome.{IsUnlessOutOfMemory, execute_outcome, forget_outcome};
     ghost use Rattle.sg_embed.specs.Outcome.{happen_outcome, make_outcome};
@@ -147,7 +148,8 @@ impl Slot {
     ///
     /// The outcome is the first that applies of an initiator that is not 0 to 7, no disk, and a
     /// buffer that is shorter than the data-in that the command asks for. With these outcomes
-    /// nothing is executed, and disk, buffer and reply are as they were.
+    /// nothing is executed, and disk, buffer and reply are as they were. Otherwise it is `CallsWait` if calls
+    /// on the disk's file wait after the command, or else `Done`.
     pub fn execute(
         &mut self,
         initiator: u32,
@@ -156,15 +158,16 @@ impl Slot {
         data_in: &mut [u8],
         reply: &mut ReplyRecord,
     ) -> Outcome
-        ensures outcome { result ≡ execute_outcome self.old.held initiator cdb.now data_out.now
-            (length data_in.old) }
-        ensures executed { result ≡ Outcome.Done → IsAnswered initiator cdb.now data_out.now
+        ensures outcome { result ≡ ends (execute_outcome self.old.held initiator cdb.now data_out.now
+            (length data_in.old)) executed_outcome self.new.held }
+        ensures executed { execute_outcome self.old.held initiator cdb.now data_out.now
+            (length data_in.old) ≡ Outcome.Done → IsAnswered initiator cdb.now data_out.now
             self.old.held self.new.held data_in.old data_in.new reply.new }
 
         // If it is refused, it changes nothing.
-        ensures kept { result ≢ Outcome.Done → self.new.held ≡ self.old.held }
-        ensures untouched { result ≢ Outcome.Done → data_in.new ≡ data_in.old }
-        ensures silent { result ≢ Outcome.Done → reply.new ≡ reply.old }
+        ensures refused { execute_outcome self.old.held initiator cdb.now data_out.now
+            (length data_in.old) ≢ Outcome.Done → IsUnchanged self.old.held self.new.held
+            data_in.old data_in.new reply.old reply.new }
     {
         let Some(initiator) = known_initiator(initiator) else {
             return Outcome::UnknownInitiator;
@@ -179,16 +182,19 @@ impl Slot {
             return Outcome::BufferTooShort;
         };
         reply.show(done);
-        Outcome::Done
+        kept.target.executed()
     }
 
-    /// Lets something happen to the disk. The disk stays as it was if the call returns another
-    /// outcome than `Done`.
+    /// Lets something happen to the disk, unless there is no disk, or no room for a fault. Then the
+    /// disk stays as it was. Otherwise the outcome is `FileFailed` if the disk's file has failed, or
+    /// `CallsWait` if calls on it wait, or else `Done`.
     pub fn happen(&mut self, happening: Happening) -> Outcome
-        ensures outcome { result ≡ happen_outcome self.old.held (Ok happening) }
-        ensures happened { result ≡ Outcome.Done
+        ensures outcome { result
+            ≡ ends (happen_outcome self.old.held (Ok happening)) done_outcome self.new.held }
+        ensures happened { happen_outcome self.old.held (Ok happening) ≡ Outcome.Done
             → HasUndergone happening self.old.held self.new.held }
-        ensures refused { result ≢ Outcome.Done → self.new.held ≡ self.old.held }
+        ensures refused { happen_outcome self.old.held (Ok happening) ≢ Outcome.Done
+            → self.new.held ≡ self.old.held }
     {
         let Some(kept) = self.kept() else {
             return Outcome::NoDisk;
@@ -197,7 +203,7 @@ impl Slot {
             return Outcome::TooManyFaults;
         }
         kept.target.happen(happening);
-        Outcome::Done
+        kept.target.done()
     }
 
     /// A mask of the initiators that are registered: bit i is set if initiator i is. None if there
@@ -224,14 +230,16 @@ impl Slot {
         }
     }
 
-    /// Clears the unit attentions that are pending for an initiator whose port is gone. The disk
-    /// stays as it was if the call returns another outcome than `Done`: an initiator that is not 0
-    /// to 7, or no disk.
+    /// Clears the unit attentions that are pending for an initiator whose port is gone, unless the
+    /// initiator is not 0 to 7, or there is no disk. Then the disk stays as it was. Otherwise the
+    /// outcome is as that of [`happen`](Slot::happen).
     pub fn forget(&mut self, initiator: u32) -> Outcome
-        ensures outcome { result ≡ forget_outcome self.old.held initiator }
-        ensures forgotten { result ≡ Outcome.Done
+        ensures outcome { result
+            ≡ ends (forget_outcome self.old.held initiator) done_outcome self.new.held }
+        ensures forgotten { forget_outcome self.old.held initiator ≡ Outcome.Done
             → IsForgotten initiator self.old.held self.new.held }
-        ensures refused { result ≢ Outcome.Done → self.new.held ≡ self.old.held }
+        ensures refused { forget_outcome self.old.held initiator ≢ Outcome.Done
+            → self.new.held ≡ self.old.held }
     {
         let Some(gone) = known_initiator(initiator) else {
             return Outcome::UnknownInitiator;
@@ -240,12 +248,12 @@ impl Slot {
             return Outcome::NoDisk;
         };
         kept.target.forget(gone);
-        Outcome::Done
+        kept.target.done()
     }
 
     /// Puts a disk into a slot without one. There is nothing to drop, which the compiler doesn't
     /// know.
-    fn put(&mut self, kept: Box<Kept>)
+    pub(crate) fn put(&mut self, kept: Box<Kept>)
         requires { self.old.held ≡ None }
         ensures { self.new.held ≡ Some kept.value }
     {
