@@ -1,4 +1,4 @@
-/* Mehdalung: a thin-provisioned SCSI disk in memory, with persistent reservations.
+/* Mehdalung: a thin-provisioned SCSI disk in memory or in a file, with persistent reservations.
  *
  * The disk itself is proved. A written definition gives the status, the sense data, the data-in and
  * the state afterwards, for every disk and every command. The functions do what this header says if
@@ -6,9 +6,10 @@
  *
  * Sizes are in bytes, unless a function says blocks. A block has 512 bytes.
  *
- * Memory. mdl_make and mdl_make_with_profile take all memory of a disk from malloc, and mdl_free
- * gives it back. mdl_tool and mdl_decode take memory for the time of the call. No other function
- * takes or frees any. You have to see to this:
+ * Memory. mdl_make, mdl_make_with_profile, mdl_open and mdl_open_device take all memory of a disk
+ * from malloc, and mdl_free and mdl_close give it back. mdl_tool and mdl_decode take memory for the
+ * time of the call. While a disk's file is written afresh, the call takes memory for the calls on the
+ * file. No other function takes or frees any. You have to see to this:
  *     - malloc, realloc and free belong to one allocator.
  *     - malloc and realloc align a block to each power of two up to 16 that divides its size. The
  *       allocators of glibc and musl do.
@@ -55,7 +56,15 @@ extern "C" {
  * UNMAP of 64 extents. */
 #define MDL_DATA_OUT_LENGTH 1032u
 
-/* The result of a call. If it is not MDL_OK, the call has changed nothing. */
+/* The most bytes of one call on a disk's file: 4 MiB of records, three sectors of at most 65,536
+ * bytes, and some more. */
+#define MDL_LONGEST_CALL 4395008u
+
+/* mdl_open and mdl_open_device take this in the place of a profile. A disk in a file may then have any. */
+#define MDL_ANY_PROFILE 0xFFFFFFFFu
+
+/* The result of a call. If it is not MDL_OK, the call has changed nothing, except with
+ * MDL_FILE_FAILED. */
 typedef enum mdl_error {
     MDL_OK = 0,
     MDL_NO_DISK = 1,            /* there is no disk: you made none, or you freed it */
@@ -85,7 +94,19 @@ typedef enum mdl_error {
                                    healed by writes */
     MDL_FAULT_NUMBER = 24,      /* the number of a fault is not 0 to 7 */
     MDL_FAULTS = 25,            /* a fault is armed under each number */
-    MDL_UNKNOWN_VERB = 26       /* there is no word, or the first is no verb of a happening */
+    MDL_UNKNOWN_VERB = 26,      /* there is no word, or the first is no verb of a happening */
+    MDL_FILE_FAILED = 27,       /* a call on the disk's file failed, now or earlier */
+    MDL_FILE_BUSY = 28,         /* another program has the file, or another disk of this one */
+    MDL_NOT_A_DISK = 29,        /* the file has something else, or it was not made to its end */
+    MDL_OTHER_VERSION = 30,     /* the file has another version of the format */
+    MDL_DAMAGED_FILE = 31,      /* a byte of the file is not what was written */
+    MDL_FILE_TOO_LONG = 32,     /* the file has more than 2^60 bytes */
+    MDL_OTHER_PROFILE = 33,     /* the file's disk has another profile than you asked for */
+    MDL_OTHER_BLOCKS = 34,      /* it has another number of blocks */
+    MDL_OTHER_POOL = 35,        /* it has a pool of another size */
+    MDL_OTHER_IDENTITY = 36,    /* it has another identity */
+    MDL_CANNOT_OPEN = 39,       /* the system refuses to open or to read the file: see errno */
+    MDL_NO_FILE = 40            /* the disk is not in a file */
 } mdl_error;
 
 /* A disk, or none. It begins as MDL_NONE. You own this variable. You do not read or write the field
@@ -172,7 +193,112 @@ mdl_error mdl_make_with_profile(mdl_disk *disk, uint32_t profile, uint64_t block
  * stays as it was. */
 mdl_error mdl_identity_of_seed(uint64_t seed, mdl_identity *identity);
 
-/* Frees a disk. Afterwards it is MDL_NONE. For null and MDL_NONE the call does nothing. */
+/* The calls on the file of a disk, for mdl_open_device. You own this variable, and it has to outlive the
+ * disk. Each function returns 0, or another number if the call failed. The library makes one call after
+ * another, and none after one has failed. Write them as follows:
+ *     write_at     Writes `length` bytes at an offset of the file, which gets longer if they end beyond it.
+ *     cut          Makes the file `length` bytes long, which is not longer than it is.
+ *     sync         Waits until all that was written to the file, and its length, survive a power failure.
+ *     begin_draft  Begins a second file, the draft, without bytes. An earlier draft is gone.
+ *     write_draft  Writes `length` bytes to the end of the draft.
+ *     exchange     Puts the draft in the place of the file, in one step. A power failure leaves the
+ *                  whole file or the whole draft. From then on the draft is the file.
+ *     close        The disk is gone. It may be null. It is called once, and mdl_device is not used again.
+ * A power failure in a call of `write_at` or `cut` may leave any bytes where the call writes or cuts, and
+ * no others. What was not synced may be there, or be lost, or be any bytes. */
+typedef struct mdl_device {
+    void *context; /* the first argument of each function */
+    int (*write_at)(void *context, uint64_t at, const uint8_t *bytes, size_t length);
+    int (*cut)(void *context, uint64_t length);
+    int (*sync)(void *context);
+    int (*begin_draft)(void *context);
+    int (*write_draft)(void *context, const uint8_t *bytes, size_t length);
+    int (*exchange)(void *context);
+    void (*close)(void *context);
+    uint8_t *room;      /* room for the bytes of a call, which the library writes */
+    size_t room_length; /* its length, at least MDL_LONGEST_CALL */
+} mdl_device;
+
+/* Where a file is damaged. */
+typedef struct mdl_damage {
+    uint64_t batch;  /* the number of the batch with the damaged record, from 0 on; or 2^64 - 1 if the
+                        damage is not in a record */
+    uint64_t offset; /* the offset of that record in its batch, or of the damage in the file; or, with
+                        MDL_OTHER_VERSION, the version */
+} mdl_damage;
+
+/* Opens the disk that a file keeps, as after power on. It has the blocks of the disk that was kept,
+ * its profile, identity, saved mode pages and armed faults; and its registrations and reservation, if
+ * they persist through a power loss (APTPL). `sgrun --disk` uses the same files.
+ *     disk      MDL_NONE, or a disk that you freed. Free it by mdl_close or mdl_free.
+ *     path      The call reads it, up to a zero. If there is no file, an empty one is made.
+ *     profile   one of mdl_profile, or MDL_ANY_PROFILE
+ *     blocks    the number of blocks, or 0 for any
+ *     pool      the size of the pool, or 0 for any
+ *     identity  The call reads it. Null means any.
+ *     damage    With MDL_DAMAGED_FILE and MDL_OTHER_VERSION the call writes it. Otherwise it may write
+ *               zeros. Null is allowed.
+ *
+ * An empty file becomes a new disk, as mdl_make_with_profile makes it. Then you have to give profile,
+ * blocks and pool, and a null identity means the standard one. Otherwise each value that you give has
+ * to be that of the disk. If the call fails, it has written nothing to the file, except with
+ * MDL_FILE_FAILED. A file that it has made is still there, and empty.
+ *
+ * What is in the file when a call returns. A new disk is in its file. A command that synchronizes the
+ * cache has put all that was changed so far into the file when mdl_execute returns. So has a command with FUA, one that saves mode
+ * pages, PERSISTENT RESERVE OUT, START STOP UNIT, and each command while WCE is 0. So have mdl_happen,
+ * mdl_power_cycle and mdl_flush. Other commands wait in memory. If the program or the machine stops,
+ * the file has the disk as after some first part of the commands, with all that was put there.
+ *
+ * What a failed call on the file does. The disk is dead: nothing more is written. The command
+ * that made the call ends with CHECK CONDITION, HARDWARE ERROR, 44h/00h, and without data-in, and so
+ * does each later one. mdl_execute returns MDL_OK all the same. mdl_happen, mdl_power_cycle,
+ * mdl_flush and mdl_close return MDL_FILE_FAILED. Open the file again to find out what it has.
+ *
+ * You have to see to this:
+ *     - Nobody else writes to the file. Its lock, flock(2), is advisory. It keeps out other calls of
+ *       mdl_open and `sgrun`.
+ *     - The file system keeps what fsync(2) and fdatasync(2) promise, and rename(2) replaces a file in one
+ *       step. The folder is writable: from time to time the file is written afresh beside it, to the same
+ *       path with ".new" at its end.
+ *     - A forked child does not use the disk. It keeps the lock until it executes another program or ends.
+ *
+ * The call takes memory for the whole file, and gives it back when it returns. The disk takes some 14 MB
+ * more than one in memory, and one descriptor or two, which are none of 0 to 2.
+ * Errors: MDL_NULL_POINTER, MDL_DISK_EXISTS, MDL_CANNOT_OPEN, MDL_FILE_BUSY, MDL_OUT_OF_MEMORY,
+ * MDL_FILE_TOO_LONG, or an error of mdl_open_device. The first that applies is returned, and `disk`
+ * stays as it was. With MDL_CANNOT_OPEN errno says why. It is EISDIR for a folder, and EINVAL for a device
+ * or a pipe. */
+mdl_error mdl_open(mdl_disk *disk, const char *path, uint32_t profile, uint64_t blocks,
+                   uint32_t pool, const mdl_identity *identity, mdl_damage *damage);
+
+/* Opens a disk as mdl_open does, in any file that you read and write yourself. The calls on it are made
+ * by this function, mdl_execute, mdl_happen, mdl_power_cycle, mdl_forget, mdl_flush and mdl_close, in
+ * their order and before the function returns. They may use another disk, and not this one.
+ *     device    The calls on the file. If the call fails, `close` is not called.
+ *     contents  length bytes, which the call reads: all that the file has. They may be null if `length`
+ *               is 0.
+ * The other arguments are those of mdl_open.
+ * Errors: MDL_NULL_POINTER, MDL_BUFFER_TOO_SHORT if the room of the device is too short,
+ * MDL_UNKNOWN_PROFILE, MDL_IDENTITY_TEXT, MDL_IDENTITY_LOCAL or MDL_DISK_EXISTS. For an empty file also
+ * MDL_BLOCKS, MDL_POOL, MDL_OUT_OF_MEMORY and MDL_FILE_FAILED. For another file MDL_NOT_A_DISK, MDL_OTHER_VERSION,
+ * MDL_DAMAGED_FILE, MDL_FILE_TOO_LONG and MDL_OUT_OF_MEMORY; and, if it has a disk, MDL_OTHER_PROFILE,
+ * MDL_OTHER_BLOCKS, MDL_OTHER_POOL or MDL_OTHER_IDENTITY. `disk` then stays as it was. */
+mdl_error mdl_open_device(mdl_disk *disk, mdl_device *device, const uint8_t *contents,
+                          size_t length, uint32_t profile, uint64_t blocks, uint32_t pool,
+                          const mdl_identity *identity, mdl_damage *damage);
+
+/* Puts all that was changed so far into the file. Errors: MDL_NULL_POINTER, MDL_NO_DISK, MDL_NO_FILE or
+ * MDL_FILE_FAILED. */
+mdl_error mdl_flush(mdl_disk *disk);
+
+/* Flushes a disk in a file, and closes the file. Then it frees the disk, whatever the result is.
+ * A disk in memory is only freed. Errors: MDL_NULL_POINTER, MDL_NO_DISK, or MDL_FILE_FAILED if the file
+ * may lack a part of what was changed. */
+mdl_error mdl_close(mdl_disk *disk);
+
+/* Frees a disk. Afterwards it is MDL_NONE. For null and MDL_NONE the call does nothing. A disk in a
+ * file is not flushed, as if the program had stopped, but its file is closed. */
 void mdl_free(mdl_disk *disk);
 
 /* Executes a command for an initiator, 0 to 7.
@@ -187,6 +313,9 @@ void mdl_free(mdl_disk *disk);
  * Errors: MDL_NULL_POINTER, MDL_NO_INITIATOR, MDL_NO_DISK or MDL_BUFFER_TOO_SHORT. The first that
  * applies is returned. The disk then executes nothing, and disk, buffer and reply stay as they
  * were.
+ *
+ * If a call on the disk's file fails, the reply is CHECK CONDITION, HARDWARE ERROR, 44h/00h, and
+ * reply->data_in_length is 0. Any bytes of the buffer may have changed then.
  *
  * A buffer of MDL_BUFFER_LENGTH bytes is long enough for every command. An empty buffer is long
  * enough for a command that a check refuses. Any other command needs as many bytes as it asks for:
@@ -207,7 +336,7 @@ mdl_error mdl_execute(mdl_disk *disk, uint32_t initiator, const uint8_t *cdb, si
 /* Takes the power of a disk away and gives it back. The blocks stay as they were. Registrations and
  * reservation stay if they persist through a power loss (APTPL). Otherwise they are gone. The saved
  * mode pages become the current ones, and PRGENERATION becomes 0. Only POWER ON is pending for each
- * initiator. Errors: MDL_NULL_POINTER or MDL_NO_DISK. */
+ * initiator. Errors: MDL_NULL_POINTER, MDL_NO_DISK or MDL_FILE_FAILED. */
 mdl_error mdl_power_cycle(mdl_disk *disk);
 
 /* What an armed fault does to a command, and where it meets the command:
@@ -323,7 +452,7 @@ typedef struct mdl_happening {
  * higher precedence is pending, it is not established. The precedence is 29h/00h, 29h/04h, 29h/02h,
  * 29h/03h, 29h/07h, from the highest to the lowest.
  *
- * Errors: the first of these that applies is returned, and the disk stays as it was.
+ * Errors: the first of these that applies is returned. The disk stays as it was, except with the last.
  *     MDL_NULL_POINTER        a pointer is null
  *     MDL_UNKNOWN_HAPPENING   no kind has the number
  *     MDL_UNKNOWN_CONDITION   no condition has the code, for MDL_ATTENTION
@@ -337,14 +466,16 @@ typedef struct mdl_happening {
  *     MDL_FAULT_NUMBER        the number of the fault is not 0 to 7, for MDL_DISARM
  *     MDL_BLOCKS              the number of blocks is not 1 to 2^40, for MDL_GROW
  *     MDL_NO_DISK             there is no disk
- *     MDL_FAULTS              a fault is armed under each number, for MDL_ARM */
+ *     MDL_FAULTS              a fault is armed under each number, for MDL_ARM
+ *     MDL_FILE_FAILED         a call on the disk's file failed, and the disk is dead */
 mdl_error mdl_happen(mdl_disk *disk, const mdl_happening *happening);
 
 /* Reads a happening from words, such as "nexus 0" or "fault medium 3/11/00 blocks 10 2 healed". The
  * first word is the verb: power, reset, nexus, grow, attention, fault or heal. The other words are
  * its operands, which docs/SCRIPT.md of the source lists. A line of a script has the same words, on
  * an extended disk. mdl_happen takes the record, for a disk of any profile. With this record it
- * returns no error except MDL_NO_DISK, MDL_FAULTS and, for a null disk, MDL_NULL_POINTER.
+ * returns no error except MDL_NO_DISK, MDL_FAULTS, MDL_FILE_FAILED and, for a null disk,
+ * MDL_NULL_POINTER.
  *     words      The call reads them, up to a zero. Blanks or tabs are between them.
  *     happening  The call writes it, with its fault.
  * Errors: MDL_NULL_POINTER, MDL_BAD_BYTE, MDL_TOO_MANY_WORDS, MDL_UNKNOWN_VERB or MDL_USAGE. The
@@ -375,7 +506,8 @@ mdl_error mdl_registered(mdl_disk *disk, uint32_t *mask);
 
 /* Clears the unit attentions of an initiator, 0 to 7, whose port is gone. So the next port with its
  * number begins without them. Everything else stays as it was, registrations and reservation too.
- * Errors: MDL_NULL_POINTER, MDL_NO_INITIATOR or MDL_NO_DISK. The first that applies is returned. */
+ * Errors: MDL_NULL_POINTER, MDL_NO_INITIATOR, MDL_NO_DISK or MDL_FILE_FAILED. The first that applies is
+ * returned. */
 mdl_error mdl_forget(mdl_disk *disk, uint32_t initiator);
 
 /* The fields of sense data. A missing field is 0. */
@@ -458,7 +590,8 @@ typedef struct mdl_command {
 /* Plans the command that the words of a tool ask for, such as "sg_vpd -p lbpv". The first word is
  * the name of a tool, such as sg_inq or sg_persist. The other words are its options. docs/SCRIPT.md
  * of the source lists both. A line of a script has the same words after an initiator. The call knows
- * the tools of an extended disk, too, whatever disk there is. mdl_execute sends the command, and mdl_decode prints its data-in.
+ * the tools of an extended disk, too, whatever disk there is. mdl_execute sends the command, and
+ * mdl_decode prints its data-in.
  *     words     The call reads them, up to a zero. Blanks or tabs are between them.
  *     data_out  data_out_length bytes, at least MDL_DATA_OUT_LENGTH. The call writes data-out to
  *               the first command->data_out_length of them. The bytes after these stay as they

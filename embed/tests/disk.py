@@ -1,5 +1,8 @@
 #!/usr/bin/env python3
 """Tries the parts of examples/python/mehdalung.py that the first minute does not use."""
+import os
+import tempfile
+
 from mehdalung import (BUSY, CHECK_CONDITION, GOOD, NO_REPLY, Disk, Error, FaultOutcome,
                        HappeningRecord, Kind, Profile, Refused, decode, identity,
                        identity_of_seed, read_happening, version)
@@ -17,6 +20,8 @@ def refusal(call, *arguments):
         return it.error
     except ValueError:
         return ValueError
+    except OSError as it:
+        return type(it)
     return None
 
 
@@ -157,6 +162,60 @@ for profile in Profile:
         assert disk.execute(0, INQUIRY).status == GOOD
 assert refusal(Disk, 64, 4, None, max(Profile) + 1) == Error.UNKNOWN_PROFILE
 assert refusal(Disk, 64, 4, None, 1 << 32) is ValueError
+
+
+WRITE_ONE = bytes.fromhex("2a000000000500000100")
+READ_ONE = bytes.fromhex("28000000000500000100")
+SYNCHRONIZE = bytes.fromhex("35000000000000000000")
+
+
+def block_of(disk):
+    """The block at address 5, read by initiator 1."""
+    assert disk.execute(1, TEST_UNIT_READY).status == CHECK_CONDITION
+    return disk.execute(1, READ_ONE).data_in
+
+
+with tempfile.TemporaryDirectory() as folder:
+    path = os.path.join(folder, "disk")
+    one, two, three = (bytes([byte]) * 512 for byte in (1, 2, 3))
+    assert refusal(Disk.open, path) == Error.UNKNOWN_PROFILE
+    with Disk.open(path, 64, 4, profile=Profile.EXTENDED) as disk:
+        assert codes(disk) == only(range(8), 0x29, 0x00)
+        assert disk.execute(0, WRITE_ONE, one).status == GOOD
+        assert refusal(Disk.open, path) == Error.FILE_BUSY
+    with Disk.open(path) as disk:
+        assert block_of(disk) == one and disk.execute(0, SYNCHRONIZE).status == CHECK_CONDITION
+        assert disk.execute(0, WRITE_ONE, two).status == GOOD
+        disk.flush()
+        assert disk.execute(0, WRITE_ONE, three).status == GOOD
+        disk.free()
+        assert refusal(disk.flush) == Error.NO_DISK
+    disk = Disk.open(path, 64, identity=identity())
+    assert block_of(disk) == two and disk.execute(0, TEST_UNIT_READY).status == CHECK_CONDITION
+    assert disk.execute(0, WRITE_ONE, three).status == GOOD
+    del disk
+    with Disk.open(path, pool=4, profile=Profile.EXTENDED) as disk:
+        assert block_of(disk) == three
+    for arguments, why in (((65,), Error.OTHER_BLOCKS), ((64, 5), Error.OTHER_POOL),
+                           ((64, 4, identity("X")), Error.OTHER_IDENTITY),
+                           ((0, 0, None, Profile.BASE), Error.OTHER_PROFILE),
+                           ((1 << 64,), ValueError), ((0, 1 << 32), ValueError)):
+        assert refusal(Disk.open, path, *arguments) == why
+    assert refusal(Disk.open, os.path.join(folder, "missing", "disk")) is FileNotFoundError
+    assert refusal(Disk.open, folder) is IsADirectoryError
+    assert refusal(Disk.open, path + "\0") is ValueError
+    with open(path, "r+b") as file:
+        file.seek(11)
+        file.write(b"\x02")
+    try:
+        Disk.open(path)
+    except Refused as it:
+        assert (it.error, it.damage.offset) == (Error.OTHER_VERSION, 2)
+    with open(path, "wb") as file:
+        file.write(b"This is no disk.")
+    assert refusal(Disk.open, path) == Error.NOT_A_DISK
+with Disk(64, 4) as disk:
+    assert refusal(disk.flush) == Error.NO_FILE
 assert refusal(identity, "NINE BYTE") is ValueError and refusal(identity, "\xe9") is ValueError
 assert refusal(decode, max(Kind) + 1, b"") is ValueError
 print(version())

@@ -7,7 +7,9 @@
  *     random events SEED COUNT       prints them as a script for a disk of the extended profile, with
  *                                    all that can happen between two commands.
  *     random extended SEED COUNT     executes them on such a disk, and prints what sgrun prints.
- *     random extended-cut SEED COUNT does so on a disk that takes too little data-out. */
+ *     random extended-cut SEED COUNT does so on a disk that takes too little data-out.
+ *     random kept SEED COUNT FILE    executes them on the disk of the extended profile that FILE keeps,
+ *                                    or on a new one, and prints what sgrun prints. */
 #include <inttypes.h>
 #include <pthread.h>
 #include <stdio.h>
@@ -164,18 +166,32 @@ struct run {
     pthread_mutex_t lock;
 };
 
+/* Makes a disk in memory if `path` is null. */
+static mdl_error open_disk(struct run *it, const char *path)
+{
+    mdl_error error;
+
+    if (!path)
+        return mdl_make_with_profile(&it->disk, it->profile, BLOCKS, POOL, NULL);
+    error = mdl_open(&it->disk, path, MDL_ANY_PROFILE, 0, 0, NULL, NULL);
+    if (error != MDL_UNKNOWN_PROFILE)
+        return error;
+    return mdl_open(&it->disk, path, it->profile, BLOCKS, POOL, NULL, NULL);
+}
+
 static int begin_run(struct run *it, mdl_profile profile, uint64_t seed, unsigned long count,
-                     FILE *out)
+                     FILE *out, const char *path)
 {
     *it = (struct run){ .disk = MDL_NONE, .profile = profile, .seed = seed, .count = count,
                         .out = out, .lock = PTHREAD_MUTEX_INITIALIZER };
     it->data_in = malloc(MDL_BUFFER_LENGTH);
-    return it->data_in && !mdl_make_with_profile(&it->disk, profile, BLOCKS, POOL, NULL) ? 0 : 99;
+    return it->data_in && !open_disk(it, path) ? 0 : 99;
 }
 
 static void end_run(struct run *it)
 {
-    mdl_free(&it->disk);
+    if (mdl_close(&it->disk))
+        it->status = 99;
     free(it->data_in);
 }
 
@@ -213,11 +229,12 @@ static int next_line(struct run *it)
     return 0;
 }
 
-static int run(mdl_profile profile, uint64_t seed, unsigned long count, FILE *out)
+static int run(mdl_profile profile, uint64_t seed, unsigned long count, FILE *out,
+               const char *path)
 {
     struct run it;
 
-    if (begin_run(&it, profile, seed, count, out))
+    if (begin_run(&it, profile, seed, count, out, path))
         return 99;
     while (!next_line(&it))
         ;
@@ -247,7 +264,7 @@ static int run_shared(uint64_t seed, unsigned long count)
     struct run it;
     int at;
 
-    if (begin_run(&it, MDL_PROFILE_BASE, seed, count, stdout))
+    if (begin_run(&it, MDL_PROFILE_BASE, seed, count, stdout, NULL))
         return 99;
     for (at = 0; at < 4; at++)
         if (start_small_thread(&threads[at], take_turns, &it))
@@ -273,7 +290,7 @@ static void *work(void *argument)
 
     snprintf(name, sizeof name, "%s/%" PRIu64, it->folder, it->seed);
     out = fopen(name, "w");
-    it->status = out ? run(MDL_PROFILE_BASE, it->seed, it->count, out) : 99;
+    it->status = out ? run(MDL_PROFILE_BASE, it->seed, it->count, out, NULL) : 99;
     if (out && fclose(out))
         it->status = 99;
     return NULL;
@@ -307,19 +324,25 @@ static const char *const runs[] = {
 int main(int count, char **words)
 {
     uint32_t profile;
+    uint64_t seed;
+    unsigned long commands;
 
     if (count < 4)
         return 2;
+    seed = strtoull(words[2], NULL, 10);
+    commands = strtoul(words[3], NULL, 10);
     if (strcmp(words[1], "script") == 0 || strcmp(words[1], "events") == 0) {
-        print_script(words[1][0] == 's' ? MDL_PROFILE_BASE : MDL_PROFILE_EXTENDED,
-                     strtoull(words[2], NULL, 10), strtoul(words[3], NULL, 10));
+        print_script(words[1][0] == 's' ? MDL_PROFILE_BASE : MDL_PROFILE_EXTENDED, seed, commands);
         return 0;
     }
     for (profile = MDL_PROFILE_BASE; profile <= MDL_PROFILE_EXTENDED_CUT; profile++)
         if (strcmp(words[1], runs[profile]) == 0)
-            return run((mdl_profile)profile, strtoull(words[2], NULL, 10),
-                       strtoul(words[3], NULL, 10), stdout);
+            return run((mdl_profile)profile, seed, commands, stdout, NULL);
     if (strcmp(words[1], "shared") == 0)
-        return run_shared(strtoull(words[2], NULL, 10), strtoul(words[3], NULL, 10));
-    return count > 4 ? run_threads(strtoull(words[2], NULL, 10), strtoul(words[3], NULL, 10), words[4]) : 2;
+        return run_shared(seed, commands);
+    if (count < 5)
+        return 2;
+    if (strcmp(words[1], "kept") == 0)
+        return run(MDL_PROFILE_EXTENDED, seed, commands, stdout, words[4]);
+    return run_threads(seed, commands, words[4]);
 }

@@ -1,4 +1,4 @@
-"""A SCSI disk in memory, by the C library Mehdalung: docs/EMBEDDING.md.
+"""A SCSI disk in memory or in a file, by the C library Mehdalung: docs/EMBEDDING.md.
 
 It needs only Python 3.8 and libmehdalung.so. MEHDALUNG_LIBRARY names that file; by default it is in
 ../../build. Only one thread at a time may use a disk."""
@@ -13,6 +13,7 @@ INITIATORS = 8
 BUFFER_LENGTH = 1_048_576
 DATA_OUT_LENGTH = 1_032
 NO_TEXT = c_size_t(-1).value
+ANY_PROFILE = 0xFFFFFFFF
 GOOD, CHECK_CONDITION, RESERVATION_CONFLICT = 0x00, 0x02, 0x18
 # Only a disk with armed faults returns these. NO_REPLY is no status: the disk never replies.
 BUSY, TASK_SET_FULL, NO_REPLY = 0x08, 0x28, 0xFF
@@ -47,6 +48,18 @@ class Error(IntEnum):
     FAULT_NUMBER = 24
     FAULTS = 25
     UNKNOWN_VERB = 26
+    FILE_FAILED = 27
+    FILE_BUSY = 28
+    NOT_A_DISK = 29
+    OTHER_VERSION = 30
+    DAMAGED_FILE = 31
+    FILE_TOO_LONG = 32
+    OTHER_PROFILE = 33
+    OTHER_BLOCKS = 34
+    OTHER_POOL = 35
+    OTHER_IDENTITY = 36
+    CANNOT_OPEN = 39
+    NO_FILE = 40
 
 
 class Profile(IntEnum):
@@ -114,10 +127,11 @@ class Kind(IntEnum):
 
 
 class Refused(Exception):
-    """A call was refused, for the reason `error`. It has changed nothing."""
+    """A call was refused, for the reason `error`. It has changed nothing, except with FILE_FAILED. If
+    a file is damaged, or has another version, `damage` says where, or which."""
 
-    def __init__(self, error):
-        self.error = Error(error)
+    def __init__(self, error, damage=None):
+        self.error, self.damage = Error(error), damage
         super().__init__("MDL_" + self.error.name)
 
 
@@ -155,6 +169,11 @@ class HappeningRecord(ctypes.Structure):
                 ("fault", Fault)]
 
 
+class Damage(ctypes.Structure):
+    """mdl_damage: where a file is damaged."""
+    _fields_ = [("batch", c_uint64), ("offset", c_uint64)]
+
+
 class Command(ctypes.Structure):
     """mdl_command."""
     _fields_ = [("cdb", c_uint8 * 16), ("cdb_length", c_uint8), ("kind", c_uint32),
@@ -170,12 +189,16 @@ class Sense(ctypes.Structure):
 
 def load():
     beside = Path(__file__).resolve().parents[2] / "build" / "libmehdalung.so"
-    library = ctypes.CDLL(os.environ.get("MEHDALUNG_LIBRARY", str(beside)))
+    library = ctypes.CDLL(os.environ.get("MEHDALUNG_LIBRARY", str(beside)), use_errno=True)
     slot, bytes_of = ctypes.POINTER(Slot), ctypes.c_char_p
     library.mdl_make.argtypes = [slot, c_uint64, c_uint32, ctypes.POINTER(IdentityRecord)]
     library.mdl_make_with_profile.argtypes = [slot, c_uint32, c_uint64, c_uint32,
                                               ctypes.POINTER(IdentityRecord)]
     library.mdl_identity_of_seed.argtypes = [c_uint64, ctypes.POINTER(IdentityRecord)]
+    library.mdl_open.argtypes = [slot, bytes_of, c_uint32, c_uint64, c_uint32,
+                                 ctypes.POINTER(IdentityRecord), ctypes.POINTER(Damage)]
+    library.mdl_flush.argtypes = [slot]
+    library.mdl_close.argtypes = [slot]
     library.mdl_free.argtypes = [slot]
     library.mdl_free.restype = None
     library.mdl_execute.argtypes = [slot, c_uint32, bytes_of, c_size_t, bytes_of, c_size_t,
@@ -299,14 +322,36 @@ class Reply(NamedTuple):
 class Disk:
     """A disk of `blocks` blocks. At most `pool` of them can be mapped or anchored at once. It has
     an identity, by default the standard one, and a Profile. `close`, the end of a `with` or the
-    loss of its last reference frees it."""
+    loss of its last reference frees it. A disk in a file is flushed before that."""
 
     def __init__(self, blocks=4096, pool=4, identity=None, profile=Profile.BASE):
-        self.slot = Slot()
-        self.data_in = (c_uint8 * BUFFER_LENGTH)()
+        self.prepare()
         blocks, pool = within("blocks", blocks, 64), within("pool", pool, 32)
         profile = within("profile", profile, 32)
         check(LIBRARY.mdl_make_with_profile(self.slot, profile, blocks, pool, identity))
+
+    def prepare(self):
+        self.slot = Slot()
+        self.data_in = (c_uint8 * BUFFER_LENGTH)()
+
+    @classmethod
+    def open(cls, path, blocks=0, pool=0, identity=None, profile=ANY_PROFILE):
+        """The disk that a file keeps, as after power on. If there is no file, or an empty one, a new
+        disk is made, and you have to give blocks, pool and profile. Else what you give has to be
+        that of the disk. An OSError says that the system refuses to open the file."""
+        disk, damage = cls.__new__(cls), Damage()
+        disk.prepare()
+        name = os.fsencode(path)
+        if b"\0" in name:
+            raise ValueError("C would take the path to end at its NUL")
+        blocks, pool = within("blocks", blocks, 64), within("pool", pool, 32)
+        profile = within("profile", profile, 32)
+        error = LIBRARY.mdl_open(disk.slot, name, profile, blocks, pool, identity, damage)
+        if error == Error.CANNOT_OPEN:
+            raise OSError(ctypes.get_errno(), os.strerror(ctypes.get_errno()), path)
+        if error:
+            raise Refused(error, damage)
+        return disk
 
     def execute(self, initiator, cdb, data_out=b"", kind=Kind.HEX):
         """The Reply to the command of an initiator, 0 to 7."""
@@ -401,13 +446,24 @@ class Disk:
         """Clears the unit attentions that are pending for an initiator whose port is gone."""
         check(LIBRARY.mdl_forget(self.slot, within("initiator", initiator, 32)))
 
+    def flush(self):
+        """Puts all that was changed so far into the disk's file."""
+        check(LIBRARY.mdl_flush(self.slot))
+
     def close(self):
+        """Frees the disk. A disk in a file is flushed before that, and its file is closed."""
+        error = LIBRARY.mdl_close(self.slot)
+        if error != Error.NO_DISK:
+            check(error)
+
+    def free(self):
+        """Frees the disk without a flush, as if the program had stopped."""
         LIBRARY.mdl_free(self.slot)
 
     # LIBRARY may be gone when the interpreter ends. There is no slot if __init__ made none.
-    def __del__(self, free=LIBRARY.mdl_free):
+    def __del__(self, close=LIBRARY.mdl_close):
         if hasattr(self, "slot"):
-            free(self.slot)
+            close(self.slot)
 
     def __enter__(self):
         return self

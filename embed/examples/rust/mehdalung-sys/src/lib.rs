@@ -6,6 +6,7 @@ use std::mem::size_of;
 pub const BUFFER_LENGTH: usize = 1_048_576;
 pub const DATA_OUT_LENGTH: usize = 1_032;
 pub const NO_TEXT: usize = usize::MAX;
+pub const ANY_PROFILE: u32 = u32::MAX;
 
 pub const GOOD: u8 = 0x00;
 pub const CHECK_CONDITION: u8 = 0x02;
@@ -43,6 +44,18 @@ pub mod error {
     pub const FAULT_NUMBER: u32 = 24;
     pub const FAULTS: u32 = 25;
     pub const UNKNOWN_VERB: u32 = 26;
+    pub const FILE_FAILED: u32 = 27;
+    pub const FILE_BUSY: u32 = 28;
+    pub const NOT_A_DISK: u32 = 29;
+    pub const OTHER_VERSION: u32 = 30;
+    pub const DAMAGED_FILE: u32 = 31;
+    pub const FILE_TOO_LONG: u32 = 32;
+    pub const OTHER_PROFILE: u32 = 33;
+    pub const OTHER_BLOCKS: u32 = 34;
+    pub const OTHER_POOL: u32 = 35;
+    pub const OTHER_IDENTITY: u32 = 36;
+    pub const CANNOT_OPEN: u32 = 39;
+    pub const NO_FILE: u32 = 40;
 }
 
 /// `mdl_profile`.
@@ -168,6 +181,13 @@ pub struct mdl_happening {
 }
 
 #[repr(C)]
+#[derive(Clone, Copy, Debug, Default, PartialEq, Eq)]
+pub struct mdl_damage {
+    pub batch: u64,
+    pub offset: u64,
+}
+
+#[repr(C)]
 #[derive(Clone, Copy, Default)]
 pub struct mdl_command {
     pub cdb: [u8; 16],
@@ -208,6 +228,17 @@ extern "C" {
         identity: *const mdl_identity,
     ) -> c_uint;
     pub fn mdl_identity_of_seed(seed: u64, identity: *mut mdl_identity) -> c_uint;
+    pub fn mdl_open(
+        disk: *mut mdl_disk,
+        path: *const c_char,
+        profile: u32,
+        blocks: u64,
+        pool: u32,
+        identity: *const mdl_identity,
+        damage: *mut mdl_damage,
+    ) -> c_uint;
+    pub fn mdl_flush(disk: *mut mdl_disk) -> c_uint;
+    pub fn mdl_close(disk: *mut mdl_disk) -> c_uint;
     pub fn mdl_free(disk: *mut mdl_disk);
     pub fn mdl_execute(
         disk: *mut mdl_disk,

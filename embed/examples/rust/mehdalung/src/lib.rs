@@ -1,14 +1,16 @@
-//! A SCSI disk in memory, by the C library Mehdalung. A disk is `Send`, and not `Sync`.
+//! A SCSI disk in memory or in a file, by the C library Mehdalung. A disk is `Send`, and not `Sync`.
 mod error;
 
-use error::check;
+use error::{check, check_opening};
 use mehdalung_sys as sys;
 use mehdalung_sys::happening;
-use std::{ffi::CString, ptr};
+use std::os::unix::ffi::OsStrExt;
+use std::{ffi::CString, path::Path, ptr};
 
 pub use error::Error;
 pub use sys::{fault_outcome, kind, profile};
-pub use sys::{mdl_fault as Fault, mdl_identity as Identity, mdl_sense as Sense};
+pub use sys::{mdl_damage as Damage, mdl_fault as Fault};
+pub use sys::{mdl_identity as Identity, mdl_sense as Sense};
 pub use sys::{CHECK_CONDITION, GOOD, RESERVATION_CONFLICT};
 // Only a disk with armed faults returns these. NO_REPLY is no status: the disk never replies.
 pub use sys::{BUSY, NO_REPLY, TASK_SET_FULL};
@@ -100,7 +102,18 @@ impl Reply<'_> {
     }
 }
 
-/// A disk, with a buffer for data-in.
+/// What a disk in a file has to have. A field that is None may be any, if the file has a disk.
+#[derive(Clone, Copy, Default)]
+pub struct Wanted<'a> {
+    /// A number of the module `profile`.
+    pub profile: Option<u32>,
+    pub blocks: Option<u64>,
+    pub pool: Option<u32>,
+    /// A new disk has the standard identity if this is None.
+    pub identity: Option<&'a Identity>,
+}
+
+/// A disk, with a buffer for data-in. If it is dropped, a disk in a file is flushed before that.
 pub struct Disk {
     slot: sys::mdl_disk,
     data_in: Box<[u8]>,
@@ -131,6 +144,48 @@ impl Disk {
             sys::mdl_make_with_profile(&mut slot, profile, blocks, pool, identity)
         })?;
         Ok(Disk { slot, data_in: vec![0; sys::BUFFER_LENGTH].into() })
+    }
+
+    /// Opens the disk that a file keeps, as after power on. If there is no file, or an empty one, a new
+    /// disk is made.
+    pub fn open(path: impl AsRef<Path>, wanted: &Wanted) -> Result<Disk, Error> {
+        let mut slot = sys::mdl_disk { target: ptr::null_mut() };
+        let mut damage = Damage::default();
+        let path = CString::new(path.as_ref().as_os_str().as_bytes())
+            .map_err(|_| Error::CannotOpen(0))?;
+        let identity = wanted.identity.map_or(ptr::null(), |i| i as *const Identity);
+        // SAFETY: the slot has no disk, the path ends with a zero, and the records are whole or null.
+        let error = unsafe {
+            sys::mdl_open(
+                &mut slot,
+                path.as_ptr(),
+                wanted.profile.unwrap_or(sys::ANY_PROFILE),
+                wanted.blocks.unwrap_or(0),
+                wanted.pool.unwrap_or(0),
+                identity,
+                &mut damage,
+            )
+        };
+        check_opening(error, damage)?;
+        Ok(Disk { slot, data_in: vec![0; sys::BUFFER_LENGTH].into() })
+    }
+
+    /// Puts all that was changed so far into the disk's file.
+    pub fn flush(&mut self) -> Result<(), Error> {
+        // SAFETY: the slot has a disk.
+        check(unsafe { sys::mdl_flush(&mut self.slot) })
+    }
+
+    /// Flushes a disk in a file, closes the file and frees the disk, whatever the result is.
+    pub fn close(mut self) -> Result<(), Error> {
+        // SAFETY: the slot has a disk, and none afterwards.
+        check(unsafe { sys::mdl_close(&mut self.slot) })
+    }
+
+    /// Frees the disk without a flush, as if the program had stopped.
+    pub fn free(mut self) {
+        // SAFETY: the slot has a disk, and none afterwards.
+        unsafe { sys::mdl_free(&mut self.slot) }
     }
 
     pub fn execute(
@@ -279,7 +334,7 @@ impl Disk {
 
 impl Drop for Disk {
     fn drop(&mut self) {
-        // SAFETY: the slot has a disk, and is not used again.
-        unsafe { sys::mdl_free(&mut self.slot) }
+        // SAFETY: the slot has a disk or none, and is not used again.
+        unsafe { sys::mdl_close(&mut self.slot) };
     }
 }

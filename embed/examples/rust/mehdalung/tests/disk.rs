@@ -1,6 +1,8 @@
 //! Tries the parts of the crate that the first minute does not use.
 use mehdalung::{decode, fault_outcome, identity_of_seed, kind, profile, version};
 use mehdalung::{Disk, Error, Fault, Identity, Reply, ALL_INITIATORS, BUSY, CHECK_CONDITION, GOOD};
+use mehdalung::Wanted;
+use std::fs;
 
 const TEST_UNIT_READY: [u8; 6] = [0; 6];
 const INQUIRY: [u8; 6] = [0x12, 0, 0, 0, 36, 0];
@@ -157,5 +159,66 @@ fn calls_are_refused() -> Result<(), Error> {
     assert_eq!(cut.execute(0, &INQUIRY, &[])?.status(), GOOD);
     assert_eq!(decode(kind::DEFECTS_12 + 1, &[]), None);
     assert!(version().unwrap().starts_with("mehdalung "));
+    Ok(())
+}
+
+const WRITE_ONE: [u8; 10] = [0x2A, 0, 0, 0, 0, 5, 0, 0, 1, 0];
+const READ_ONE: [u8; 10] = [0x28, 0, 0, 0, 0, 5, 0, 0, 1, 0];
+
+fn write_one(disk: &mut Disk, byte: u8) -> Result<(), Error> {
+    assert_eq!(disk.execute(0, &WRITE_ONE, &[byte; 512])?.status(), GOOD);
+    Ok(())
+}
+
+/// The first byte of the block at address 5 of a disk that was opened.
+fn byte_of(disk: &mut Disk) -> Result<u8, Error> {
+    only_report(disk, 0xFF, 0x29, 0x00)?;
+    Ok(disk.execute(1, &READ_ONE, &[])?.data_in[0])
+}
+
+#[test]
+fn a_file_keeps_a_disk() -> Result<(), Error> {
+    let path = std::env::temp_dir().join(format!("mehdalung-{}", std::process::id()));
+    let any = Wanted::default();
+    assert_eq!(Disk::open(&path, &any).err(), Some(Error::UnknownProfile));
+    let wanted = Wanted {
+        profile: Some(profile::EXTENDED),
+        blocks: Some(64),
+        pool: Some(4),
+        identity: None,
+    };
+    let mut disk = Disk::open(&path, &wanted)?;
+    assert_eq!(byte_of(&mut disk)?, 0);
+    write_one(&mut disk, 1)?;
+    assert_eq!(Disk::open(&path, &any).err(), Some(Error::FileBusy));
+    disk.close()?;
+    let mut disk = Disk::open(&path, &wanted)?;
+    assert_eq!(byte_of(&mut disk)?, 1);
+    write_one(&mut disk, 2)?;
+    disk.flush()?;
+    write_one(&mut disk, 3)?;
+    disk.free();
+    let mut disk = Disk::open(&path, &any)?;
+    assert_eq!(byte_of(&mut disk)?, 2);
+    write_one(&mut disk, 4)?;
+    drop(disk);
+    assert_eq!(byte_of(&mut Disk::open(&path, &any)?)?, 4);
+    for (other, error) in [
+        (Wanted { blocks: Some(65), ..any }, Error::OtherBlocks),
+        (Wanted { pool: Some(5), ..any }, Error::OtherPool),
+        (Wanted { profile: Some(profile::BASE), ..any }, Error::OtherProfile),
+        (Wanted { identity: Some(&identity_of_seed(2)?), ..any }, Error::OtherIdentity),
+    ] {
+        assert_eq!(Disk::open(&path, &other).err(), Some(error));
+    }
+    let mut bytes = fs::read(&path).unwrap();
+    bytes[11] = 2;
+    fs::write(&path, &bytes).unwrap();
+    assert_eq!(Disk::open(&path, &any).err(), Some(Error::OtherVersion(2)));
+    fs::write(&path, "This is no disk.").unwrap();
+    assert_eq!(Disk::open(&path, &any).err(), Some(Error::NotADisk));
+    fs::remove_file(&path).unwrap();
+    assert_eq!(Disk::open(path.join("disk"), &any).err(), Some(Error::CannotOpen(2)));
+    assert_eq!(Disk::new(64, 4, None)?.flush(), Err(Error::NoFile));
     Ok(())
 }
