@@ -2,8 +2,8 @@
  * of libmehdalung. The disk gets each CDB as it came, and tgtd sends the disk's reply unchanged.
  *
  * tgtd loads this object from its folder of backing stores, or by LD_PRELOAD. A logical unit is
- * made with `--bstype mehdalung --backing-store blocks=4096:pool=16`. All that calls this file runs
- * in tgtd's main thread, and so do the disks. */
+ * made with `--bstype mehdalung --backing-store blocks=4096:pool=16`. asked.h has what else the path
+ * may be. All that calls this file runs in tgtd's main thread, and so do the disks. */
 #include <errno.h>
 #include <inttypes.h>
 #include <stdint.h>
@@ -13,13 +13,12 @@
 #include <sys/random.h>
 
 #include "unit.h"
+#include "asked.h"
 #include "driver.h"
 #include "happenings.h"
 #include "held.h"
-
-/* tgtd's TransportIDs: 4 bytes, the name, a zero, the text ",i,0x" and the ISID as it is. In SPC-4,
- * 7.6.4, the ISID is in hexadecimal. */
-enum { TRANSPORT_ID_HEADER = 4, ISID_SEPARATOR = 5 };
+#include "kept.h"
+#include "kept_ports.h"
 
 /* The length of the longest CDB of a command of the disk. */
 enum { TRACED_CDB = 16 };
@@ -34,10 +33,14 @@ static struct backingstore_template store;
 /* The initiator port of a session, or 0 where there is none with a TransportID that fits. */
 static int get_port(const struct target *target, uint64_t session, struct port *port)
 {
-    int length = tgt_drivers[target->lid]->transportid(target->tid, session, port->transport_id,
+    char transport_id[TRANSPORT_ID_LENGTH];
+    int length = tgt_drivers[target->lid]->transportid(target->tid, session, transport_id,
                                                        TRANSPORT_ID_LENGTH);
 
-    return length > 0 && length <= TRANSPORT_ID_LENGTH;
+    if (length <= 0 || length > TRANSPORT_ID_LENGTH)
+        return 0;
+    port_read(port, transport_id);
+    return 1;
 }
 
 /* Bit i is set where the port that has number i has a session. */
@@ -58,30 +61,42 @@ static unsigned numbers_with_session(struct scsi_lu *lu)
     return found;
 }
 
-/* Writes the name of a port to the log, in the form of RFC 7143, 4.4.1: NAME,i,0xISID. */
 static void log_number(const struct scsi_lu *lu, int number, const struct port *port)
 {
-    const char *name = port->transport_id + TRANSPORT_ID_HEADER;
-    const unsigned char *isid = (const unsigned char *)name + strlen(name) + 1 + ISID_SEPARATOR;
-
-    eprintf("LUN %" PRIu64 ": initiator %d is %s,i,0x%02x%02x%02x%02x%02x%02x\n", lu->lun, number,
-            name, isid[0], isid[1], isid[2], isid[3], isid[4], isid[5]);
+    eprintf("LUN %" PRIu64 ": initiator %d is %s\n", lu->lun, number, port->text);
 }
 
-/* Gives a number to a port that has none, or NO_NUMBER. The disk forgets the port that had it. */
+/* Puts a table with a new port beside the disk's file, if it has one. Returns 0 if that fails. */
+static int keep_ports(const struct scsi_lu *lu, const char *file, const struct port_table *table)
+{
+    int error = file ? write_ports(table, file) : 0;
+
+    if (error)
+        eprintf("LUN %" PRIu64 ": %s" PORTS_SUFFIX ": %s\n", lu->lun, file, strerror(error));
+    return !error;
+}
+
+/* Gives a number to a port that has none, or NO_NUMBER. The number is kept before the port gets a reply.
+ * The disk forgets the port that had it. A disk whose file has failed does not, and needs not. */
 static int take_number(struct scsi_lu *lu, const struct port *port)
 {
     struct unit *unit = unit_of(lu);
-    int all_were_used = unit->table.last_use[PORT_NUMBERS - 1] != 0, number;
+    static struct port_table next;
+    mdl_error error = MDL_OK;
     uint32_t registered;
+    int number;
 
     if (mdl_registered(&unit->disk, &registered))
         return NO_NUMBER;
-    number = port_take_number(&unit->table, port, registered | numbers_with_session(lu));
-    if (number == NO_NUMBER)
+    next = unit->table;
+    number = port_take_number(&next, port, registered | numbers_with_session(lu));
+    if (number == NO_NUMBER || !keep_ports(lu, unit->file, &next))
         return NO_NUMBER;
-    if (all_were_used && mdl_forget(&unit->disk, (uint32_t)number))
+    if (unit->table.last_use[number])
+        error = mdl_forget(&unit->disk, (uint32_t)number);
+    if (error && error != MDL_FILE_FAILED)
         return NO_NUMBER;
+    unit->table = next;
     log_number(lu, number, port);
     return number;
 }
@@ -219,65 +234,8 @@ static int execute(int tid, struct scsi_cmd *cmd)
     return deliver(cmd, &reply);
 }
 
-/* Moves `text` past a word, if the text begins with it. */
-static int read_word(const char **text, const char *word)
-{
-    size_t length = strlen(word);
-
-    if (strncmp(*text, word, length) != 0)
-        return 0;
-    *text += length;
-    return 1;
-}
-
-/* Reads a number after a name, and moves `text` past it. It is decimal, or 0x and hexadecimal. */
-static int read_number(const char **text, const char *name, uint64_t *number)
-{
-    char *end;
-
-    if (!read_word(text, name) || **text < '0' || **text > '9')
-        return 0;
-    errno = 0;
-    *number = strtoull(*text, &end, strncmp(*text, "0x", 2) == 0 ? 16 : 10);
-    *text = end;
-    return errno == 0;
-}
-
-/* What the path of a logical unit asks for. */
-struct asked {
-    uint64_t blocks, pool, seed;
-    uint32_t profile;
-    int has_seed;
-};
-
-/* Reads a profile after its name, if there is one. Otherwise it is the base profile. */
-static uint32_t read_profile(const char **text)
-{
-    static const struct { const char *word; uint32_t profile; } profiles[] = {
-        { ":profile=base", MDL_PROFILE_BASE },
-        { ":profile=extended-cut", MDL_PROFILE_EXTENDED_CUT }, /* before the name that begins it */
-        { ":profile=extended", MDL_PROFILE_EXTENDED },
-    };
-    size_t at;
-
-    for (at = 0; at < sizeof profiles / sizeof profiles[0]; at++)
-        if (read_word(text, profiles[at].word))
-            return profiles[at].profile;
-    return MDL_PROFILE_BASE;
-}
-
-/* Reads blocks=N:pool=N, and after it a profile and a seed, if it has them. */
-static int read_path(const char *text, struct asked *asked)
-{
-    if (!read_number(&text, "blocks=", &asked->blocks) || !read_number(&text, ":pool=", &asked->pool))
-        return 0;
-    asked->profile = read_profile(&text);
-    asked->has_seed = *text != '\0';
-    return !asked->has_seed || (read_number(&text, ":seed=", &asked->seed) && *text == '\0');
-}
-
-/* The seed of a logical unit that asks for none. That of an extended disk is random. A base disk has a
- * number of its own in this tgtd: LUN 1 of target 1 has 1, which makes the standard identity. */
+/* The seed of a new logical unit that asks for none. That of an extended disk is random. A base disk has
+ * a number of its own in this tgtd: LUN 1 of target 1 has 1, which makes the standard identity. */
 static int choose_seed(const struct scsi_lu *lu, struct asked *asked)
 {
     if (asked->has_seed)
@@ -292,30 +250,84 @@ static int choose_seed(const struct scsi_lu *lu, struct asked *asked)
     return 1;
 }
 
+/* Returns the error of numbers that no disk has. For mdl_open 0 would be any number. */
+static mdl_error check_sizes(const struct asked *asked)
+{
+    if (asked->has_blocks && !asked->blocks)
+        return MDL_BLOCKS;
+    return asked->has_pool && (!asked->pool || asked->pool > UINT32_MAX) ? MDL_POOL : MDL_OK;
+}
+
+/* Makes the disk of a logical unit, or opens it. Returns 0 if that fails, with a text of why. The disk
+ * that a file has keeps its names, if no seed is asked for. */
+static int make_disk(struct scsi_lu *lu, struct asked *asked, char *reason)
+{
+    int is_new = !asked->file || is_without_disk(asked->file);
+    mdl_identity identity;
+    struct wanted wanted = { .blocks = asked->blocks, .pool = (uint32_t)asked->pool };
+    mdl_error error = check_sizes(asked);
+
+    if (is_new && asked->profile == MDL_ANY_PROFILE)
+        asked->profile = MDL_PROFILE_BASE;
+    wanted.profile = asked->profile;
+    if (is_new && !choose_seed(lu, asked)) {
+        strcpy(reason, "there are no random bytes for a seed");
+        return 0;
+    }
+    if (!error && (is_new || asked->has_seed)) {
+        error = mdl_identity_of_seed(asked->seed, &identity);
+        wanted.identity = &identity;
+    }
+    if (!error && asked->file)
+        return open_kept(&unit_of(lu)->disk, asked->file, &wanted, reason);
+    if (!error)
+        error = mdl_make_with_profile(&unit_of(lu)->disk, wanted.profile, wanted.blocks, wanted.pool,
+                                      wanted.identity);
+    if (error)
+        strcpy(reason, text_of_error(error));
+    return !error;
+}
+
+/* Reads the numbers of ports that are kept beside the disk's file. Returns 0 if that fails, with a text
+ * of why, and the disk is closed. */
+static int open_ports(struct scsi_lu *lu, const char *file, char *reason)
+{
+    struct unit *unit = unit_of(lu);
+    int error, number;
+
+    unit->file = realpath(file, NULL);
+    error = unit->file ? read_ports(&unit->table, unit->file) : errno;
+    if (error) {
+        snprintf(reason, REASON_LENGTH, "%.4000s%s: %s", file, unit->file ? PORTS_SUFFIX : "",
+                 error == EBADMSG ? "the file has no ports, or is damaged" : strerror(error));
+        mdl_free(&unit->disk);
+        free(unit->file);
+        unit->file = NULL;
+        return 0;
+    }
+    eprintf("LUN %" PRIu64 ": the disk is in %s\n", lu->lun, unit->file);
+    for (number = 0; number < PORT_NUMBERS; number++)
+        if (unit->table.last_use[number])
+            log_number(lu, number, &unit->table.ports[number]);
+    return 1;
+}
+
 static int open_disk(struct scsi_lu *lu, char *path, int *fd, uint64_t *size)
 {
     struct unit *unit = unit_of(lu);
+    char reason[REASON_LENGTH];
     struct asked asked;
-    mdl_identity identity;
-    mdl_error error;
 
-    if (!read_path(path, &asked)) {
-        eprintf("%s is not blocks=N:pool=N[:profile=NAME][:seed=N]\n", path);
-        return -EINVAL;
-    }
-    if (!choose_seed(lu, &asked)) {
-        eprintf("there are no random bytes for the seed of %s\n", path);
-        return -EINVAL;
-    }
-    error = mdl_identity_of_seed(asked.seed, &identity);
-    if (!error)
-        error = mdl_make_with_profile(&unit->disk, asked.profile, asked.blocks,
-                                      asked.pool > UINT32_MAX ? 0 : (uint32_t)asked.pool, &identity);
-    if (error) {
-        eprintf("no disk of %s: error %d of mehdalung.h\n", path, (int)error);
+    if (!read_asked(path, &asked)) {
+        eprintf("no disk: %s is not blocks=N:pool=N[:profile=NAME][:seed=N][:file=PATH]\n", path);
         return -EINVAL;
     }
     memset(&unit->table, 0, sizeof unit->table);
+    unit->file = NULL;
+    if (!make_disk(lu, &asked, reason) || (asked.file && !open_ports(lu, asked.file, reason))) {
+        eprintf("no disk: %s\n", reason);
+        return -EINVAL;
+    }
     INIT_LIST_HEAD(&unit->held);
     watch(lu, &store);
     *fd = -1;
@@ -323,10 +335,17 @@ static int open_disk(struct scsi_lu *lu, char *path, int *fd, uint64_t *size)
     return 0;
 }
 
+/* The disk is flushed. If that fails, `target stop` says so. */
 static void close_disk(struct scsi_lu *lu)
 {
+    struct unit *unit = unit_of(lu);
+
     end_held(lu, ANY_SESSION, ANY_TAG);
-    mdl_free(&unit_of(lu)->disk);
+    if (mdl_close(&unit->disk))
+        eprintf("not kept: %s: the file may lack a part of what was changed\n",
+                unit->file ? unit->file : "a disk in memory");
+    free(unit->file);
+    unit->file = NULL;
 }
 
 /* Each CDB of this logical unit is for `execute`, and none for the device type's own functions. */

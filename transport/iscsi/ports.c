@@ -3,12 +3,44 @@
 
 #include <string.h>
 
+enum { TRANSPORT_ID_HEADER = 4, ISID_SEPARATOR = 5, ISID_LENGTH = 6 };
+
+static char *put_hexadecimal(char *end, unsigned char byte)
+{
+    static const char digits[] = "0123456789abcdef";
+
+    *end++ = digits[byte >> 4];
+    *end++ = digits[byte & 15];
+    return end;
+}
+
+/* Each command has one. */
+void port_read(struct port *port, const char *transport_id)
+{
+    const char *name = transport_id + TRANSPORT_ID_HEADER;
+    const unsigned char *isid = (const unsigned char *)name + strlen(name) + 1 + ISID_SEPARATOR;
+    char *end = port->text;
+    int at;
+
+    for (; *name; name++)
+        if (*name > ' ' && *name < '\x7F' && *name != '\\') {
+            *end++ = *name;
+        } else {
+            end = strcpy(end, "\\x") + 2;
+            end = put_hexadecimal(end, (unsigned char)*name);
+        }
+    end = strcpy(end, ",i,0x") + ISID_SEPARATOR;
+    for (at = 0; at < ISID_LENGTH; at++)
+        end = put_hexadecimal(end, isid[at]);
+    *end = '\0';
+}
+
 int port_number(const struct port_table *table, const struct port *port)
 {
     int number;
 
-    for (number = 0; number < PORT_NUMBERS && table->last_use[number]; number++)
-        if (memcmp(&table->ports[number], port, sizeof *port) == 0)
+    for (number = 0; number < PORT_NUMBERS; number++)
+        if (table->last_use[number] && strcmp(table->ports[number].text, port->text) == 0)
             return number;
     return NO_NUMBER;
 }

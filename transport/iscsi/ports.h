@@ -1,10 +1,9 @@
 /* Maps initiator ports to the initiators of a disk.
  *
  * A disk has eight initiators, 0 to 7; an iSCSI target has as many initiator ports as log in. An
- * initiator port is known by its TransportID (SPC-4, 7.6.4), which has its iSCSI name and its ISID.
- * It gets a number with its first command and keeps it, so that a port that comes back after a lost
- * session finds its registration. Another port may get the number once its own port has no session
- * and no registration. */
+ * initiator port is known by its iSCSI name and its ISID. It gets a number with its first command and
+ * keeps it, so that a port that comes back after a lost session finds its registration. Another port may
+ * get the number once its own port has no session and no registration. */
 #ifndef PORTS_H
 #define PORTS_H
 
@@ -16,12 +15,16 @@ enum { PORT_NUMBERS = 8 };
 /* A name has at most 223 bytes (RFC 7143, 4.2.7.1), and a whole TransportID at most 240. */
 enum { TRANSPORT_ID_LENGTH = 256 };
 
+/* Has room for the text of each TransportID. */
+enum { PORT_TEXT_LENGTH = 1024 };
+
 /* There is no number for a port. */
 enum { NO_NUMBER = -1 };
 
-/* A TransportID, and zeros after it. */
+/* A port in the form of RFC 7143, 4.4.1: NAME,i,0xISID, and a zero. A byte of the name that is no
+ * printable ASCII, or is a blank or a backslash, is \xHH. */
 struct port {
-    char transport_id[TRANSPORT_ID_LENGTH];
+    char text[PORT_TEXT_LENGTH];
 };
 
 struct port_table {
@@ -29,6 +32,10 @@ struct port_table {
     uint64_t last_use[PORT_NUMBERS]; /* 0: no port ever had the number */
     uint64_t uses;
 };
+
+/* Reads a TransportID as tgtd makes it: 4 bytes, the name, a zero, the text ",i,0x" and the 6 bytes of
+ * the ISID. In SPC-4, 7.6.4, the ISID is in hexadecimal. It has TRANSPORT_ID_LENGTH bytes. */
+void port_read(struct port *port, const char *transport_id);
 
 /* The number of a port that has one, or NO_NUMBER. */
 int port_number(const struct port_table *table, const struct port *port);

@@ -6,6 +6,8 @@
 #include <string.h>
 #include <sys/random.h>
 
+#include "kept.h"
+
 /* A seed has at most 60 bits. This is none. */
 #define MOST_SEED ((UINT64_C(1) << 60) - 1)
 #define NO_SEED UINT64_MAX
@@ -77,9 +79,12 @@ static const char *read_option(const char *name, const char *value, struct optio
                        ? NULL : "the value has more characters than the field";
     if (strcmp(name, "--profile") == 0)
         return read_profile(value, &options->profile) ? NULL : "there is no profile of that name";
-    if (strcmp(name, "--socket") != 0)
+    if (strcmp(name, "--socket") == 0)
+        options->socket = value;
+    else if (strcmp(name, "--disk") == 0)
+        options->disk = value;
+    else
         return "there is no such option";
-    options->socket = value;
     return NULL;
 }
 
@@ -100,13 +105,26 @@ static const char *read_each(int count, char **words, struct options *options, c
     return NULL;
 }
 
+/* Returns 1 if one of the options is among the words. */
+static int has_option(int count, char **words, const char *const *names, size_t length)
+{
+    size_t name;
+    int at;
+
+    for (at = 1; at < count; at += 2)
+        for (name = 0; name < length; name++)
+            if (strcmp(words[at], names[name]) == 0)
+                return 1;
+    return 0;
+}
+
 /* Makes the identity of the seed. Without a seed the identity of a base disk is the standard one, and
- * that of an extended disk is made of random bits. Returns 0 if there are none. */
-static int make_identity(struct options *options)
+ * that of a new extended disk is made of random bits. Returns 0 if there are none. */
+static int make_identity(struct options *options, int is_new)
 {
     if (options->seed == NO_SEED) {
         options->seed = 1;
-        if (options->profile != MDL_PROFILE_BASE) {
+        if (is_new && options->profile != MDL_PROFILE_BASE) {
             if (getrandom(&options->seed, sizeof options->seed, 0) != sizeof options->seed)
                 return 0;
             options->seed &= MOST_SEED;
@@ -115,21 +133,42 @@ static int make_identity(struct options *options)
     return mdl_identity_of_seed(options->seed, &options->identity) == MDL_OK;
 }
 
+/* Returns null, or what is wrong with the options that say which disk it is. A file's disk has all that
+ * is not given. */
+static const char *check_sizes(int count, char **words, const struct options *options, int is_new,
+                               const char **word)
+{
+    static const char *const blocks[] = { "--blocks" }, *const pool[] = { "--pool" };
+
+    *word = is_new ? "--socket, --blocks or --pool" : "--socket";
+    if (!options->socket || (is_new && !(options->blocks && options->pool)))
+        return "is missing, or 0";
+    *word = "--blocks or --pool";
+    return (!options->blocks && has_option(count, words, blocks, 1)) ||
+           (!options->pool && has_option(count, words, pool, 1)) ? "is 0" : NULL;
+}
+
 const char *read_options(int count, char **words, struct options *options, const char **word)
 {
+    static const char *const names[] = { "--seed", "--vendor", "--product", "--revision", "--serial",
+                                         "--local" };
     const char *fault;
+    int is_new;
 
     memset(options, 0, sizeof *options);
     options->seed = NO_SEED;
-    options->profile = MDL_PROFILE_BASE;
+    options->profile = MDL_ANY_PROFILE;
     fault = read_each(count, words, options, word);
     if (fault)
         return fault;
+    is_new = !options->disk || is_without_disk(options->disk);
+    options->has_identity = is_new || has_option(count, words, names, sizeof names / sizeof names[0]);
+    if (is_new && options->profile == MDL_ANY_PROFILE)
+        options->profile = MDL_PROFILE_BASE;
     *word = "--seed";
-    if (!make_identity(options))
+    if (!make_identity(options, is_new))
         return "there are no random bytes to make it of";
     /* The options are read again, because their texts and number replace those of the seed. */
     read_each(count, words, options, word);
-    *word = "--socket, --blocks or --pool";
-    return options->socket && options->blocks && options->pool ? NULL : "is missing, or 0";
+    return check_sizes(count, words, options, is_new, word);
 }

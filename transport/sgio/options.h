@@ -6,9 +6,11 @@
 
 struct options {
     const char *socket;
-    uint64_t blocks, pool; /* the pool is below 2^32 */
-    uint32_t profile;
-    uint64_t seed; /* what the options do not name of the identity is made of it */
+    const char *disk;      /* the path of the disk's file, or null: it is in memory */
+    uint64_t blocks, pool; /* the pool is below 2^32; 0: a disk in a file may have any */
+    uint32_t profile;      /* or MDL_ANY_PROFILE */
+    uint64_t seed;         /* what the options do not name of the identity is made of it */
+    int has_identity;      /* 0: a disk in a file may have any */
     mdl_identity identity;
 };
 
@@ -17,7 +19,7 @@ struct options {
 int read_number(const char *text, uint64_t most, uint64_t *number);
 
 /* Reads the words of a command line. Returns null, or what is wrong with them, with the word that it
- * is about in `word`. mdl_make decides which numbers of blocks a disk may have. */
+ * is about in `word`. mdl_make and mdl_open decide which numbers of blocks a disk may have. */
 const char *read_options(int count, char **words, struct options *options, const char **word);
 
 #endif

@@ -1,10 +1,11 @@
 /* Not proved. The server that holds one disk and executes what its clients send, in one thread.
  *
- *     server --socket PATH --blocks N --pool N [--profile NAME]
+ *     server --socket PATH [--disk FILE] [--blocks N] [--pool N] [--profile NAME]
  *            [--seed N] [--vendor TEXT] [--product TEXT] [--revision TEXT] [--serial TEXT] [--local N]
  *
- * It prints a line when it listens, and ends with status 0 on SIGTERM, SIGINT or SIGHUP. The disk is
- * gone then, and so is the socket. */
+ * The disk is in memory, or FILE keeps it. Blocks and pool have to be given, unless FILE has a disk. It
+ * prints a line when it listens, and ends with status 0 on SIGTERM, SIGINT or SIGHUP. A disk in memory is
+ * gone then, and one in a file is all there. The socket is gone. */
 #include <errno.h>
 #include <fcntl.h>
 #include <poll.h>
@@ -19,6 +20,7 @@
 #include <unistd.h>
 
 #include "client.h"
+#include "kept.h"
 #include "options.h"
 
 enum { MOST_CLIENTS = 64, BACKLOG = 64, OTHER_DESCRIPTORS = 16 };
@@ -197,28 +199,40 @@ static int run(const struct options *options, mdl_disk *disk)
     return is_served ? 0 : fail("poll", "failed");
 }
 
+/* Makes the disk, or opens it. Returns 0 after a message. */
+static int make_disk(const struct options *options, mdl_disk *disk)
+{
+    const mdl_identity *identity = options->has_identity ? &options->identity : NULL;
+    const struct wanted wanted = { options->profile, options->blocks, (uint32_t)options->pool,
+                                   identity };
+    char reason[REASON_LENGTH];
+    mdl_error error;
+
+    if (options->disk) {
+        if (open_kept(disk, options->disk, &wanted, reason))
+            return 1;
+        fail("the disk", reason);
+        return 0;
+    }
+    error = mdl_make_with_profile(disk, wanted.profile, wanted.blocks, wanted.pool, identity);
+    if (error)
+        fail("the disk", text_of_error(error));
+    return !error;
+}
+
 int main(int count, char **words)
 {
-    static const char *const refusals[] = {
-        [MDL_BLOCKS] = "the number of blocks is not 1 to 2^40",
-        [MDL_POOL] = "the pool is not 1 to 65,536 blocks",
-        [MDL_IDENTITY_TEXT] = "a text has a byte outside 20h to 7Eh",
-        [MDL_IDENTITY_LOCAL] = "the local identifier has more than 60 bits",
-        [MDL_OUT_OF_MEMORY] = "there is no memory",
-    };
     struct options options;
     mdl_disk disk = MDL_NONE;
     const char *word, *fault = read_options(count, words, &options, &word);
-    mdl_error error;
     int status;
 
     if (fault)
         return fail(word, fault);
-    error = mdl_make_with_profile(&disk, options.profile, options.blocks, (uint32_t)options.pool,
-                                  &options.identity);
-    if (error)
-        return fail("the disk", refusals[error]);
+    if (!make_disk(&options, &disk))
+        return 1;
     status = run(&options, &disk);
-    mdl_free(&disk);
+    if (mdl_close(&disk))
+        status = fail(options.disk, "the file may lack a part of what was changed");
     return status;
 }
