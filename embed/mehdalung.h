@@ -241,14 +241,15 @@ typedef struct mdl_damage {
  *
  * An empty file becomes a new disk, as mdl_make_with_profile makes it. Then you have to give profile,
  * blocks and pool, and a null identity means the standard one. Otherwise each value that you give has
- * to be that of the disk. If the call fails, it has written nothing to the file, except with
+ * to be the disk's. If the call fails, it has written nothing to the file, except with
  * MDL_FILE_FAILED. A file that it has made is still there, and empty.
  *
- * What is in the file when a call returns. A new disk is in its file. A command that synchronizes the
- * cache has put all that was changed so far into the file when mdl_execute returns. So has a command with FUA, one that saves mode
- * pages, PERSISTENT RESERVE OUT, START STOP UNIT, and each command while WCE is 0. So have mdl_happen,
- * mdl_power_cycle and mdl_flush. Other commands wait in memory. If the program or the machine stops,
- * the file has the disk as after some first part of the commands, with all that was put there.
+ * What is in the file when a call returns. A new disk is in its file. All that was changed so far is in
+ * the file when mdl_happen, mdl_power_cycle, mdl_flush or mdl_execute returns. With mdl_execute that is
+ * so after a command that synchronizes the cache, has FUA or saves mode pages, after PERSISTENT RESERVE
+ * OUT and START STOP UNIT, and after each command while WCE is 0. Other commands wait in memory. If the
+ * program or the machine stops, the file has the disk as after some first part of the commands, with all
+ * that was put there.
  *
  * What a failed call on the file does. The disk is dead: nothing more is written. The command
  * that made the call ends with CHECK CONDITION, HARDWARE ERROR, 44h/00h, and without data-in, and so
