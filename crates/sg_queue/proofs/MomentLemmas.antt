@@ -4,10 +4,9 @@ use Rattle.std.proofs.Common.{append_assoc}
 use Rattle.std.proofs.lemmas.List.{reverse-append}
 use Rattle.sg_file.specs.Calls.{Call}
 use Rattle.sg_file.specs.Calls.Call.{Read, Write, CutTo, Sync, BeginDraft, WriteDraft, Exchange}
-use Rattle.sg_file.specs.History.{left_since, may_leave, moment}
+use Rattle.sg_file.specs.History.{left_since, moment}
 use Rattle.sg_file.specs.Moments.{counts_now}
-use Rattle.sg_queue.specs.Moments.{AreWrites, IsRead, IsWrite, WaitingCallsAreMoments}
-use Rattle.sg_queue.specs.QueueFields.{QueueFields}
+use Rattle.sg_queue.specs.Moments.{AreWrites, IsWrite, WaitingCallsAreMoments}
 use Rattle.sg_queue.specs.QueuedCall.{call_of_kind}
 use Rattle.sg_queue.specs.Waiting.{waiting}
 use Rattle.sg_queue.specs.declared.call.CallKind.{CallKind}

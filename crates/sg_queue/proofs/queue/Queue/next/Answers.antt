@@ -1,4 +1,4 @@
-use Rattle.std.proofs.Common.{Option, List, [], ◌++◌, drop, ap, option_to_list, refl, sym, ◌∙◌}
+use Rattle.std.proofs.Common.{Option, ◌++◌, drop, ap, option_to_list, refl, sym, ◌∙◌}
 use Rattle.sg_queue.proofs.WaitingLemmas.{none}
 use Rattle.sg_queue.specs.declared.call.QueuedCall.{QueuedCall}
 use Rattle.sg_queue.proofs.queue.Queue.next.Goals as goal

@@ -1,4 +1,4 @@
-use Rattle.std.proofs.Common.{◌+◌, arith, length-append, drop, refl}
+use Rattle.std.proofs.Common.{arith, length-append, drop}
 use Rattle.std.proofs.lemmas.List.{drop-append-le}
 use Rattle.sg_queue.proofs.WaitingLemmas.{Added, added}
 use Rattle.sg_queue.proofs.queue.Queue.push.Goals as goal
