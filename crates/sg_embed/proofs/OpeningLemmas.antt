@@ -1,13 +1,12 @@
 -- The file that a disk was read from, and what an error says of it.
-use Rattle.std.proofs.Common.{◌≡◌, ◌≢◌, ◌<◌, ◌≤◌, ◌+◌, ℕ, zero, suc, List, [], ◌∷◌, ◌++◌, length, sym, ap}
+use Rattle.std.proofs.Common.{◌≡◌, ◌≢◌, ℕ, List, [], ◌∷◌, ◌++◌, length, sym, ap}
 use Rattle.std.proofs.Common.{subst, ◌∙◌, arith, length-append, Ok, Err, inr}
 use Rattle.std.specs.Prelude.{◌==◌, true, false}
 use Rattle.std.proofs.lemmas.Bool.Decides.{nat_tests}
 use Rattle.std.proofs.lemmas.List.{append-nil}
 use Rattle.sg_journal.specs.Journal.{Found, after, found}
 use Rattle.sg_journal.specs.Reading.{WasRead}
-use Rattle.sg_kept.specs.Disk.{longest_file}
-use Rattle.sg_kept.specs.Refused.{BeginsWith, HasDamage, IsTrueOf}
+use Rattle.sg_kept.specs.Refused.{IsTrueOf}
 use Rattle.sg_kept.specs.declared.opening.OpenDiskError.{OpenDiskError}
 use Rattle.sg_kept.specs.declared.opening.OpenDiskError.TheVariants.{Memory, Device, File, Unmade}
 use Rattle.sg_kept.specs.declared.opening.OpenDiskError.TheVariants.{Damaged, TooLong}

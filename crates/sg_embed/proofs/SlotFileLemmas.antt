@@ -1,5 +1,5 @@
 -- The calls on the file of the disk that a slot has.
-use Rattle.std.proofs.Common.{◌≡◌, ℕ, Bool, true, false, List, Option, None, Some, Ok, Err, refl, sym, subst}
+use Rattle.std.proofs.Common.{◌≡◌, ℕ, false, List, Option, None, Some, Ok, Err, refl, sym, subst}
 use Rattle.std.specs.Prelude.{unwrap_or}
 use Rattle.sg_queue.specs.declared.call.QueuedCall.{QueuedCall}
 use Rattle.sg_queue.specs.declared.queue.TooShort.{TooShort}

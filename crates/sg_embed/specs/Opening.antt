@@ -11,7 +11,7 @@ use Rattle.sg_kept.specs.declared.opening.OpenDiskError.TheVariants.{Device, Too
 use Rattle.sg_target.specs.Armed.{Armed}
 use Rattle.sg_target.specs.Config.{ConfigFields}
 use Rattle.sg_target.specs.NewState.{new_state}
-use Rattle.sg_target.specs.State.{State, config_of}
+use Rattle.sg_target.specs.State.{config_of}
 use Rattle.sg_embed.specs.Ends.{done_outcome}
 use Rattle.sg_embed.specs.FileDisk.{FileDiskFields, armed_in, may_leave, seen}
 use Rattle.sg_embed.specs.FileRecords.{damage_of, no_damage}

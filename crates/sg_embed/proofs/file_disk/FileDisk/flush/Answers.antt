@@ -1,4 +1,4 @@
-use Rattle.std.proofs.Common.{◌≡◌, Some, refl, sym, ap, subst, ◌∙◌}
+use Rattle.std.proofs.Common.{Some, refl, sym, ap, subst, ◌∙◌}
 use Rattle.sg_kept.specs.Kept.{powered}
 use Rattle.sg_embed.specs.FileDisk.{FileDiskFields, FlushesFile}
 use Rattle.sg_embed.proofs.FileDiskLemmas.{if-alive, if-dead}
