@@ -24,7 +24,8 @@ impl<'a> OpenFile<'a> {
     /// # Errors
     /// - `Busy` if another program or handle has the file open, or if it has put another file at the
     ///   path meanwhile.
-    /// - `Io` if the system refuses a call.
+    /// - `Io` if the system refuses a call, or if the path is that of a device or a pipe. The first flush
+    ///   would put a file in its place.
     pub(crate) fn open(rt: &'a HostRuntime, path: &str) -> Result<(OpenFile<'a>, u64), FileError> {
         let file = File::options()
             .read(true)
@@ -33,6 +34,9 @@ impl<'a> OpenFile<'a> {
             .open(rt, path)?;
         file.try_lock()?;
         let metadata = file.metadata()?;
+        if !metadata.is_file() {
+            return Err(FileError::Io(io::Error::from(ErrorKind::InvalidInput)));
+        }
         let at_path = fs::metadata(rt, path)?;
         if metadata.dev() != at_path.dev() || metadata.ino() != at_path.ino() {
             return Err(FileError::Busy);

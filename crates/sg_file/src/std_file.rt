@@ -43,7 +43,8 @@ impl<'a> StdFile<'a> {
     /// # Errors
     /// - `Busy` if another program or handle has the file open, or if it has put another file at the
     ///   path meanwhile.
-    /// - `Io` if the system refuses a call.
+    /// - `Io` if the system refuses a call, or if the path is that of a device or a pipe. The first flush
+    ///   would put a file in its place.
     pub fn open(rt: &'a HostRuntime, path: &str) -> Result<FileSource<'a>, FileError>
         ensures { IfOk result (λ source. source.calls ≡ []) }
     {
