@@ -41,6 +41,10 @@ void mehdalung_free(mdl_disk *disk);
 uint32_t mehdalung_execute(mdl_disk *disk, uint32_t initiator, const uint8_t *cdb,
                            size_t cdb_length, const uint8_t *data_out, size_t data_out_length,
                            uint8_t *data_in, size_t data_in_length, mdl_reply *reply);
+uint32_t mehdalung_execute_unflushed(mdl_disk *disk, uint32_t initiator, const uint8_t *cdb,
+                                     size_t cdb_length, const uint8_t *data_out,
+                                     size_t data_out_length, uint8_t *data_in,
+                                     size_t data_in_length, mdl_reply *reply);
 uint32_t mehdalung_power_cycle(mdl_disk *disk);
 uint32_t mehdalung_happen(mdl_disk *disk, const mdl_happening *happening);
 uint32_t mehdalung_read_happening(const uint8_t *text, size_t length, mdl_happening *happening);
@@ -303,6 +307,28 @@ mdl_error mdl_execute(mdl_disk *disk, uint32_t initiator, const uint8_t *cdb, si
         return (mdl_error)error;
     /* The reply goes out after the calls. If one fails, the disk gives another reply. */
     return make_calls(disk) ? (mdl_error)mehdalung_fail(disk, reply) : MDL_OK;
+}
+
+mdl_error mdl_execute_unflushed(mdl_disk *disk, uint32_t initiator, const uint8_t *cdb,
+                                size_t cdb_length, const uint8_t *data_out,
+                                size_t data_out_length, uint8_t *data_in, size_t data_in_length,
+                                mdl_reply *reply)
+{
+    uint8_t none[1];
+    uint32_t error;
+
+    if (!disk || are_missing(cdb, cdb_length) || are_missing(data_out, data_out_length)
+        || are_missing(data_in, data_in_length) || !reply)
+        return MDL_NULL_POINTER;
+    error = mehdalung_execute_unflushed(disk, initiator, cdb ? cdb : nothing, cdb_length,
+                                        data_out ? data_out : nothing, data_out_length,
+                                        data_in ? data_in : none, data_in_length, reply);
+    if (error != CALLS_WAIT && error != MDL_FLUSH_OWED)
+        return (mdl_error)error;
+    /* Calls may wait, too, if a flush is owed. */
+    if (make_calls(disk))
+        return (mdl_error)mehdalung_fail(disk, reply);
+    return error == CALLS_WAIT ? MDL_OK : MDL_FLUSH_OWED;
 }
 
 mdl_error mdl_power_cycle(mdl_disk *disk)

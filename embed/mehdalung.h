@@ -8,8 +8,7 @@
  *
  * Memory. mdl_make, mdl_make_with_profile, mdl_open and mdl_open_device take all memory of a disk
  * from malloc, and mdl_free and mdl_close give it back. mdl_tool and mdl_decode take memory for the
- * time of the call. While a disk's file is written afresh, the call takes memory for the calls on the
- * file. No other function takes or frees any. You have to see to this:
+ * time of the call. No other function takes or frees any. You have to see to this:
  *     - malloc, realloc and free belong to one allocator.
  *     - malloc and realloc align a block to each power of two up to 16 that divides its size. The
  *       allocators of glibc and musl do.
@@ -64,7 +63,7 @@ extern "C" {
 #define MDL_ANY_PROFILE 0xFFFFFFFFu
 
 /* The result of a call. If it is not MDL_OK, the call has changed nothing, except with
- * MDL_FILE_FAILED. */
+ * MDL_FILE_FAILED and MDL_FLUSH_OWED. */
 typedef enum mdl_error {
     MDL_OK = 0,
     MDL_NO_DISK = 1,            /* there is no disk: you made none, or you freed it */
@@ -106,7 +105,9 @@ typedef enum mdl_error {
     MDL_OTHER_POOL = 35,        /* it has a pool of another size */
     MDL_OTHER_IDENTITY = 36,    /* it has another identity */
     MDL_CANNOT_OPEN = 39,       /* the system refuses to open or to read the file: see errno */
-    MDL_NO_FILE = 40            /* the disk is not in a file */
+    MDL_NO_FILE = 40,           /* the disk is not in a file */
+    MDL_FLUSH_OWED = 41         /* the disk has executed the command, and its reply has to wait for
+                                   mdl_flush: only mdl_execute_unflushed returns this */
 } mdl_error;
 
 /* A disk, or none. It begins as MDL_NONE. You own this variable. You do not read or write the field
@@ -274,8 +275,9 @@ mdl_error mdl_open(mdl_disk *disk, const char *path, uint32_t profile, uint64_t 
                    uint32_t pool, const mdl_identity *identity, mdl_damage *damage);
 
 /* Opens a disk as mdl_open does, in any file that you read and write yourself. The calls on it are made
- * by this function, mdl_execute, mdl_happen, mdl_power_cycle, mdl_forget, mdl_flush and mdl_close, in
- * their order and before the function returns. They may use another disk, and not this one.
+ * by this function, mdl_execute, mdl_execute_unflushed, mdl_happen, mdl_power_cycle, mdl_forget,
+ * mdl_flush and mdl_close, in their order and before the function returns. They may use another disk, and
+ * not this one.
  *     device    The calls on the file. If the call fails, `close` is not called.
  *     contents  length bytes, which the call reads: all that the file has. They may be null if `length`
  *               is 0.
@@ -333,6 +335,27 @@ void mdl_free(mdl_disk *disk);
 mdl_error mdl_execute(mdl_disk *disk, uint32_t initiator, const uint8_t *cdb, size_t cdb_length,
                       const uint8_t *data_out, size_t data_out_length, uint8_t *data_in,
                       size_t data_in_length, mdl_reply *reply);
+
+/* Executes a command as mdl_execute does, without a flush of the disk's file. So several commands share
+ * one flush, which takes most of the time of a command while WCE is 0:
+ *     1. Execute each command by this function.
+ *     2. If it returns MDL_OK, the reply may go out at once: all that the command owes is in the file.
+ *     3. If it returns MDL_FLUSH_OWED, keep the reply. The disk has executed the command, and other commands
+ *        see what it changed. A crash may lose it.
+ *     4. Call mdl_flush once for all replies that you keep. If it returns MDL_OK, they may go out.
+ * The reply has to wait if mdl_execute would flush after the command, and if something waits for a flush. If
+ * too much waits in memory, the function writes it to the file, and it still waits for the flush there.
+ *
+ * If mdl_flush returns MDL_FILE_FAILED, let none of these replies out. Each command has to end with CHECK
+ * CONDITION, HARDWARE ERROR, 44h/00h. The disk is dead, and mdl_execute gives this reply to any command.
+ * Opening the file finds the disk after some first part of the commands.
+ *
+ * The arguments and the errors are those of mdl_execute, and MDL_FLUSH_OWED. A disk in memory owes no
+ * flush. */
+mdl_error mdl_execute_unflushed(mdl_disk *disk, uint32_t initiator, const uint8_t *cdb,
+                                size_t cdb_length, const uint8_t *data_out,
+                                size_t data_out_length, uint8_t *data_in, size_t data_in_length,
+                                mdl_reply *reply);
 
 /* Takes the power of a disk away and gives it back. The blocks stay as they were. Registrations and
  * reservation stay if they persist through a power loss (APTPL). Otherwise they are gone. The saved

@@ -20,6 +20,8 @@ static int failures;
     } while (0)
 
 enum { BLOCKS = 4096, POOL = 16, STEPS = 40, LISTS = 9 };
+/* A disk of so many blocks, and the longest file of it that is not written afresh. */
+enum { USED = 8192, LONG = 2 * (548 * USED + (1 << 18)) + (16 << 20) };
 
 static uint8_t room[MDL_LONGEST_CALL], other_room[MDL_LONGEST_CALL];
 static uint64_t after[STEPS + 1]; /* what a power cycle leaves after so many steps */
@@ -31,16 +33,36 @@ static mdl_error open_memory(mdl_disk *disk, struct memory *it, mdl_profile prof
                            it->file.length ? 0 : BLOCKS, POOL, NULL, NULL);
 }
 
-/* Takes a step. Returns 1 if all that was changed so far has to be in the file afterwards. */
+static int shares_flush; /* commands are executed without a flush, and one flush is for three that owe it */
+
+static mdl_error execute(mdl_disk *disk, const struct command *c, int flushes)
+{
+    return (flushes ? mdl_execute : mdl_execute_unflushed)(
+        disk, c->initiator, c->cdb, c->cdb_length, c->data_out, c->data_out_length, data_in,
+        sizeof data_in, &reply);
+}
+
+/* Takes a step. Returns 1 if all that was changed so far has to be in the file afterwards. If a flush that
+ * commands share fails, the disk gives the reply. */
 static int step(mdl_disk *disk, const struct command *c, mdl_error *error)
 {
+    static int owed;
+
     if (c->is_happening) {
         *error = mdl_happen(disk, &c->happening);
         return 1;
     }
-    *error = mdl_execute(disk, c->initiator, c->cdb, c->cdb_length, c->data_out,
-                         c->data_out_length, data_in, sizeof data_in, &reply);
-    return c->cdb[0] == 0x35 && reply.status == MDL_GOOD;
+    *error = execute(disk, c, !shares_flush);
+    if (*error != MDL_FLUSH_OWED)
+        return c->cdb[0] == 0x35 && reply.status == MDL_GOOD;
+    WANT(shares_flush);
+    *error = MDL_OK;
+    if (++owed % 3)
+        return 0;
+    if (!mdl_flush(disk))
+        return 1;
+    *error = execute(disk, c, 1);
+    return 0;
 }
 
 /* Finds out what a power cycle leaves after each first part of the steps. */
@@ -105,6 +127,10 @@ static void try_dead(mdl_disk *disk, struct memory *it)
         memset(&reply, 0xFF, sizeof reply);
         WANT(mdl_execute(disk, 0, cdbs[at], 6, NULL, 0, data_in, sizeof data_in, &reply) == MDL_OK);
         WANT(is_failure());
+        memset(&reply, 0xFF, sizeof reply);
+        WANT(mdl_execute_unflushed(disk, 0, cdbs[at], 6, NULL, 0, data_in, sizeof data_in, &reply)
+             == MDL_OK);
+        WANT(is_failure());
     }
     WANT(mdl_happen(disk, &reset) == MDL_FILE_FAILED);
     WANT(mdl_power_cycle(disk) == MDL_FILE_FAILED);
@@ -160,45 +186,75 @@ static int fail_at(mdl_profile profile, uint64_t seed, unsigned long call)
 }
 
 /* WRITE(10) of 256 blocks with FUA, so that it is in the file when it returns. */
-static mdl_error write_through(mdl_disk *disk, uint8_t byte)
+static mdl_error write_through(mdl_disk *disk, uint32_t lba, uint8_t byte)
 {
     static uint8_t blocks[256 * MDL_BLOCK_LENGTH];
-    static const uint8_t cdb[10] = { 0x2A, 0x08, [7] = 1 };
+    const uint8_t cdb[10] = { 0x2A, 0x08, [4] = (uint8_t)(lba >> 8), [7] = 1 };
 
     memset(blocks, byte, sizeof blocks);
     return mdl_execute(disk, 0, cdb, sizeof cdb, blocks, sizeof blocks, data_in, sizeof data_in,
                        &reply);
 }
 
-/* Writes until the file is written afresh, while the power fails at a call of that. What is left has the
- * last write, or the one before it. Returns 0 if there is no such call. */
+/* The first byte of a block. */
+static uint8_t first_byte(mdl_disk *disk, uint32_t lba)
+{
+    const uint8_t read[10] = { 0x28, [4] = (uint8_t)(lba >> 8), [8] = 1 };
+
+    WANT(mdl_execute(disk, 0, read, 10, NULL, 0, data_in, sizeof data_in, &reply) == MDL_OK);
+    WANT(reply.status == MDL_GOOD);
+    return data_in[0];
+}
+
+/* Writes 4 MiB, and then over the first blocks until the file is almost long. Returns how often it wrote
+ * there. */
+static unsigned long write_much(mdl_disk *disk, const struct memory *it)
+{
+    static const uint8_t ready[6];
+    unsigned long written = 0;
+    uint32_t lba;
+
+    WANT(mdl_open_device(disk, (mdl_device *)&it->device, NULL, 0, MDL_PROFILE_EXTENDED, USED, USED, NULL,
+                         NULL) == MDL_OK);
+    WANT(mdl_execute(disk, 0, ready, 6, NULL, 0, NULL, 0, &reply) == MDL_OK);
+    for (lba = 256; lba < USED; lba += 256)
+        WANT(write_through(disk, lba, (uint8_t)(lba >> 8)) == MDL_OK && reply.status == MDL_GOOD);
+    while (it->file.length <= LONG - 200000 && written < 1000)
+        WANT(write_through(disk, 0, (uint8_t)++written) == MDL_OK && reply.status == MDL_GOOD);
+    return written;
+}
+
+/* Writes until the file is written afresh in several parts, while the power fails at a call of that. What
+ * is left has the last write, or the one before it. Returns 0 if there is no such call. */
 static int fail_afresh(unsigned long call)
 {
-    static const uint8_t ready[6], read[10] = { 0x28, [8] = 1 };
+    static const uint8_t ready[6];
     mdl_disk disk = MDL_NONE;
     struct memory it, left;
-    unsigned long written = 0;
+    unsigned long written;
+    uint8_t found;
+    uint32_t lba;
     int failed;
 
     begin_memory_file(&it, NULL, room, sizeof room);
-    WANT(mdl_open_device(&disk, &it.device, NULL, 0, MDL_PROFILE_EXTENDED, 4096, 256, NULL, NULL)
-         == MDL_OK);
-    WANT(mdl_execute(&disk, 0, ready, 6, NULL, 0, NULL, 0, &reply) == MDL_OK);
-    while (it.file.length <= (16u << 20) - 200000 && written < 1000)
-        WANT(write_through(&disk, (uint8_t)++written) == MDL_OK && reply.status == MDL_GOOD);
+    it.seed = call;
+    written = write_much(&disk, &it);
     it.drafts = 0;
     it.fails_at = it.calls + call;
     while (it.drafts == 0 && it.calls < it.fails_at && written < 1000)
-        WANT(write_through(&disk, (uint8_t)++written) == MDL_OK);
+        WANT(write_through(&disk, 0, (uint8_t)++written) == MDL_OK);
+    failed = it.calls >= it.fails_at;
+    WANT(written < 1000 && (failed ? is_failure() : reply.status == MDL_GOOD));
+    WANT(it.later_calls == 0 && (failed || it.file.length < LONG / 2));
     mdl_free(&disk);
-    WANT(written < 1000);
     begin_memory_file(&left, &it.file, other_room, sizeof other_room);
     WANT(mdl_open_device(&disk, &left.device, left.file.at, left.file.length, MDL_ANY_PROFILE, 0, 0,
                          NULL, NULL) == MDL_OK);
     WANT(mdl_execute(&disk, 0, ready, 6, NULL, 0, NULL, 0, &reply) == MDL_OK);
-    WANT(mdl_execute(&disk, 0, read, 10, NULL, 0, data_in, sizeof data_in, &reply) == MDL_OK);
-    failed = it.calls >= it.fails_at;
-    WANT(data_in[0] == (uint8_t)written || (failed && data_in[0] == (uint8_t)(written - 1)));
+    found = first_byte(&disk, 0);
+    WANT(found == (uint8_t)written || (failed && found == (uint8_t)(written - 1)));
+    for (lba = 256; lba < USED; lba += 256)
+        WANT(first_byte(&disk, lba) == (uint8_t)(lba >> 8));
     mdl_free(&disk);
     end_memory_file(&it);
     end_memory_file(&left);
@@ -296,14 +352,19 @@ int main(void)
     for (seed = 1; seed <= LISTS; seed++) {
         mdl_profile profile = (mdl_profile)(seed % 3);
 
+        shares_flush = 0;
         follow(profile, seed);
         for (call = 1; fail_at(profile, seed, call); call++)
             calls++;
+        shares_flush = 1;
+        for (call = 1; fail_at(profile, seed, call); call++)
+            calls++;
     }
+    shares_flush = 0;
     WANT(calls > 100);
     damage(17);
     for (call = 1; fail_afresh(call); call++)
         ;
-    WANT(call > 6);
+    WANT(call > 12);
     return failures != 0;
 }

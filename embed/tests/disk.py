@@ -165,6 +165,7 @@ assert refusal(Disk, 64, 4, None, 1 << 32) is ValueError
 
 
 WRITE_ONE = bytes.fromhex("2a000000000500000100")
+WRITE_THROUGH = bytes.fromhex("2a080000000500000100")
 READ_ONE = bytes.fromhex("28000000000500000100")
 SYNCHRONIZE = bytes.fromhex("35000000000000000000")
 
@@ -195,6 +196,17 @@ with tempfile.TemporaryDirectory() as folder:
     assert disk.execute(0, WRITE_ONE, three).status == GOOD
     del disk
     with Disk.open(path, pool=4, profile=Profile.EXTENDED) as disk:
+        assert block_of(disk) == three
+    with Disk.open(path) as disk:
+        assert codes(disk) == only(range(8), 0x29, 0x00)
+        for cdb, block, waits in ((WRITE_ONE, one, False), (WRITE_THROUGH, two, True),
+                                  (WRITE_ONE, three, False)):
+            reply = disk.execute(0, cdb, block, flush=False)
+            assert (reply.status, reply.waits) == (GOOD, waits)
+        disk.flush()
+        assert disk.execute(0, WRITE_THROUGH, one, flush=False).waits
+        disk.free()
+    with Disk.open(path) as disk:
         assert block_of(disk) == three
     for arguments, why in (((65,), Error.OTHER_BLOCKS), ((64, 5), Error.OTHER_POOL),
                            ((64, 4, identity("X")), Error.OTHER_IDENTITY),

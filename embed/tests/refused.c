@@ -1,5 +1,5 @@
 /* Memory of disks in files, which it makes in the folder FOLDER: each request is refused in turn, and all
- * that was taken is given back. No command takes memory, unless the file is written afresh.
+ * that was taken is given back. No command takes memory, whether it writes the file afresh or not.
  *     refused FOLDER */
 #define _XOPEN_SOURCE 700
 #include <errno.h>
@@ -57,12 +57,13 @@ static int failures;
         } \
     } while (0)
 
-enum { BLOCKS = 65536, POOL = 16384, PIECE = 256, PIECES = POOL / PIECE };
+enum { BLOCKS = 65536, POOL = 16384, LARGE = 131072, PIECE = 2048, PIECES = LARGE / PIECE };
 
 static const char name[] = "refused";
 static uint8_t room[MDL_LONGEST_CALL], data_in[MDL_BUFFER_LENGTH];
 static mdl_reply reply;
 static unsigned long drafts;
+static size_t drafted, longest; /* bytes of the last draft, and of the longest call for it */
 
 /* A device that forgets all: nobody opens the file again. */
 static int write_nowhere(void *context, uint64_t at, const uint8_t *bytes, size_t length)
@@ -87,12 +88,15 @@ static int begin_draft(void *context)
 {
     (void)context;
     drafts++;
+    drafted = 0;
     return 0;
 }
 
 static int write_no_draft(void *context, const uint8_t *bytes, size_t length)
 {
-    (void)context, (void)bytes, (void)length;
+    (void)context, (void)bytes;
+    drafted += length;
+    longest = length > longest ? length : longest;
     return 0;
 }
 
@@ -161,38 +165,37 @@ static void take_no_memory(void)
 static void write_piece(mdl_disk *disk, unsigned long piece)
 {
     static const uint8_t blocks[PIECE * MDL_BLOCK_LENGTH] = { 1 };
-    const uint8_t cdb[10] = { 0x2A, 0x08, [4] = (uint8_t)(piece % PIECES), [7] = PIECE >> 8 };
+    const unsigned long lba = piece % PIECES * PIECE;
+    const uint8_t cdb[10] = { 0x2A, 0x08, [3] = (uint8_t)(lba >> 16), [4] = (uint8_t)(lba >> 8),
+                              [7] = PIECE >> 8 };
 
     WANT(mdl_execute(disk, 0, cdb, sizeof cdb, blocks, sizeof blocks, data_in, sizeof data_in, &reply)
          == MDL_OK);
+    WANT(reply.status == MDL_GOOD);
 }
 
-/* The file is written afresh when it is long. That takes memory, and without it the disk is dead. */
-static void write_afresh(int refuses)
+/* A disk of 64 MiB is written over until its file is long, and is written afresh part by part. No command
+ * takes memory for it: the library has memory for the calls of one batch, and no more calls wait at
+ * once. */
+static void write_afresh(void)
 {
     static const uint8_t ready[6];
-    const long held_before = held;
     mdl_disk disk = MDL_NONE;
-    unsigned long piece;
+    unsigned long piece = 0;
+    long held_before;
 
     drafts = 0;
-    WANT(!mdl_open_device(&disk, &device, NULL, 0, MDL_PROFILE_EXTENDED, BLOCKS, POOL, NULL, NULL));
+    WANT(!mdl_open_device(&disk, &device, NULL, 0, MDL_PROFILE_EXTENDED, LARGE, LARGE, NULL, NULL));
     WANT(mdl_execute(&disk, 0, ready, 6, NULL, 0, data_in, sizeof data_in, &reply) == MDL_OK);
-    for (piece = 0; piece < 1000; piece++) {
-        requests = 0;
-        refused = (unsigned long)refuses;
-        write_piece(&disk, piece);
-        refused = 0;
-        if (requests > 0)
-            break;
-        WANT(reply.status == MDL_GOOD && drafts == 1);
-    }
-    WANT(piece > PIECES && piece < 1000);
-    WANT(refuses ? reply.status == MDL_CHECK_CONDITION && reply.sense[2] == 4 && drafts == 1
-                 : reply.status == MDL_GOOD && drafts == 2);
-    WANT(mdl_flush(&disk) == (refuses ? MDL_FILE_FAILED : MDL_OK));
+    held_before = held;
+    requests = 0;
+    while (drafts < 3 && piece < 1000)
+        write_piece(&disk, piece++);
+    WANT(drafts == 3 && piece > 3 * PIECES);
+    WANT(drafted > (64 << 20) && drafted < (72 << 20) && longest < (5 << 20));
+    WANT(requests == 0 && held == held_before);
+    WANT(mdl_flush(&disk) == MDL_OK && drafts == 3 && requests == 0);
     mdl_free(&disk);
-    WANT(held == held_before);
 }
 
 int main(int count, char **words)
@@ -201,7 +204,6 @@ int main(int count, char **words)
         return 2;
     refuse_openings();
     take_no_memory();
-    write_afresh(0);
-    write_afresh(1);
+    write_afresh();
     return failures != 0;
 }

@@ -19,6 +19,7 @@
 #include "held.h"
 #include "kept.h"
 #include "kept_ports.h"
+#include "waiting.h"
 
 /* The length of the longest CDB of a command of the disk. */
 enum { TRACED_CDB = 16 };
@@ -118,12 +119,20 @@ static int initiator_of(struct scsi_cmd *cmd)
     return number;
 }
 
+/* Returns 1 if a command may share its flush with others. Those before an ORDERED command have to end first,
+ * and those after it later (SAM-5, 8.6). */
+static int shares_flush(const struct scsi_cmd *cmd)
+{
+    return unit_of(cmd->dev)->file && cmd->attribute != MSG_ORDERED_TAG;
+}
+
 /* Executes a command. The disk writes data-in to a buffer. */
 static mdl_error execute_into(struct scsi_cmd *cmd, uint32_t initiator, uint8_t *buffer,
                               size_t length, mdl_reply *reply)
 {
-    return mdl_execute(&unit_of(cmd->dev)->disk, initiator, cmd->scb, (size_t)cmd->scb_len,
-                       scsi_get_out_buffer(cmd), scsi_get_out_length(cmd), buffer, length, reply);
+    return (shares_flush(cmd) ? mdl_execute_unflushed : mdl_execute)(
+        &unit_of(cmd->dev)->disk, initiator, cmd->scb, (size_t)cmd->scb_len, scsi_get_out_buffer(cmd),
+        scsi_get_out_length(cmd), buffer, length, reply);
 }
 
 /* Executes a command. tgtd's buffer may be too short for its data-in: the initiator then gets what
@@ -136,26 +145,13 @@ static mdl_error execute_command(struct scsi_cmd *cmd, uint32_t initiator, mdl_r
     if (error != MDL_BUFFER_TOO_SHORT)
         return error;
     error = execute_into(cmd, initiator, data_in, sizeof data_in, reply);
-    if (error)
+    if (error && error != MDL_FLUSH_OWED)
         return error;
     if (length > reply->data_in_length)
         length = reply->data_in_length;
     if (length > 0)
         memcpy(scsi_get_in_buffer(cmd), data_in, length);
-    return MDL_OK;
-}
-
-/* Hands a reply over to tgtd: the status is returned. The residual counts compare the lengths of
- * data-in and data-out with what the initiator expects. tgtd's counts have 32 bits with a sign. */
-static int deliver(struct scsi_cmd *cmd, const mdl_reply *reply)
-{
-    uint64_t asked = reply->data_out_length;
-
-    scsi_set_in_resid_by_actual(cmd, (uint32_t)reply->data_in_length);
-    scsi_set_out_resid_by_actual(cmd, asked < INT32_MAX ? (uint32_t)asked : INT32_MAX);
-    memcpy(cmd->sense_buffer, reply->sense, reply->sense_length);
-    cmd->sense_len = reply->sense_length;
-    return reply->status;
+    return error;
 }
 
 /* A line for a command and its reply, in the log of tgtd while its debug messages are on. The CDB
@@ -195,6 +191,8 @@ static mdl_error execute_of_session(struct scsi_cmd *cmd, int initiator, mdl_rep
     mdl_error error;
     int other;
 
+    if (preempts || !shares_flush(cmd))
+        end_waiting(cmd->dev);
     note_session(cmd->dev, initiator, cmd->it_nexus->itn_id);
     error = execute_command(cmd, (uint32_t)initiator, reply);
     if (preempts)
@@ -207,11 +205,12 @@ static mdl_error execute_of_session(struct scsi_cmd *cmd, int initiator, mdl_rep
 
 /* Called by tgtd for each command, with the whole of its data-out. A port without a number gets
  * BUSY: tgtd asks nobody before it lets a port log in. tgtd sends the status that is returned,
- * unless the command is held. */
+ * unless the command is held or its reply waits for a flush. */
 static int execute(int tid, struct scsi_cmd *cmd)
 {
-    int initiator;
+    int initiator, status;
     mdl_reply reply;
+    mdl_error error;
 
     (void)tid;
     notice(cmd->dev);
@@ -220,7 +219,8 @@ static int execute(int tid, struct scsi_cmd *cmd)
         scsi_set_in_resid_by_actual(cmd, 0);
         return SAM_STAT_BUSY;
     }
-    if (execute_of_session(cmd, initiator, &reply)) {
+    error = execute_of_session(cmd, initiator, &reply);
+    if (error && error != MDL_FLUSH_OWED) {
         scsi_set_in_resid_by_actual(cmd, 0);
         sense_data_build(cmd, HARDWARE_ERROR, ASC_INTERNAL_TGT_FAILURE);
         return SAM_STAT_CHECK_CONDITION;
@@ -229,9 +229,14 @@ static int execute(int tid, struct scsi_cmd *cmd)
         trace(cmd, initiator, &reply);
     if (reply.status == MDL_NO_REPLY) {
         hold(cmd);
+        if (error == MDL_FLUSH_OWED)
+            owe_flush(cmd->dev);
         return SAM_STAT_GOOD;
     }
-    return deliver(cmd, &reply);
+    status = deliver(cmd, &reply);
+    if (error == MDL_FLUSH_OWED)
+        wait_for_flush(cmd, status);
+    return status;
 }
 
 /* The seed of a new logical unit that asks for none. That of an extended disk is random. A base disk has
@@ -329,6 +334,7 @@ static int open_disk(struct scsi_lu *lu, char *path, int *fd, uint64_t *size)
         return -EINVAL;
     }
     INIT_LIST_HEAD(&unit->held);
+    begin_waiting(lu);
     watch(lu, &store);
     *fd = -1;
     *size = asked.blocks * MDL_BLOCK_LENGTH;
@@ -341,6 +347,8 @@ static void close_disk(struct scsi_lu *lu)
     struct unit *unit = unit_of(lu);
 
     end_held(lu, ANY_SESSION, ANY_TAG);
+    end_waiting(lu);
+    leave_unit(lu);
     if (mdl_close(&unit->disk))
         eprintf("not kept: %s: the file may lack a part of what was changed\n",
                 unit->file ? unit->file : "a disk in memory");

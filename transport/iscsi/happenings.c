@@ -7,6 +7,7 @@
 #include "happenings.h"
 #include "driver.h"
 #include "held.h"
+#include "waiting.h"
 #include "iscsi/iscsid.h"
 
 /* Of session numbers, which have 16 bits and count up. */
@@ -29,7 +30,7 @@ static const char *name_of(uint32_t kind)
 }
 
 /* A power cycle and a reset end each command of the disk. A lost nexus ends those of its initiator
- * (SAM-5, 6.3). Only held commands have not ended by then. */
+ * (SAM-5, 6.3). Only held commands have not ended by then, because those that wait have. */
 static void end_commands(struct scsi_lu *lu, const mdl_happening *happening)
 {
     switch (happening->kind) {
@@ -47,8 +48,10 @@ static void end_commands(struct scsi_lu *lu, const mdl_happening *happening)
  * disk refuses it. */
 static int happen(struct scsi_lu *lu, const mdl_happening *happening)
 {
-    mdl_error error = mdl_happen(&unit_of(lu)->disk, happening);
+    mdl_error error;
 
+    end_waiting(lu);
+    error = mdl_happen(&unit_of(lu)->disk, happening);
     if (error) {
         eprintf("LUN %" PRIu64 ": no %s: error %d of mehdalung.h\n", lu->lun,
                 name_of(happening->kind), (int)error);
@@ -161,6 +164,7 @@ static void perform(struct scsi_lu *lu, struct mgmt_req *request, struct iscsi_t
     int is_addressed = scsi_get_devid(lu->tgt->lid, function->lun) == lu->lun;
     uint64_t session = task->conn->session->tsih;
 
+    end_waiting(lu);
     if (request->function == ABORT_TASK && end_held(lu, session, function->rtt) > 0)
         request->result = 0;
     else if (request->function == ABORT_TASK_SET && is_addressed)
@@ -197,8 +201,10 @@ static size_t watch_close(struct iscsi_connection *connection)
 
     if (target)
         list_for_each_entry(lu, &target->device_list, device_siblings)
-            if (lu->bst == own_store)
+            if (lu->bst == own_store) {
+                end_waiting(lu);
                 end_held(lu, connection->session->tsih, ANY_TAG);
+            }
     return close_connection(connection);
 }
 
@@ -215,7 +221,8 @@ static int is_refused_target_reset(const struct iscsi_task *task)
 static void (*modify_events)(struct iscsi_connection *connection, int events);
 
 /* tgtd puts a response at the end of the connection's list. Then it calls this function in place of
- * its own. So a refused target reset is done, and its response becomes FUNCTION COMPLETE. */
+ * its own. So a refused target reset is done, and its response becomes FUNCTION COMPLETE. The replies of
+ * commands that wait for a flush come before it. */
 static void watch_responses(struct iscsi_connection *connection, int events)
 {
     struct iscsi_task *last = list_entry(connection->tx_clist.prev, struct iscsi_task, c_list);
@@ -223,8 +230,12 @@ static void watch_responses(struct iscsi_connection *connection, int events)
 
     if (!list_empty(&connection->tx_clist) && is_refused_target_reset(last))
         target = target_of(connection);
-    if (target && reset_target(target))
-        last->result = ISCSI_TMF_RSP_COMPLETE;
+    if (target) {
+        list_del(&last->c_list);
+        if (reset_target(target))
+            last->result = ISCSI_TMF_RSP_COMPLETE;
+        list_add_tail(&last->c_list, &connection->tx_clist);
+    }
     modify_events(connection, events);
 }
 

@@ -14,8 +14,8 @@ use std::alloc::Global;
 /// The journal of an empty file.
 fn empty_journal(alloc: Global, failing_call: Option<usize>) -> Option<Journal<LoggedFile>>
     ensures batches { IfSome result (λ journal. HasBatches ⟦<LoggedFile as Device>⟧.seen
-        ⟦<LoggedFile as Device>⟧.may_leave journal []) }
-    ensures end { IfSome result (λ journal. journal.end ≤ longest_file) }
+        ⟦<LoggedFile as Device>⟧.may_leave journal [] []) }
+    ensures length { IfSome result (λ journal. journal.length ≤ longest_file) }
 {
     let source = LoggedSource::new(alloc, Vec::new(alloc), failing_call);
     let Ok(mut reader) = Reader::open(source) else {
@@ -25,7 +25,7 @@ fn empty_journal(alloc: Global, failing_call: Option<usize>) -> Option<Journal<L
     let Ok(has_batch) = reader.next(&mut batch) else {
         return None;
     };
-    if has_batch || reader.end > 0 {
+    if has_batch || reader.length > 0 {
         return None;
     }
     match reader.into_journal() {

@@ -37,6 +37,11 @@ impl LoggedFile {
         &self.calls
     }
 
+    /// The bytes of the file.
+    pub(crate) fn bytes(&self) -> &[u8] {
+        self.file.bytes()
+    }
+
     /// Whether the failing call was made.
     pub(crate) fn has_failed(&self) -> bool {
         match self.failing_call {

@@ -75,6 +75,16 @@ impl Request {
         }
     }
 
+    /// WRITE(10) of the first four blocks, which puts all that was changed into the file.
+    pub(crate) fn write_through(initiator: Initiator) -> Request {
+        Request {
+            initiator,
+            cdb: cdb_with(&[(0, 0x2A), (1, FUA), (8, 4)]),
+            data_out: DataOut::Blocks { count: 4, first: 1 },
+            owes_flush: true,
+        }
+    }
+
     /// The CDB. The operation code has its length (SPC-4, 4.2.5.1).
     pub(crate) fn cdb(&self) -> &[u8] {
         let length = match self.cdb[0] >> 5 {
@@ -84,6 +94,16 @@ impl Request {
             _ => 16,
         };
         &self.cdb[..length]
+    }
+
+    /// WRITE(10) of four blocks.
+    pub(crate) fn four_blocks(random: &mut Random) -> Option<Request> {
+        Some(Request {
+            initiator: Initiator::new(random.below(INITIATORS))?,
+            cdb: cdb_with(&[(0, 0x2A), (5, random.below(5)), (8, 4)]),
+            data_out: next_blocks(random, 4),
+            owes_flush: false,
+        })
     }
 
     /// The next command for a disk of a profile.

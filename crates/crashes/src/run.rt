@@ -7,7 +7,7 @@ use crate::device::LoggedFile;
 use crate::request::{LONGEST_DATA_OUT, Request};
 use crate::step::Step;
 use sg_journal::{Batch, DeviceError, NEW_SECTOR};
-use sg_kept::{BatchSink, KeptDisk};
+use sg_kept::{BatchSink, KeptDisk, Unflushed};
 use sg_store::Store;
 use sg_target::{BUFFER_LENGTH, Call, Reply, Status, Target};
 use std::alloc::{AllocError, Global};
@@ -41,6 +41,13 @@ impl Buffers {
     }
 }
 
+/// How often a WRITE of four blocks is sent for a batch to get full.
+const FILLS: usize = 1_600;
+
+/// How often the same WRITE is sent before another one changes nothing. The first ones may report pending
+/// unit attentions.
+const SETTLED: usize = 16;
+
 /// What is known after a step.
 #[derive(Clone, Copy)]
 pub(crate) struct Note {
@@ -52,6 +59,17 @@ pub(crate) struct Note {
     pub(crate) is_right: bool,
 }
 
+/// Executes a command on a disk in memory, and returns the reply.
+fn reply_in_memory<S: Store>(
+    target: &mut Target<S>,
+    request: &Request,
+    buffers: &mut Buffers,
+) -> Option<Reply> {
+    let data_out = request.data_out.write(&mut buffers.data_out);
+    let initiator = request.initiator;
+    target.execute_within(initiator, request.cdb(), data_out, &mut buffers.of_memory)
+}
+
 /// Does a step on a disk in memory, and returns the reply to a command.
 pub(crate) fn do_in_memory<S: Store>(
     target: &mut Target<S>,
@@ -60,9 +78,14 @@ pub(crate) fn do_in_memory<S: Store>(
 ) -> Option<Reply> {
     match step {
         Step::Command(request) | Step::Unflushed(request) => {
-            let data_out = request.data_out.write(&mut buffers.data_out);
-            let initiator = request.initiator;
-            target.execute_within(initiator, request.cdb(), data_out, &mut buffers.of_memory)
+            reply_in_memory(target, request, buffers)
+        }
+        Step::Fill(request) => {
+            let mut last = None;
+            for _ in 0..SETTLED {
+                last = reply_in_memory(target, request, buffers);
+            }
+            last
         }
         Step::Happen(happening) => {
             target.happen(*happening);
@@ -92,19 +115,21 @@ fn are_equal(reply: &Reply, expected: &Reply, buffers: &Buffers) -> bool {
             == buffers.of_memory.get(..expected.data_in)
 }
 
-/// Executes a command on a disk in a file. It may leave the flush that it owes to a later step.
+/// Executes a command on a disk in a file. It may leave the flush that it owes to a later step, and its reply
+/// may have to wait for it.
 fn execute<S: Store>(
     disk: &mut KeptDisk<S, LoggedFile>,
     call: Call<'_>,
     flushes: bool,
     buf: &mut [u8],
-) -> Reply
+) -> Unflushed
     requires buffer { longest_data_in ≤ length buf.old }
     requires ready { IsReady disk.old }
     ensures ready { IsReady disk.new }
 {
     if flushes {
-        return disk.execute(call.initiator, call.cdb, call.data_out, buf);
+        let reply = disk.execute(call.initiator, call.cdb, call.data_out, buf);
+        return Unflushed::at_once(reply);
     }
     disk.execute_unflushed(call.initiator, call.cdb, call.data_out, buf)
 }
@@ -127,7 +152,7 @@ fn command<S: Store>(
         cdb,
         data_out,
     };
-    let reply = execute(disk, call, flushes, &mut buffers.of_file);
+    let Unflushed { reply, waits } = execute(disk, call, flushes, &mut buffers.of_file);
     let expected = target.execute_within(initiator, cdb, data_out, &mut buffers.of_memory);
     let has_failed = disk.journal.device.has_failed();
     let (is_right, is_good) = match expected {
@@ -144,7 +169,29 @@ fn command<S: Store>(
     let owes_flush = !target.caches_writes() || request.owes_flush && is_good;
     Note {
         calls: disk.journal.device.calls().len(),
-        is_flushed: flushes && owes_flush && !has_failed,
+        is_flushed: owes_flush && !waits && !has_failed,
+        is_right,
+    }
+}
+
+/// Executes the same command again and again, and flushes nothing.
+fn fill<S: Store>(
+    disk: &mut KeptDisk<S, LoggedFile>,
+    target: &mut Target<S>,
+    request: &Request,
+    buffers: &mut Buffers,
+) -> Note
+    requires ready { IsReady disk.old }
+    ensures ready { IsReady disk.new }
+{
+    let mut is_right = true;
+    for _ in 0..FILLS {
+        let note = command(disk, target, request, false, buffers);
+        is_right = is_right && note.is_right;
+    }
+    Note {
+        calls: disk.journal.device.calls().len(),
+        is_flushed: false,
         is_right,
     }
 }
@@ -172,6 +219,7 @@ fn do_step<S: Store>(
     match step {
         Step::Command(request) => command(disk, target, request, true, buffers),
         Step::Unflushed(request) => command(disk, target, request, false, buffers),
+        Step::Fill(request) => fill(disk, target, request, buffers),
         Step::Happen(happening) => {
             target.happen(*happening);
             let written = disk.happen(*happening);

@@ -19,6 +19,8 @@ pub(crate) enum Step {
     Command(Request),
     /// A command that leaves the flush to a later step.
     Unflushed(Request),
+    /// The same WRITE again and again, without a flush. Its records are longer than a batch.
+    Fill(Request),
     Happen(Happening),
     /// What waits is written to the file.
     Flush,
@@ -39,9 +41,38 @@ impl Step {
     }
 }
 
+/// The next steps for a disk of a profile, over which batches wait in the file. No fault is armed on it, so
+/// that the same WRITE makes the same disk each time.
+pub(crate) fn next_full_steps(random: &mut Random, profile: Profile) -> Option<[Step; STEPS]> {
+    let last = match random.below(4) {
+        0 => Step::Compact,
+        1 => Step::Flush,
+        _ => Step::Command(Request::next(random, profile)?),
+    };
+    Some([
+        is_ready(0)?,
+        is_ready(1)?,
+        is_ready(2)?,
+        Step::Fill(Request::four_blocks(random)?),
+        Step::Unflushed(Request::next(random, profile)?),
+        Step::Fill(Request::four_blocks(random)?),
+        last,
+    ])
+}
+
 fn is_ready(number: u8) -> Option<Step> {
     let initiator = Initiator::new(number)?;
     Some(Step::Command(Request::test_unit_ready(initiator)))
+}
+
+/// One initiator gets POWER ON, and then it can write. The second step puts all that was changed into the
+/// file.
+pub(crate) fn first_steps() -> Option<[Step; 2]> {
+    let initiator = Initiator::new(0)?;
+    Some([
+        is_ready(0)?,
+        Step::Command(Request::write_through(initiator)),
+    ])
 }
 
 /// The next steps for a disk of a profile. First each initiator asks whether the unit is ready, and gets

@@ -9,7 +9,7 @@ use crate::medium::{Medium, Sync};
 use crate::probe::probe;
 use crate::random::Random;
 use crate::run::{Buffers, Note, do_in_memory, do_steps};
-use crate::step::{BLOCKS, Step, next_steps};
+use crate::step::{BLOCKS, Step, first_steps, next_full_steps, next_steps};
 use sg_changes::NewDisk;
 use sg_journal::Device;
 use sg_kept::KeptDisk;
@@ -22,6 +22,14 @@ use std::alloc::{AllocError, Global};
 /// The number of blocks that can be mapped or anchored at once.
 const POOL: u32 = 8;
 
+/// Each such list fills batches, which then wait in the file.
+const FULL: u64 = 249;
+
+/// The number of writes after which the file is almost long. Each of them takes 8 KiB: a sector for its gate,
+/// and one for its blocks. The file gets longer by the room for 32 of them. A file of more than 16.5 MiB is
+/// long, if few blocks are used, and 65 times such room is less.
+const WRITES: u16 = 65 * 32 - 2;
+
 /// What was done, and how often it was wrong.
 #[derive(Clone, Copy, Default)]
 pub(crate) struct Counts {
@@ -30,6 +38,8 @@ pub(crate) struct Counts {
     pub(crate) calls: u64,
     pub(crate) cuts: u64,
     pub(crate) exchanges: u64,
+    /// Files that the disk has written afresh by itself.
+    pub(crate) compactions: u64,
     pub(crate) crashes: u64,
     pub(crate) failures: u64,
     pub(crate) wrong: u64,
@@ -42,6 +52,7 @@ impl Counts {
             calls: self.calls.saturating_add(other.calls),
             cuts: self.cuts.saturating_add(other.cuts),
             exchanges: self.exchanges.saturating_add(other.exchanges),
+            compactions: self.compactions.saturating_add(other.compactions),
             crashes: self.crashes.saturating_add(other.crashes),
             failures: self.failures.saturating_add(other.failures),
             wrong: self.wrong.saturating_add(other.wrong),
@@ -80,6 +91,8 @@ pub(crate) struct Trial {
     profile: Profile,
     sync: Sync,
     random: Random,
+    /// The steps fill batches.
+    is_full: bool,
     new: NewDisk,
     config: Config,
     /// The steps that the file has, from the new disk on.
@@ -98,6 +111,7 @@ impl Trial {
             profile,
             sync,
             random: Random::new(seed),
+            is_full: seed.is_multiple_of(FULL),
             new: NewDisk::new(BLOCKS, POOL, identity)?,
             config: Config::new(BLOCKS, POOL, identity).ok()?,
             past: Vec::new(alloc),
@@ -253,8 +267,24 @@ impl Trial {
         self.count_notes(&notes);
         let calls = disk.journal.device.calls();
         self.counts.add_calls(calls);
+        self.count_compactions(steps, &notes, calls);
         let crash = self.crash_at_each_call::<S>(calls, &notes, expected, buffers)?;
         Some((calls.len(), crash))
+    }
+
+    /// Counts the steps that have written the file afresh although they did not ask for it.
+    fn count_compactions(&mut self, steps: &[Step], notes: &[Note], calls: &[DeviceCall]) {
+        let mut ended = notes.first().map_or(0, |note| note.calls);
+        for (step, note) in steps.iter().zip(notes.iter().skip(1)) {
+            let of_step = calls.get(ended..note.calls).unwrap_or(&[]);
+            let has_exchanged = of_step
+                .iter()
+                .any(|call| matches!(call, DeviceCall::Exchange));
+            if has_exchanged && !matches!(step, Step::Compact) {
+                self.counts.compactions = self.counts.compactions.saturating_add(1);
+            }
+            ended = note.calls;
+        }
     }
 
     fn count_notes(&mut self, notes: &[Note]) {
@@ -323,10 +353,34 @@ impl Trial {
         Some(())
     }
 
+    /// Makes the disk, and writes so often to it that a few steps more make its file long. None if memory was
+    /// refused.
+    pub(crate) fn wear<S: Store>(&mut self, buffers: &mut Buffers) -> Option<()> {
+        let first = first_steps()?;
+        let steps = wearing_steps(self.alloc, &first)?;
+        let Ok(mut disk) = self.begin::<S>(None) else {
+            return None;
+        };
+        let mut target = self.in_memory::<S>(&[], buffers)?;
+        let mut notes = Vec::new(self.alloc);
+        do_steps(&mut disk, &mut target, &steps, buffers, &mut notes).ok()?;
+        self.count_notes(&notes);
+        self.file = disk.journal.device.bytes().to_vec(self.alloc).ok()?;
+        // To write the same blocks once more changes nothing.
+        for step in &first {
+            self.past.push(*step).ok()?;
+        }
+        self.past.push(Step::Happen(Happening::Power)).ok()
+    }
+
     /// Does the next steps, with a crash at each call, and once with a call that fails. Then the disk is one
     /// that a crash left. None if memory was refused.
     pub(crate) fn go_on<S: Store>(&mut self, buffers: &mut Buffers) -> Option<()> {
-        let steps = next_steps(&mut self.random, self.profile)?;
+        let steps = if self.is_full {
+            next_full_steps(&mut self.random, self.profile)?
+        } else {
+            next_steps(&mut self.random, self.profile)?
+        };
         self.counts.steps = self.counts.steps.saturating_add(steps.len() as u64);
         let mut expected = self.expected::<S>(&steps, buffers)?;
         let (calls, crash) = self.succeed::<S>(&steps, &mut expected, buffers)?;
@@ -344,6 +398,17 @@ impl Trial {
         }
         self.past.push(Step::Happen(Happening::Power)).ok()
     }
+}
+
+/// The first step, and then the second one so often that the file is almost long. None if memory was
+/// refused.
+fn wearing_steps(alloc: Global, first: &[Step; 2]) -> Option<Vec<Step>> {
+    let mut steps = Vec::new(alloc);
+    steps.push(first[0]).ok()?;
+    for _ in 0..WRITES {
+        steps.push(first[1]).ok()?;
+    }
+    Some(steps)
 }
 
 /// What is known after the disk was made or opened.

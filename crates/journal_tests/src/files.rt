@@ -1,5 +1,5 @@
 // A file that was laid out by hand from the description of the format, and its end.
-ghost use Rattle.std.specs.Prelude.{◌≡◌, ◌≤◌, ◌^◌, ℕ, List, IfOk, OnOk, vec_len};
+ghost use Rattle.std.specs.Prelude.{◌≡◌, ◌≤◌, ◌^◌, ℕ, List, [], IfOk, OnOk, vec_len};
 ghost use Rattle.sg_journal.specs.MemoryBytes.{source_left, source_taken};
 ghost use Rattle.sg_journal.specs.Reading.{HasEnded, HasFound};
 ghost use Rattle.sg_journal.specs.JournalState.{HasBatches};
@@ -43,9 +43,9 @@ fn read_all(reader: &mut Reader<MemorySource>, batch: &mut Batch) -> Result<(), 
 /// Reads a file to its end. Returns its journal, and its last batch.
 pub(crate) fn opened(alloc: Global, bytes: Vec<u8>) -> Result<(Journal<Memory>, Batch), Fail>
     ensures batches { IfOk result (λ r. (bs : List (List ℕ)) ×
-        HasBatches ⟦<Memory as Device>⟧.seen ⟦<Memory as Device>⟧.may_leave r.0 bs) }
+        HasBatches ⟦<Memory as Device>⟧.seen ⟦<Memory as Device>⟧.may_leave r.0 bs []) }
     ensures sector { IfOk result (λ r. r.1.sector ≡ r.0.sector) }
-    ensures end { IfOk result (λ r. r.0.end ≤ 2 ^ 62) }
+    ensures length { IfOk result (λ r. r.0.length ≤ 2 ^ 61) }
 {
     let mut reader = match Reader::open(MemorySource::new(alloc, bytes)) {
         Ok(reader) => reader,
@@ -57,7 +57,7 @@ pub(crate) fn opened(alloc: Global, bytes: Vec<u8>) -> Result<(Journal<Memory>, 
         Ok(journal) => journal,
         Err((error, _)) => return Err(Fail::from(error)),
     };
-    if journal.end > 1 << 62 {
+    if journal.length > 1 << 61 {
         return Err(Fail::from("the file is too long"));
     }
     Ok((journal, batch))

@@ -1,5 +1,6 @@
 // Files that are written and read again.
 use crate::files::{file_of_one_batch, opened};
+use sg_journal::ROOM_AHEAD;
 use std::test::Fail;
 
 #[test]
@@ -32,10 +33,53 @@ fn a_torn_end_is_repaired_by_the_first_flush(rt: HostRuntime) -> Result<(), Fail
     batch.push(&[7, 9]);
     journal.flush(&mut batch)?;
     let file = journal.device.bytes();
-    assert_eq!(rt; file.len(), 3072);
+    assert_eq!(rt; file.len(), 2048 + ROOM_AHEAD);
     let (journal, batch) = opened(alloc, file.to_vec(alloc)?)?;
     assert!(rt; batch.records() == [7, 9].as_slice());
     assert_eq!(rt; journal.end, 2560);
+    Ok(())
+}
+
+#[test]
+fn the_next_batch_is_written_into_the_room(rt: HostRuntime) -> Result<(), Fail> {
+    let alloc = rt.alloc();
+    let (mut journal, mut batch) = opened(alloc, file_of_one_batch(alloc)?)?;
+    batch.clear();
+    batch.push(&[7, 9]);
+    journal.flush(&mut batch)?;
+    let length = 2048 + ROOM_AHEAD;
+    assert_eq!(rt; journal.device.bytes().len(), length);
+    let (mut journal, mut batch) = opened(alloc, journal.device.bytes().to_vec(alloc)?)?;
+    assert!(rt; batch.records() == [7, 9].as_slice());
+    assert_eq!(rt; journal.end, 2560);
+    batch.clear();
+    batch.push(&[6]);
+    journal.flush(&mut batch)?;
+    assert_eq!(rt; journal.device.bytes().len(), length);
+    let (journal, batch) = opened(alloc, journal.device.bytes().to_vec(alloc)?)?;
+    assert!(rt; batch.records() == [6].as_slice());
+    assert_eq!(rt; journal.end, 3584);
+    Ok(())
+}
+
+#[test]
+fn a_batch_that_waits_counts_after_a_commit(rt: HostRuntime) -> Result<(), Fail> {
+    let alloc = rt.alloc();
+    let (mut journal, mut batch) = opened(alloc, file_of_one_batch(alloc)?)?;
+    batch.clear();
+    batch.push(&[5]);
+    journal.flush(&mut batch)?;
+    batch.clear();
+    batch.push(&[9]);
+    journal.write(&mut batch)?;
+    assert_eq!(rt; journal.end, 2560);
+    let (waiting, read) = opened(alloc, journal.device.bytes().to_vec(alloc)?)?;
+    assert!(rt; read.records() == [5].as_slice());
+    assert_eq!(rt; waiting.end, 2560);
+    journal.commit(&mut batch)?;
+    let (committed, read) = opened(alloc, journal.device.bytes().to_vec(alloc)?)?;
+    assert!(rt; read.records() == [9].as_slice());
+    assert_eq!(rt; committed.end, 3584);
     Ok(())
 }
 

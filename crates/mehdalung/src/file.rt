@@ -3,9 +3,10 @@
 ghost use Rattle.std.specs.Prelude.{◌≡◌, ◌≢◌, IfErr, IfOk, length};
 ghost use Rattle.sg_embed.specs.Ends.{done_outcome, ends};
 ghost use Rattle.sg_embed.specs.Executed.{HasFailed, IsFlushed, IsNoCall, device_number};
+ghost use Rattle.sg_embed.specs.Executed.{IsAnsweredUnflushed, IsUnchanged};
 ghost use Rattle.sg_embed.specs.FileRecords.{HandsOutAndShows, no_damage};
 ghost use Rattle.sg_embed.specs.Opening.{Opens};
-ghost use Rattle.sg_embed.specs.Outcome.{ByOutcome, file_outcome, outcome_code};
+ghost use Rattle.sg_embed.specs.Outcome.{ByOutcome, execute_outcome, file_outcome, outcome_code};
 ghost use Rattle.sg_embed.specs.Wanted.{asked_disk};
 
 use sg_embed::{DamageRecord, FileCallRecord, Outcome, ReplyRecord, Slot, WantedRecord};
@@ -37,6 +38,33 @@ pub extern "C" fn mehdalung_open(
             outcome.code()
         }
     }
+}
+
+/// Executes a command without the flush that it may owe. Then the reply has to wait for one. Calls on the
+/// disk's file may wait after it.
+#[unsafe(no_mangle)]
+pub extern "C" fn mehdalung_execute_unflushed(
+    disk: &mut Slot,
+    initiator: u32,
+    cdb: &[u8],
+    data_out: &[u8],
+    data_in: &mut [u8],
+    reply: &mut ReplyRecord,
+) -> u32
+    ensures executed { execute_outcome disk.old.held initiator cdb.now data_out.now
+        (length data_in.old) ≡ Outcome.Done → ByOutcome (IsAnsweredUnflushed initiator cdb.now
+        data_out.now disk.old.held disk.new.held data_in.old data_in.new reply.new) result }
+
+    // If it is refused, it changes nothing.
+    ensures outcome { execute_outcome disk.old.held initiator cdb.now data_out.now
+        (length data_in.old) ≢ Outcome.Done → result ≡ outcome_code (execute_outcome disk.old.held
+        initiator cdb.now data_out.now (length data_in.old)) }
+    ensures refused { execute_outcome disk.old.held initiator cdb.now data_out.now
+        (length data_in.old) ≢ Outcome.Done → IsUnchanged disk.old.held disk.new.held
+        data_in.old data_in.new reply.old reply.new }
+{
+    let outcome = disk.execute_unflushed(initiator, cdb, data_out, data_in, reply);
+    outcome.code()
 }
 
 /// Hands out the oldest call on the disk's file that waits. Its bytes are at the beginning of the buffer.

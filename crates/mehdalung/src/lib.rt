@@ -7,7 +7,7 @@
 
 mod file;
 
-ghost use Rattle.std.specs.Prelude.{◌≡◌, ◌≢◌, None, Some, IfOk, MatchOption, Ok, IfErr, length};
+ghost use Rattle.std.specs.Prelude.{◌≡◌, ◌≢◌, false, None, Some, IfOk, MatchOption, Ok, IfErr, length};
 ghost use Rattle.sg_pages.specs.NewIdentity.{identity_of_seed, standard_identity};
 ghost use Rattle.sg_tools.specs.ExitStatus.{exit_status};
 ghost use Rattle.sg_wire.specs.SenseReading.{read_sense};
@@ -171,7 +171,7 @@ pub extern "C" fn mehdalung_execute(
     ensures outcome { result ≡ outcome_code (ends (execute_outcome disk.old.held initiator cdb.now
         data_out.now (length data_in.old)) executed_outcome disk.new.held) }
     ensures executed { execute_outcome disk.old.held initiator cdb.now data_out.now
-        (length data_in.old) ≡ Outcome.Done → IsAnswered initiator cdb.now data_out.now
+        (length data_in.old) ≡ Outcome.Done → IsAnswered initiator cdb.now data_out.now false
         disk.old.held disk.new.held data_in.old data_in.new reply.new }
 
     // If it is refused, it changes nothing.

@@ -1,4 +1,5 @@
 pub mod CommandLemmas
+pub mod CompactingLemmas
 pub mod FileDiskLemmas
 pub mod OpeningLemmas
 pub mod MaskLemmas

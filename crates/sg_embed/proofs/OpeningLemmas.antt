@@ -1,7 +1,7 @@
 -- The file that a disk was read from, and what an error says of it.
 use Rattle.std.proofs.Common.{◌≡◌, ◌≢◌, ℕ, List, [], ◌∷◌, ◌++◌, length, sym, ap}
 use Rattle.std.proofs.Common.{subst, ◌∙◌, arith, length-append, Ok, Err, inr}
-use Rattle.std.specs.Prelude.{◌==◌, true, false}
+use Rattle.std.specs.Prelude.{◌==◌, true, false, None}
 use Rattle.std.proofs.lemmas.Bool.Decides.{nat_tests}
 use Rattle.std.proofs.lemmas.List.{append-nil}
 use Rattle.sg_journal.specs.Journal.{Found, after, found}
@@ -14,6 +14,8 @@ use Rattle.sg_queue.specs.Contents.{ContentsFields}
 use Rattle.sg_target.specs.Armed.{Armed}
 use Rattle.sg_embed.specs.Opening.{IsDiskOf, IsFound, IsMade, IsNotFound, IsNotMadeBy, IsNotOpened}
 use Rattle.sg_embed.specs.Opening.{IsTrueOfFile}
+use Rattle.sg_kept.specs.Opening.{HasStarted}
+use Rattle.sg_embed.specs.FileDisk.{FileDiskFields, QueuedDisk, may_leave, seen}
 use Rattle.sg_embed.specs.declared.opening.OpenFault.{OpenFault}
 use Rattle.sg_embed.specs.declared.opening.OpenFault.TheVariants.{NotRead, Refused}
 use Rattle.sg_embed.specs.declared.wanted.Wanted.{Wanted}
@@ -87,3 +89,21 @@ pub not-found : (wanted : Wanted) (file : List ℕ) (fault : OpenFault) → file
 not-found wanted [] fault full says = absurd (full cc)
 not-found wanted (byte ∷ bytes) (Refused outcome) full says = inr says
 not-found wanted (byte ∷ bytes) (NotRead error) full says = says
+
+-- ---- A disk whose file is written afresh step by step
+
+abbrev pub by-steps : QueuedDisk → (device : ℕ) → FileDiskFields
+by-steps disk device = record {
+  kept = record disk { compacts = false };
+  device = device;
+  next = None;
+}
+
+pub started-by-steps : (disk : QueuedDisk) → HasStarted seen may_leave disk
+    → HasStarted seen may_leave (record disk { compacts = false })
+started-by-steps disk s = record {
+  alive = s.alive;
+  usable = record { kept = s.usable.kept; room = s.usable.room; scratch = s.usable.scratch };
+  opened = s.opened;
+  powered = s.powered;
+}

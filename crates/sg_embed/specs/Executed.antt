@@ -1,5 +1,5 @@
 -- The effects of the calls on a disk.
-use Rattle.std.specs.Prelude.{◌≡◌, ℕ, false, true, List, Option, None, Some, unwrap_or}
+use Rattle.std.specs.Prelude.{◌≡◌, ℕ, Bool, false, true, List, Option, None, Some, unwrap_or}
 use Rattle.sg_faults.specs.Faults.{no_faults}
 use Rattle.sg_pages.specs.Identity.{IdentityFields}
 use Rattle.sg_store.specs.Meter.{new_meter}
@@ -10,12 +10,13 @@ use Rattle.sg_target.specs.NewState.{new_state}
 use Rattle.sg_target.specs.declared.reply.Reply.{Reply}
 use Rattle.sg_embed.specs.declared.kept.Kept.{Kept}
 use Rattle.sg_embed.specs.Records.{Shows}
+use Rattle.sg_embed.specs.Ends.{ends, unflushed_outcome}
 use Rattle.sg_embed.specs.FileDisk.{FileDiskFields, HandsOutCall}
 use Rattle.sg_embed.specs.Served.{Executes, Fails, Flushes, ForgetsPort, Undergoes, calls_wait}
 use Rattle.sg_embed.specs.Served.{NeedsMore, device_of, served_in, target_of}
 use Rattle.sg_target.specs.declared.happening.Happening.{Happening}
 use Rattle.sg_embed.specs.declared.outcome.Outcome.{Outcome}
-use Rattle.sg_embed.specs.declared.outcome.Outcome.TheVariants.{BufferTooShort, NoCall, NoDisk}
+use Rattle.sg_embed.specs.declared.outcome.Outcome.TheVariants.{BufferTooShort, Done, NoCall, NoDisk}
 use Rattle.sg_embed.specs.declared.served.Served.{Served}
 use Rattle.sg_embed.specs.declared.served.Served.TheVariants.{InFile}
 use Rattle.sg_embed.specs.declared.record.ReplyRecord.{ReplyRecord}
@@ -58,12 +59,19 @@ registrants None = None
 registrants (Some disk) =
     Some (registered_mask (target_of disk.target).state.reservations.registrations)
 
--- A command is executed, and a record shows the reply.
-pub record IsAnswered (initiator : ℕ) (cdb data_out : List ℕ) (old new : Option Kept)
+-- A command is executed, and a record shows the reply, which may have to wait for a flush.
+pub record IsAnswered (initiator : ℕ) (cdb data_out : List ℕ) (waits : Bool) (old new : Option Kept)
     (before after : List ℕ) (shown : ReplyRecord) : Type 0 where
   pub reply : Reply
-  pub executed : HappensToDisk (Executes initiator cdb data_out reply before after) old new
+  pub executed : HappensToDisk (Executes initiator cdb data_out reply waits before after) old new
   pub shows : Shows shown reply
+
+-- A command is executed without its flush. The outcome reports whether the reply has to wait for one.
+pub record IsAnsweredUnflushed (initiator : ℕ) (cdb data_out : List ℕ) (old new : Option Kept)
+    (before after : List ℕ) (shown : ReplyRecord) (outcome : Outcome) : Type 0 where
+  pub waits : Bool
+  pub answered : IsAnswered initiator cdb data_out waits old new before after shown
+  pub reports : outcome ≡ ends Done (unflushed_outcome waits) new
 
 -- Nothing changes: no disk, no buffer, no record.
 pub record IsUnchanged (old new : Option Kept) (before after : List ℕ) (was is : ReplyRecord) : Type 0

@@ -1,5 +1,5 @@
 -- A disk in a file that C has read: an empty file becomes a new disk, and another file has to have a disk.
-use Rattle.std.specs.Prelude.{◌≡◌, ◌⊎◌, ◌<◌, ℕ, List, [], ◌∷◌, length, Option, None, Some, Ok, Err}
+use Rattle.std.specs.Prelude.{◌≡◌, ◌⊎◌, ◌<◌, ℕ, false, List, [], ◌∷◌, length, Option, None, Some, Ok, Err}
 use Rattle.sg_faults.specs.Faults.{no_faults}
 use Rattle.sg_kept.specs.Disk.{longest_file}
 use Rattle.sg_kept.specs.Opened.{opened}
@@ -48,6 +48,9 @@ pub record IsOpened (wanted : Wanted) (file : List ℕ) (disk : FileDiskFields) 
   pub started : HasStarted seen may_leave disk.kept
   pub is : IsDiskOf wanted file (armed_in disk)
   pub device : disk.device ≡ wanted.device
+  -- Its file is written afresh step by step. No compaction is under way.
+  pub by_steps : disk.kept.compacts ≡ false
+  pub idle : disk.next ≡ None
 
 -- ---- No disk
 

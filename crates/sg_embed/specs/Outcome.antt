@@ -40,7 +40,7 @@ use Rattle.sg_embed.specs.declared.outcome.Outcome.TheVariants.{FaultNumber, Too
 use Rattle.sg_embed.specs.declared.outcome.Outcome.TheVariants.{FileFailed, NotADisk, OtherVersion}
 use Rattle.sg_embed.specs.declared.outcome.Outcome.TheVariants.{DamagedFile, FileTooLong, OtherProfile}
 use Rattle.sg_embed.specs.declared.outcome.Outcome.TheVariants.{OtherBlocks, OtherPool, OtherIdentity}
-use Rattle.sg_embed.specs.declared.outcome.Outcome.TheVariants.{CallsWait, NoCall, NoFile}
+use Rattle.sg_embed.specs.declared.outcome.Outcome.TheVariants.{CallsWait, NoCall, NoFile, FlushOwed}
 
 -- The numbers of the header. Number 10 is MDL_NULL_POINTER: the functions that test C's pointers
 -- return it before any call that is defined here. Numbers 28, MDL_FILE_BUSY, and 39, MDL_CANNOT_OPEN,
@@ -84,6 +84,7 @@ outcome_code OtherIdentity = 36
 outcome_code CallsWait = 37
 outcome_code NoCall = 38
 outcome_code NoFile = 40
+outcome_code FlushOwed = 41
 
 -- A call asks for memory before it ends with this outcome.
 abbrev pub has_asked : Outcome → Bool

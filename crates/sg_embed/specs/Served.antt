@@ -77,17 +77,19 @@ Undergoes happening = StaysServed (λ bounds. Happens happening) (HappensInFile 
 abbrev pub ForgetsPort : (initiator : ℕ) → (old new : Served) → Type 0
 ForgetsPort initiator = StaysServed (λ bounds. Forgets initiator) (ForgetsInFile initiator)
 
--- A target executes a command, and its store is charged for it.
+-- A target executes a command, and its store is charged for it. There is no file that its reply has to
+-- wait for.
 pub record ExecutesCommand (bounds : CostBounds) (initiator : ℕ) (cdb data_out : List ℕ) (reply : Reply)
-    (before after : List ℕ) (old new : TargetFields) : Type 0 where
+    (waits : Bool) (before after : List ℕ) (old new : TargetFields) : Type 0 where
   pub executed : IsExecuted initiator cdb data_out (disk_of old) (disk_of new) reply before after
   pub charged : ChargesCommand bounds initiator cdb data_out old new reply
+  pub at_once : waits ≡ false
 
-abbrev pub Executes : (initiator : ℕ) → (cdb data_out : List ℕ) → Reply → (before after : List ℕ)
-    → (old new : Served) → Type 0
-Executes initiator cdb data_out reply before after = StaysServed
-    (λ bounds. ExecutesCommand bounds initiator cdb data_out reply before after)
-    (ExecutesInFile initiator cdb data_out reply before after)
+abbrev pub Executes : (initiator : ℕ) → (cdb data_out : List ℕ) → Reply → (waits : Bool)
+    → (before after : List ℕ) → (old new : Served) → Type 0
+Executes initiator cdb data_out reply waits before after = StaysServed
+    (λ bounds. ExecutesCommand bounds initiator cdb data_out reply waits before after)
+    (ExecutesInFile initiator cdb data_out reply waits before after)
 
 -- ---- The calls on a disk's file. A disk in memory stays as it is.
 

@@ -6,17 +6,18 @@ use Rattle.std.specs.Str.{bytes_eq}
 use Rattle.sg_pages.specs.Identity.{IdentityFields}
 use Rattle.sg_pages.specs.NewIdentity.{standard_identity}
 use Rattle.sg_pages.specs.declared.identity.IdentityFault.{IdentityFault}
+use Rattle.sg_kept.specs.Asked.{is_other, is_other_profile, of_profile}
+use Rattle.sg_kept.specs.declared.asked.AskedProfile.{AskedProfile}
 use Rattle.sg_target.specs.Config.{ConfigFields, checked_config}
 use Rattle.sg_target.specs.declared.config.ConfigFault.{ConfigFault}
 use Rattle.sg_embed.specs.Executed.{disk_config}
 use Rattle.sg_embed.specs.Outcome.{config_outcome, identity_outcome}
-use Rattle.sg_embed.specs.Profiles.{has_profile, of_profile, profile_numbered}
+use Rattle.sg_embed.specs.Profiles.{profile_numbered}
 use Rattle.sg_embed.specs.Records.{asked_identity}
 use Rattle.sg_embed.specs.declared.file_record.WantedRecord.{WantedRecord}
 use Rattle.sg_embed.specs.declared.outcome.Outcome.{Outcome}
 use Rattle.sg_embed.specs.declared.outcome.Outcome.TheVariants.{UnknownProfile, OtherProfile}
 use Rattle.sg_embed.specs.declared.outcome.Outcome.TheVariants.{OtherBlocks, OtherPool, OtherIdentity}
-use Rattle.sg_embed.specs.declared.profiles.NumberedProfile.{NumberedProfile}
 use Rattle.sg_embed.specs.declared.wanted.Wanted.{Wanted}
 
 -- ---- What a record asks for
@@ -29,11 +30,11 @@ number_if_asked number = if number == 0 then None else Some number
 abbrev pub any_profile : ℕ
 any_profile = 2 ^ 32 - 1
 
-abbrev pub known_profile : Option NumberedProfile → Result (Option NumberedProfile) Outcome
+abbrev pub known_profile : Option AskedProfile → Result (Option AskedProfile) Outcome
 known_profile None = Err UnknownProfile
 known_profile (Some profile) = Ok (Some profile)
 
-abbrev pub profile_if_asked : (number : ℕ) → Result (Option NumberedProfile) Outcome
+abbrev pub profile_if_asked : (number : ℕ) → Result (Option AskedProfile) Outcome
 profile_if_asked number =
     if number == any_profile then Ok None else known_profile (profile_numbered number)
 
@@ -45,7 +46,7 @@ abbrev pub names_if_asked : WantedRecord → Result (Option IdentityFields) Outc
 names_if_asked r = if r.has_identity == 0 then Ok None else accepted_names (asked_identity r.identity)
 
 -- The profile is checked before the names.
-abbrev pub wanted_with : WantedRecord → Result (Option NumberedProfile) Outcome
+abbrev pub wanted_with : WantedRecord → Result (Option AskedProfile) Outcome
     → Result (Option IdentityFields) Outcome → Result Wanted Outcome
 wanted_with r (Err refused) names = Err refused
 wanted_with r (Ok profile) (Err refused) = Err refused
@@ -68,7 +69,7 @@ config_or_refused (Ok config) = Ok config
 config_or_refused (Err fault) = Err (config_outcome fault)
 
 -- Without names it has the standard ones. No disk has 0 blocks, or a pool of 0 blocks.
-abbrev pub config_of_profile : Wanted → Option NumberedProfile → Result ConfigFields Outcome
+abbrev pub config_of_profile : Wanted → Option AskedProfile → Result ConfigFields Outcome
 config_of_profile wanted None = Err UnknownProfile
 config_of_profile wanted (Some profile) = config_or_refused (checked_config (disk_config
     (unwrap_or wanted.blocks 0) (unwrap_or wanted.pool 0)
@@ -86,15 +87,7 @@ has_names names disk =
     && bytes_eq names.revision disk.revision && bytes_eq names.serial disk.serial
     && names.local == disk.local
 
--- A profile is asked for, and a disk has another one.
-abbrev pub is_other_profile : Option NumberedProfile → (disk : IdentityFields) → Bool
-is_other_profile None disk = false
-is_other_profile (Some profile) disk = not (has_profile profile disk)
-
-abbrev pub is_other_number : Option ℕ → (has : ℕ) → Bool
-is_other_number None has = false
-is_other_number (Some number) has = not (number == has)
-
+-- Names are asked for, and a disk has others.
 abbrev pub is_other_identity : Option IdentityFields → (disk : IdentityFields) → Bool
 is_other_identity None disk = false
 is_other_identity (Some names) disk = not (has_names names disk)
@@ -103,7 +96,7 @@ is_other_identity (Some names) disk = not (has_names names disk)
 abbrev pub compared : Wanted → (disk : ConfigFields) → Result Unit Outcome
 compared wanted disk =
     if is_other_profile wanted.profile disk.identity then Err OtherProfile
-    else if is_other_number wanted.blocks disk.blocks then Err OtherBlocks
-    else if is_other_number wanted.pool disk.pool then Err OtherPool
+    else if is_other wanted.blocks disk.blocks then Err OtherBlocks
+    else if is_other wanted.pool disk.pool then Err OtherPool
     else if is_other_identity wanted.names disk.identity then Err OtherIdentity
     else Ok tt

@@ -1,13 +1,16 @@
 // A disk in a file. No call of the system is made here: each call on the file waits until C makes it.
-ghost use Rattle.std.specs.Prelude.{◌≡◌, ◌≤◌, IfNone, IfSome, is_some, length, nat_le};
+ghost use Rattle.std.specs.Prelude.{◌≡◌, ◌≤◌, false, true, IfNone, IfSome, None, is_some, length, nat_le};
 ghost use Rattle.sg_kept.specs.Disk.{failure_reply};
+ghost use Rattle.sg_kept.specs.Opening.{HasStarted};
 ghost use Rattle.sg_target.specs.DataInBound.{longest_data_in, needed_buffer};
 ghost use Rattle.sg_embed.specs.Ends.{done_outcome, executed_outcome};
 ghost use Rattle.sg_embed.specs.FileDisk.{ExecutesInFile, FlushesFile, ForgetsInFile, HandsOutNext};
-ghost use Rattle.sg_embed.specs.FileDisk.{HappensInFile, IsReady, failed_disk, has_calls, target_in};
+ghost use Rattle.sg_embed.specs.FileDisk.{HappensInFile, IsReady, failed_disk, has_calls, may_leave};
+ghost use Rattle.sg_embed.specs.FileDisk.{seen, target_in};
 ghost use Rattle.sg_embed.specs.declared.served.Served.TheVariants.{InFile};
 
 use crate::outcome::Outcome;
+use crate::steps::{give_up, go_on, keep_short};
 use sg_extent_map::ExtentMap;
 use sg_file::FileDevice;
 use sg_kept::KeptDisk;
@@ -19,11 +22,16 @@ use std::marker::Model;
 /// The device of a file whose calls wait.
 pub(crate) type QueuedDevice = FileDevice<QueuedFile>;
 
+/// The disk and its file.
+pub(crate) type QueuedDisk = KeptDisk<ExtentMap, QueuedDevice>;
+
 /// A disk in a file, and what C calls the file's device.
 #[derive(Drop)]
 pub struct FileDisk {
-    disk: KeptDisk<ExtentMap, QueuedDevice>,
+    disk: QueuedDisk,
     device: u64,
+    // The address that a compaction goes on from, if one is under way.
+    next: Option<u64>,
 }
 
 impl Model for FileDisk {
@@ -35,18 +43,27 @@ impl Model for FileDisk {
 
     ghost coded = { Prim.hlevel (codes, contents_code) };
 
-    ghost view = { λ f. record { kept = f.disk; device = f.device } };
+    ghost view = { λ f. record { kept = f.disk; device = f.device; next = f.next } };
 
-    ghost invariant = { λ f. IsReady f.disk };
+    ghost invariant = { λ f. IsReady f.disk f.next };
 }
 
 impl FileDisk {
-    /// A disk that was made or opened.
-    pub(crate) fn new(disk: KeptDisk<ExtentMap, QueuedDevice>, device: u64) -> FileDisk
-        requires { IsReady disk }
-        ensures { result ≡ record { kept = disk; device = device } }
+    /// A disk that was made or opened. From now on its file is written afresh step by step.
+    pub(crate) fn new(mut disk: QueuedDisk, device: u64) -> FileDisk
+        requires started { HasStarted seen may_leave disk }
+        ensures { result ≡ record {
+          kept = record disk { compacts = false };
+          device = device;
+          next = None;
+        } }
     {
-        FileDisk { disk, device }
+        disk.compacts = false;
+        FileDisk {
+            disk,
+            device,
+            next: None,
+        }
     }
 
     /// The disk in memory.
@@ -64,32 +81,51 @@ impl FileDisk {
     }
 
     /// Executes a command. None if the buffer is shorter than the data-in that the command asks
-    /// for. Nothing has changed then.
+    /// for. Nothing has changed then. If `flushes` is `false`, the flush that the command may owe is left to
+    /// the caller, and `waits` says whether the reply has to wait for it.
     pub(crate) fn execute_within(
         &mut self,
         initiator: Initiator,
         cdb: &[u8],
         data_out: &[u8],
         buf: &mut [u8],
+        flushes: bool,
+        waits: &mut bool,
     ) -> Option<Reply>
+        requires at_once { waits.old ≡ false }
         ensures room { is_some result
             ≡ nat_le (needed_buffer (target_in self.old).state initiator cdb.now data_out.now)
             (length buf.old) }
         ensures at_most { needed_buffer (target_in self.old).state initiator cdb.now data_out.now
             ≤ longest_data_in }
-        ensures executed { IfSome result (λ reply.
-            ExecutesInFile initiator cdb.now data_out.now reply buf.old buf.new self.old self.new) }
+        ensures executed { IfSome result (λ reply. ExecutesInFile initiator cdb.now data_out.now
+            reply waits.new buf.old buf.new self.old self.new) }
+        ensures flushed { flushes ≡ true → waits.new ≡ false }
         ensures kept { IfNone result (self.new ≡ self.old) }
         ensures untouched { IfNone result (buf.new ≡ buf.old) }
     {
-        self.disk.execute_within(initiator, cdb, data_out, buf)
+        if buf.len() < self.disk.target.needed_buffer(initiator, cdb, data_out) {
+            return None;
+        }
+        give_up(&mut self.disk, &mut self.next);
+        let done = self
+            .disk
+            .execute_or_refuse(initiator, cdb, data_out, buf, flushes);
+        *waits = done.waits;
+        keep_short(&mut self.disk, &mut self.next);
+        if self.disk.is_dead {
+            return Some(self.disk.target.failure_reply());
+        }
+        Some(done.reply)
     }
 
     /// Lets something happen to the disk. A disk whose file has failed stays dead.
     pub(crate) fn happen(&mut self, happening: Happening)
         ensures { HappensInFile happening self.old self.new }
     {
+        give_up(&mut self.disk, &mut self.next);
         let _ = self.disk.happen(happening);
+        keep_short(&mut self.disk, &mut self.next);
     }
 
     /// Clears the unit attentions that are pending for an initiator whose port is gone. A disk whose
@@ -97,14 +133,19 @@ impl FileDisk {
     pub(crate) fn forget(&mut self, initiator: Initiator)
         ensures { ForgetsInFile initiator self.old self.new }
     {
-        let _ = self.disk.forget(initiator);
+        self.flush();
+        if !self.disk.is_dead {
+            self.disk.target.forget(initiator);
+        }
     }
 
     /// Writes all that was changed. A disk whose file has failed stays dead.
     pub(crate) fn flush(&mut self)
         ensures { FlushesFile self.old self.new }
     {
+        give_up(&mut self.disk, &mut self.next);
         let _ = self.disk.flush();
+        keep_short(&mut self.disk, &mut self.next);
     }
 
     /// The file has failed, as C has found out. Returns the reply of the disk to each command from now on.
@@ -113,6 +154,7 @@ impl FileDisk {
         ensures reply { result ≡ failure_reply (target_in self.old).state }
     {
         self.disk.fail();
+        self.next = None;
         self.disk.target.failure_reply()
     }
 
@@ -146,7 +188,7 @@ impl FileDisk {
     }
 
     /// Hands out the oldest call that waits, and writes its bytes to the beginning of the buffer. None if no
-    /// call waits.
+    /// call waits. After the last call a compaction goes on by a step.
     ///
     /// # Errors
     /// The buffer is shorter than the call's bytes.
@@ -156,6 +198,8 @@ impl FileDisk {
         if self.disk.is_dead {
             return Ok(None);
         }
-        self.disk.journal.device.file.next_call(bytes)
+        let call = self.disk.journal.device.file.next_call(bytes)?;
+        go_on(&mut self.disk, &mut self.next);
+        Ok(call)
     }
 }

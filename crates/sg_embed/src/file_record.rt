@@ -4,11 +4,12 @@ ghost use Rattle.sg_embed.specs.FileRecords.{call_record, damage_of, kind_number
 ghost use Rattle.sg_embed.specs.Wanted.{asked_disk, names_if_asked, number_if_asked, profile_if_asked};
 
 use crate::outcome::Outcome;
-use crate::profiles::{NumberedProfile, profile_numbered};
+use crate::profiles::profile_numbered;
 use crate::record::IdentityRecord;
 use crate::wanted::Wanted;
 use sg_journal::Fault;
 use sg_kept::OpenDiskError;
+use sg_kept::asked::AskedProfile;
 use sg_pages::Identity;
 use sg_queue::{CallKind, QueuedCall};
 
@@ -80,7 +81,7 @@ impl WantedRecord {
 }
 
 /// The profile with a number of the header, if one is asked for.
-fn read_profile(number: u32) -> Result<Option<NumberedProfile>, Outcome>
+fn read_profile(number: u32) -> Result<Option<AskedProfile>, Outcome>
     ensures value { result ≡ profile_if_asked number }
     ensures refused { IfErr result (λ outcome. outcome ≢ Outcome.Done) }
 {

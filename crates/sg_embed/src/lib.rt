@@ -19,6 +19,7 @@ mod record;
 mod served;
 mod slot;
 mod slot_file;
+mod steps;
 mod text;
 mod wanted;
 mod words;

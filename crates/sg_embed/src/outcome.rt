@@ -88,6 +88,8 @@ pub enum Outcome {
     NoCall = 38,
     /// The disk is not in a file.
     NoFile = 40,
+    /// The command was executed, and its reply has to wait for a flush. Calls on the file may wait, too.
+    FlushOwed = 41,
 }
 
 ghost use Rattle.std.specs.Prelude.{◌≡◌, ◌≢◌};

@@ -1,5 +1,5 @@
 // What serves a disk: a target in memory, over the store of the disk's profile, or a disk in a file.
-ghost use Rattle.std.specs.Prelude.{◌≡◌, ◌≤◌, is_some, length, nat_le, IfNone, IfOk, IfSome};
+ghost use Rattle.std.specs.Prelude.{◌≡◌, ◌≤◌, false, true, is_some, length, nat_le, IfNone, IfOk, IfSome};
 ghost use Rattle.sg_units.specs.Registrations.{registered_mask};
 ghost use Rattle.sg_target.specs.DataInBound.{longest_data_in, needed_buffer};
 ghost use Rattle.sg_embed.specs.Ends.{done_outcome, executed_outcome};
@@ -44,7 +44,8 @@ impl Served {
     }
 
     /// Executes a command. None if the buffer is shorter than the data-in that the command asks
-    /// for. Nothing has changed then.
+    /// for. Nothing has changed then. If `flushes` is `false`, the flush that the command may owe to the
+    /// disk's file is left to the caller, and `waits` says whether the reply has to wait for it.
     #[inline(always)]
     pub(crate) fn execute_within(
         &mut self,
@@ -52,7 +53,11 @@ impl Served {
         cdb: &[u8],
         data_out: &[u8],
         buf: &mut [u8],
+        flushes: bool,
+        waits: &mut bool,
     ) -> Option<Reply>
+        requires at_once { waits.old ≡ false }
+
         // Whether the buffer is long enough.
         ensures room { is_some result
             ≡ nat_le (needed_buffer (target_of self.old).state initiator cdb.now data_out.now)
@@ -62,14 +67,17 @@ impl Served {
 
         // If it is, the command is executed. If it is not, nothing changes.
         ensures executed { IfSome result (λ reply. Executes initiator cdb.now data_out.now reply
-            buf.old buf.new self.old self.new) }
+            waits.new buf.old buf.new self.old self.new) }
+        ensures flushed { flushes ≡ true → waits.new ≡ false }
         ensures kept { IfNone result (self.new ≡ self.old) }
         ensures untouched { IfNone result (buf.new ≡ buf.old) }
     {
         match self {
             Served::Runs(target) => target.execute_within(initiator, cdb, data_out, buf),
             Served::Extents(target) => target.execute_within(initiator, cdb, data_out, buf),
-            Served::InFile(disk) => disk.execute_within(initiator, cdb, data_out, buf),
+            Served::InFile(disk) => {
+                disk.execute_within(initiator, cdb, data_out, buf, flushes, waits)
+            }
         }
     }
 

@@ -110,8 +110,9 @@ impl Drop for Slot {
 }
 
 impl Slot {
-    ghost use Rattle.std.specs.Prelude.{◌≢◌, ◌≡◌, length, Ok};
+    ghost use Rattle.std.specs.Prelude.{◌≢◌, ◌≡◌, false, true, length, Ok};
     ghost use Rattle.sg_embed.specs.Executed.{HasUndergone, IsAnswered, IsForgotten, IsUnchanged};
+    ghost use Rattle.sg_embed.specs.Executed.{IsAnsweredUnflushed};
     ghost use Rattle.sg_embed.specs.Ends.{done_outcome, ends, executed_outcome};
     ghost use Rattle.sg_embed.specs.Executed.{disk_config, new_disk, registrants};
     ghost use Rattle.sg_embed.specs.Outcome.{IsUnlessOutOfMemory, execute_outcome, forget_outcome};
@@ -161,10 +162,66 @@ impl Slot {
         ensures outcome { result ≡ ends (execute_outcome self.old.held initiator cdb.now data_out.now
             (length data_in.old)) executed_outcome self.new.held }
         ensures executed { execute_outcome self.old.held initiator cdb.now data_out.now
-            (length data_in.old) ≡ Outcome.Done → IsAnswered initiator cdb.now data_out.now
+            (length data_in.old) ≡ Outcome.Done → IsAnswered initiator cdb.now data_out.now false
             self.old.held self.new.held data_in.old data_in.new reply.new }
 
         // If it is refused, it changes nothing.
+        ensures refused { execute_outcome self.old.held initiator cdb.now data_out.now
+            (length data_in.old) ≢ Outcome.Done → IsUnchanged self.old.held self.new.held
+            data_in.old data_in.new reply.old reply.new }
+    {
+        self.execute_as(initiator, cdb, data_out, data_in, reply, true)
+    }
+
+    /// Executes a command as [`execute`](Slot::execute) does, without the flush that it may owe to the disk's
+    /// file. If its reply has to wait for one, the outcome is `FlushOwed`: the reply must not go out before
+    /// [`flush`](Slot::flush) is done and no call on the file waits.
+    pub fn execute_unflushed(
+        &mut self,
+        initiator: u32,
+        cdb: &[u8],
+        data_out: &[u8],
+        data_in: &mut [u8],
+        reply: &mut ReplyRecord,
+    ) -> Outcome
+        ensures executed { execute_outcome self.old.held initiator cdb.now data_out.now
+            (length data_in.old) ≡ Outcome.Done → IsAnsweredUnflushed initiator cdb.now data_out.now
+            self.old.held self.new.held data_in.old data_in.new reply.new result }
+
+        // If it is refused, it changes nothing.
+        ensures outcome { execute_outcome self.old.held initiator cdb.now data_out.now
+            (length data_in.old) ≢ Outcome.Done → result ≡ execute_outcome self.old.held initiator
+            cdb.now data_out.now (length data_in.old) }
+        ensures refused { execute_outcome self.old.held initiator cdb.now data_out.now
+            (length data_in.old) ≢ Outcome.Done → IsUnchanged self.old.held self.new.held
+            data_in.old data_in.new reply.old reply.new }
+    {
+        self.execute_as(initiator, cdb, data_out, data_in, reply, false)
+    }
+
+    /// Executes a command, with its flush or without. Both ways are one function, so that the compiler
+    /// inlines in it what a disk in memory calls.
+    #[inline(never)]
+    fn execute_as(
+        &mut self,
+        initiator: u32,
+        cdb: &[u8],
+        data_out: &[u8],
+        data_in: &mut [u8],
+        reply: &mut ReplyRecord,
+        flushes: bool,
+    ) -> Outcome
+        ensures executed { execute_outcome self.old.held initiator cdb.now data_out.now
+            (length data_in.old) ≡ Outcome.Done → IsAnsweredUnflushed initiator cdb.now data_out.now
+            self.old.held self.new.held data_in.old data_in.new reply.new result }
+        ensures flushed { flushes ≡ true → execute_outcome self.old.held initiator cdb.now data_out.now
+            (length data_in.old) ≡ Outcome.Done → IsAnswered initiator cdb.now data_out.now false
+            self.old.held self.new.held data_in.old data_in.new reply.new }
+        ensures outcome { flushes ≡ true → result ≡ ends (execute_outcome self.old.held initiator
+            cdb.now data_out.now (length data_in.old)) executed_outcome self.new.held }
+        ensures refusal { execute_outcome self.old.held initiator cdb.now data_out.now
+            (length data_in.old) ≢ Outcome.Done → result ≡ execute_outcome self.old.held initiator
+            cdb.now data_out.now (length data_in.old) }
         ensures refused { execute_outcome self.old.held initiator cdb.now data_out.now
             (length data_in.old) ≢ Outcome.Done → IsUnchanged self.old.held self.new.held
             data_in.old data_in.new reply.old reply.new }
@@ -175,13 +232,17 @@ impl Slot {
         let Some(kept) = self.kept() else {
             return Outcome::NoDisk;
         };
+        let mut waits = false;
         let Some(done) = kept
             .target
-            .execute_within(initiator, cdb, data_out, data_in)
+            .execute_within(initiator, cdb, data_out, data_in, flushes, &mut waits)
         else {
             return Outcome::BufferTooShort;
         };
         reply.show(done);
+        if waits {
+            return Outcome::FlushOwed;
+        }
         kept.target.executed()
     }
 

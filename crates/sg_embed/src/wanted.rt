@@ -1,10 +1,9 @@
 // What C asks of a disk in a file.
 ghost use Rattle.std.specs.Prelude.{◌≡◌, ◌≢◌, IfErr};
-ghost use Rattle.sg_embed.specs.Wanted.{compared, has_names, is_other_identity, is_other_number};
-ghost use Rattle.sg_embed.specs.Wanted.{is_other_profile, wanted_config};
+ghost use Rattle.sg_embed.specs.Wanted.{compared, has_names, is_other_identity, wanted_config};
 
 use crate::outcome::Outcome;
-use crate::profiles::NumberedProfile;
+use sg_kept::asked::{AskedProfile, is_other, is_other_profile};
 use sg_pages::Identity;
 use sg_target::Config;
 
@@ -12,7 +11,7 @@ use sg_target::Config;
 #[derive(Drop)]
 pub struct Wanted {
     /// Its profile.
-    pub(crate) profile: Option<NumberedProfile>,
+    pub(crate) profile: Option<AskedProfile>,
     /// The number of its blocks.
     pub(crate) blocks: Option<u64>,
     /// How many of them can be mapped at once.
@@ -58,36 +57,16 @@ impl Wanted {
         if is_other_profile(self.profile, disk.identity()) {
             return Err(Outcome::OtherProfile);
         }
-        if is_other_number(self.blocks, disk.blocks()) {
+        if is_other(self.blocks, disk.blocks()) {
             return Err(Outcome::OtherBlocks);
         }
-        if is_other_number(self.pool.map(u64::from), u64::from(disk.pool())) {
+        if is_other(self.pool.map(u64::from), u64::from(disk.pool())) {
             return Err(Outcome::OtherPool);
         }
         if is_other_identity(&self.names, disk.identity()) {
             return Err(Outcome::OtherIdentity);
         }
         Ok(())
-    }
-}
-
-/// Whether a profile is asked for, and the disk has another one.
-fn is_other_profile(asked: Option<NumberedProfile>, disk: &Identity) -> bool
-    ensures { result ≡ is_other_profile asked disk.now }
-{
-    match asked {
-        Some(profile) => !profile.is_of(disk),
-        None => false,
-    }
-}
-
-/// Whether a number is asked for, and the disk has another one.
-fn is_other_number(asked: Option<u64>, has: u64) -> bool
-    ensures { result ≡ is_other_number asked has }
-{
-    match asked {
-        Some(number) => number != has,
-        None => false,
     }
 }
 

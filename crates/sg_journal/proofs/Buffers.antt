@@ -149,6 +149,26 @@ module _ (sector len size : ℕ) (b fields zeroed : List ℕ) (some : 0 < sector
           length_gate sector 0 some,
         ))
 
+-- ---- Zeros after it
+
+pub padded_front : (size total : ℕ) (b zeros : List ℕ) → size ≤ length b
+    → take size (take size b ++ zeros ++ drop total b) ≡ take size b
+padded_front size total b zeros fits =
+    ap (take size) (append_assoc (take size b) zeros (drop total b))
+    ∙ take_at (take size b) (zeros ++ drop total b) size (length-take-le size b fits)
+
+-- the records are before the place from which on two buffers differ
+pub kept_front : (len n : ℕ) (a b : List ℕ) → 16 + len ≤ n → take n a ≡ take n b
+    → take len (drop 16 a) ≡ take len (drop 16 b)
+kept_front len n a b le same =
+    let k : ℕ = n - 16 in
+    let is : n ≡ 16 + k = omega arith in
+    let part : (l : List ℕ) → take len (drop 16 l) ≡ take len (drop 16 (take n l)) =
+    λ l. sym (take-take len k (drop 16 l) (omega arith))
+    ∙ ap (take len) (sym (drop-take 16 k l)) ∙ ap (λ (m : ℕ). take len (drop 16 (take m l))) (sym is)
+    in
+    part a ∙ ap (λ (l : List ℕ). take len (drop 16 l)) same ∙ sym (part b)
+
 -- ---- The gate's sector
 
 pub gate_is : (v : Vec ℕ Global) (before written : List ℕ) (sector first : ℕ) → before ≡ v.items

@@ -1,17 +1,19 @@
 -- What a crash leaves of the end of a file, and of a file that is written afresh.
-use Rattle.std.proofs.Common.{◌≡◌, ◌≢◌, inl, inr, ℕ, ◌+◌, ◌-◌, ◌≤◌, ◌<◌, false, List, [], ◌∷◌, ◌++◌}
-use Rattle.std.proofs.Common.{length, get_or, take, drop, sym, ◌∙◌, ap, arith, append_assoc}
-use Rattle.std.proofs.Common.{length-append}
+use Rattle.std.proofs.Common.{◌≡◌, ◌≢◌, ℕ, ◌+◌, ◌-◌, ◌≤◌, ◌<◌, false, List, [], ◌∷◌, ◌++◌}
+use Rattle.std.proofs.Common.{length, get_or, take, drop, sym, ◌∙◌, ap, arith}
+use Rattle.std.proofs.Common.{append_assoc, length-append, take-append-drop}
 use Rattle.std.specs.Prelude.{Ok}
 use Rattle.std.proofs.Math.Seq.{take-append-add}
-use Rattle.std.proofs.lemmas.Bool.{cases_eq}
-use Rattle.std.proofs.lemmas.List.{take_at, drop_at, get_or_append_left}
-use Rattle.sg_journal.specs.Layout.{closed_gate, open_gate, body, body_size, counts, max_batch}
-use Rattle.sg_journal.specs.Journal.{found, IsHead, IsGrown, IsPut, IsCut, IsBeforeOrAfter}
+use Rattle.std.proofs.lemmas.List.{append-nil, take_at, get_or_append_left}
+use Rattle.sg_journal.specs.Layout.{closed_gate, body, body_size, counts, max_batch}
+use Rattle.sg_journal.specs.Journal.{found, IsHead, IsGrown, IsCut}
 use Rattle.sg_journal.specs.JournalState.{IsTorn, IsClosed}
 use Rattle.sg_journal.proofs.Fields.{shut, short, none_in_prefix}
 use Rattle.sg_journal.proofs.Batches.{head_append, head_ends}
 use Rattle.sg_journal.proofs.Written.{length_gate, first_of_gate, length_body, front_written}
+
+regroup : (a g b c d : List ℕ) → a ++ (g ++ ((b ++ c) ++ d)) ≡ (a ++ (g ++ b)) ++ (c ++ d)
+regroup a g b c d = simp append_assoc
 
 -- ---- A closed gate
 
@@ -32,12 +34,14 @@ closed_ends sector head bs whole =
     head_ends sector head (closed_gate sector) bs whole
     (shut sector (closed_gate sector) (closed_first sector))
 
-pub is_closed : (sector end : ℕ) (file head : List ℕ) (bs : List (List ℕ)) → IsHead sector head bs
-    → file ≡ head ++ closed_gate sector → end ≡ length head → 0 < sector
+pub is_closed : (sector end : ℕ) (file head rest : List ℕ) (bs : List (List ℕ))
+    → IsHead sector head bs
+    → file ≡ head ++ (closed_gate sector ++ rest) → end ≡ length head → 0 < sector
     → IsClosed sector end file bs
-is_closed sector end file head bs whole is place some = record {
+is_closed sector end file head rest bs whole is place some = record {
   head = head;
   gate = closed_gate sector;
+  rest = rest;
   is = is;
   whole = whole;
   place = place;
@@ -45,95 +49,100 @@ is_closed sector end file head bs whole is place some = record {
   closed = closed_first sector;
 }
 
--- ---- A batch that is added
+-- a file that ends with a closed gate
+pub closed_last : (sector end : ℕ) (file head : List ℕ) (bs : List (List ℕ))
+    → IsHead sector head bs
+    → file ≡ head ++ closed_gate sector → end ≡ length head → 0 < sector
+    → IsClosed sector end file bs
+closed_last sector end file head bs whole is place some =
+    is_closed sector end file head [] bs whole
+    (is ∙ ap (λ (l : List ℕ). head ++ l) (sym (append-nil (closed_gate sector)))) place some
 
 module _ (sector end : ℕ) (file : List ℕ) (bs : List (List ℕ)) (h : IsClosed sector end file bs)
-    (some : 0 < sector) where
-  -- in each outcome of the first write, the closed gate stands
-  pub grown_behind : (n : ℕ) (c : List ℕ) → IsGrown n file c → found c ≡ Ok bs
-  grown_behind n c grown =
-      ap found (grown.is ∙ ap (λ (l : List ℕ). l ++ grown.more) h.is
-      ∙ append_assoc h.head h.gate grown.more)
-      ∙ head_ends sector h.head (h.gate ++ grown.more) bs h.whole
-      (shut_behind sector h.gate grown.more h.size some h.closed)
+  where
+    pub closed_found : 0 < sector → found file ≡ Ok bs
+    closed_found some =
+        ap found h.is
+        ∙ head_ends sector h.head (h.gate ++ h.rest) bs h.whole
+        (shut_behind sector h.gate h.rest h.size some h.closed)
 
-  module _ (records : List ℕ) (within : length records ≤ max_batch) where
-    abbrev pub image : List ℕ
-    image = body sector records ++ closed_gate sector
+    pub closed_long : end + sector ≤ length file
+    closed_long =
+        omega (
+          arith,
+          ap length h.is,
+          length-append h.head (h.gate ++ h.rest),
+          length-append h.gate h.rest,
+          h.place,
+          h.size,
+        )
 
-    pub with_gate : (g : List ℕ) → take end (file ++ image) ++ g ++ drop (end + sector)
-        (file ++ image) ≡ h.head ++ (g ++ image)
-    with_gate g =
-        let full : file ++ image ≡ h.head ++ (h.gate ++ image) =
-        ap (λ (l : List ℕ). l ++ image) h.is ∙ append_assoc h.head h.gate image in
-        let front : take end (file ++ image) ≡ h.head = ap (take end) full
-        ∙ take_at h.head (h.gate ++ image) end (sym h.place) in
-        let two : file ++ image ≡ (h.head ++ h.gate) ++ image =
-        ap (λ (l : List ℕ). l ++ image) h.is in
-        let back : drop (end + sector) (file ++ image) ≡ image =
-        ap (drop (end + sector)) two
-        ∙ drop_at (h.head ++ h.gate) image (end + sector)
-        (omega (arith, length-append h.head h.gate, h.place, h.size)) in
-        ap (λ (l : List ℕ). l ++ g ++ drop (end + sector) (file ++ image)) front
-        ∙ ap (λ (l : List ℕ). h.head ++ g ++ l) back ∙ append_assoc h.head g image
+    pub closed_head : take end file ≡ h.head
+    closed_head = ap (take end) h.is ∙ take_at h.head (h.gate ++ h.rest) end (sym h.place)
 
-    -- an open gate, and its body
-    module _ (g : List ℕ) (size : length g ≡ sector) (is_open : get_or g 0 0 ≡ 1) where
-      pub head_added : IsHead sector (h.head ++ (g ++ body sector records)) (bs ++ records ∷ [])
-      head_added =
-          head_append sector h.head (g ++ body sector records) bs (records ∷ []) h.whole
-          (front_written sector g records size within some is_open)
+    closed_front : take (end + sector) file ≡ h.head ++ h.gate
+    closed_front =
+        ap (take (end + sector)) (h.is ∙ sym (append_assoc h.head h.gate h.rest))
+        ∙ take_at (h.head ++ h.gate) h.rest (end + sector)
+        (omega (arith, length-append h.head h.gate, h.place, h.size))
 
-      pub all_added : h.head ++ (g ++ image) ≡ (h.head ++ (g ++ body sector records)) ++ closed_gate
-          sector
-      all_added =
-          ap (λ (l : List ℕ). h.head ++ l)
-          (sym (append_assoc g (body sector records) (closed_gate sector)))
-          ∙ sym (append_assoc h.head (g ++ body sector records) (closed_gate sector))
+    -- the bytes up to the gate decide
+    pub closed_on : (c : List ℕ) → take (end + sector) c ≡ take (end + sector) file
+        → IsClosed sector end c bs
+    closed_on c same = record {
+      head = h.head;
+      gate = h.gate;
+      rest = drop (end + sector) c;
+      is =
+          sym (take-append-drop (end + sector) c)
+          ∙ ap (λ (l : List ℕ). l ++ drop (end + sector) c) (same ∙ closed_front)
+          ∙ append_assoc h.head h.gate (drop (end + sector) c);
+      whole = h.whole;
+      place = h.place;
+      size = h.size;
+      closed = h.closed;
+    }
 
-    -- in each outcome of the second write, the batch stands whole
-    pub put_gate : (c : List ℕ) → IsPut end sector (file ++ image) c → IsBeforeOrAfter bs records c
-    put_gate c put = elim (cases_eq (get_or put.bytes 0 0) 1) [
-      | inl is_open ↦
-          inr (ap found (put.is ∙ with_gate put.bytes ∙ all_added put.bytes put.size is_open)
-          ∙ closed_ends sector (h.head ++ (put.bytes ++ body sector records)) (bs ++ records ∷ [])
-          (head_added put.bytes put.size is_open))
-      | inr closed ↦
-          inl (ap found (put.is ∙ with_gate put.bytes)
-          ∙ head_ends sector h.head (put.bytes ++ image) bs h.whole
-          (shut_behind sector put.bytes image put.size some closed))
-    ]
+    -- another gate that is not open
+    pub closed_again : (g c : List ℕ) → length g ≡ sector → get_or g 0 0 ≢ 1
+        → c ≡ take end file ++ g ++ drop (end + sector) file → IsClosed sector end c bs
+    closed_again g c size closed is = record {
+      head = h.head;
+      gate = g;
+      rest = drop (end + sector) file;
+      is =
+          is ∙ ap (λ (l : List ℕ). l ++ g ++ drop (end + sector) file) closed_head
+          ∙ append_assoc h.head g (drop (end + sector) file);
+      whole = h.whole;
+      place = h.place;
+      size = size;
+      closed = closed;
+    }
 
-    -- and after it, the new batch is acknowledged
-    pub added : (new : List ℕ) → new ≡ take end (file ++ image) ++ open_gate sector ++ drop
-        (end + sector) (file ++ image)
-        → IsClosed sector (end + (body_size sector (length records) + sector)) new
-        (bs ++ records ∷ [])
-    added new is =
-        let g = open_gate sector in
-        let size = length_gate sector 1 some in
-        is_closed sector (end + (body_size sector (length records) + sector)) new
-        (h.head ++ (g ++ body sector records)) (bs ++ records ∷ [])
-        (head_added g size (first_of_gate sector 1))
-        (is ∙ with_gate g ∙ all_added g size (first_of_gate sector 1))
+    -- an open gate in its place, and after it a body, a closed gate and any bytes
+    pub added : (g records rest new : List ℕ) → length g ≡ sector → get_or g 0 0 ≡ 1
+        → length records ≤ max_batch → 0 < sector
+        → new ≡ take end file ++ (g ++ ((body sector records ++ closed_gate sector) ++ rest))
+        → IsClosed sector (end + sector + body_size sector (length records)) new (bs ++ records ∷ [])
+    added g records rest new size is_open within some is =
+        let b : List ℕ = body sector records in
+        let all : new ≡ (h.head ++ (g ++ b)) ++ (closed_gate sector ++ rest) =
+        is ∙ ap (λ (l : List ℕ). l ++ (g ++ ((b ++ closed_gate sector) ++ rest))) closed_head
+        ∙ regroup h.head g b (closed_gate sector) rest in
+        is_closed sector (end + sector + body_size sector (length records)) new (h.head ++ (g ++ b))
+        rest (bs ++ records ∷ [])
+        (head_append sector h.head (g ++ b) bs (records ∷ []) h.whole
+        (front_written sector g records size within some is_open))
+        all
         (omega (
           arith,
-          length-append h.head (g ++ body sector records),
-          length-append g (body sector records),
+          length-append h.head (g ++ b),
+          length-append g b,
           length_body sector records,
           size,
           h.place,
-        )) some
-
-    pub added_found : (new : List ℕ)
-        → new ≡ take end (file ++ image) ++ open_gate sector ++ drop (end + sector) (file ++ image)
-        → found new ≡ Ok (bs ++ records ∷ [])
-    added_found new is =
-        let g = open_gate sector in
-        let size = length_gate sector 1 some in
-        ap found (is ∙ with_gate g ∙ all_added g size (first_of_gate sector 1))
-        ∙ closed_ends sector (h.head ++ (g ++ body sector records)) (bs ++ records ∷ [])
-        (head_added g size (first_of_gate sector 1))
+        ))
+        some
 
 -- ---- A repair
 
@@ -159,7 +168,7 @@ module _ (sector end : ℕ) (file : List ℕ) (bs : List (List ℕ)) (h : IsTorn
   pub repaired : (new : List ℕ) → new ≡ take end file ++ closed_gate sector
       → IsClosed sector end new bs
   repaired new is =
-      is_closed sector end new h.head bs h.whole (is
+      closed_last sector end new h.head bs h.whole (is
       ∙ ap (λ (l : List ℕ). l ++ closed_gate sector) front) h.place some
 
   pub repaired_found : (new : List ℕ) → new ≡ take end file ++ closed_gate sector

@@ -7,6 +7,8 @@ mod Moments
 mod Changes
 mod Buffers
 mod Ends
+mod Waits
+mod States
 mod Absent
 mod Blocks
 pub mod Openings

@@ -47,9 +47,9 @@ found file =
 pub record IsHead (sector : ℕ) (head : List ℕ) (bs : List (List ℕ)) : Type 0 where
   pub stands : (rest : List ℕ) → found (head ++ rest) ≡ after bs (batches sector (length head) rest)
 
--- The file has these batches, or one more.
-abbrev pub IsBeforeOrAfter : (bs : List (List ℕ)) → (batch : List ℕ) → (file : List ℕ) → Type 0
-IsBeforeOrAfter bs batch file = (found file ≡ Ok bs) ⊎ (found file ≡ Ok (bs ++ batch ∷ []))
+-- The file has these batches, or all of the others too.
+abbrev pub IsBeforeOrAfter : (bs others : List (List ℕ)) → (file : List ℕ) → Type 0
+IsBeforeOrAfter bs others file = (found file ≡ Ok bs) ⊎ (found file ≡ Ok (bs ++ others))
 
 -- ---- Cited only by private contracts
 
@@ -64,6 +64,11 @@ pub record IsPut (at count : ℕ) (old new : List ℕ) : Type 0 where
   pub bytes : List ℕ
   pub size : length bytes ≡ count
   pub is : new ≡ take at old ++ bytes ++ drop (at + count) old
+
+-- The first bytes are those of an outcome.
+abbrev pub HasFirst : (count : ℕ) → (outcomes : List ℕ → Type 0) → (file : List ℕ) → Type 0
+HasFirst count outcomes file =
+    (old : List ℕ) × outcomes old × (take count file ≡ take count old)
 
 -- The file was cut to a length, or the cut was undone in part.
 pub record IsCut (len : ℕ) (old new : List ℕ) : Type 0 where

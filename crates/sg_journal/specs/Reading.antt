@@ -9,7 +9,7 @@ use Rattle.sg_journal.specs.declared.reader.OpenError.{OpenError}
 use Rattle.sg_journal.specs.declared.reader.OpenError.TheVariants.{Device}
 use Rattle.sg_journal.specs.declared.reader.Reader.{Reader}
 use Rattle.sg_journal.specs.declared.journal.Tail.{Tail}
-use Rattle.sg_journal.specs.declared.journal.Tail.TheVariants.{Unmade, Torn, Closed}
+use Rattle.sg_journal.specs.declared.journal.Tail.TheVariants.{Unmade, Torn, Closed, Waiting}
 
 -- What was read is a first sector and whole batches, whatever is still to be read.
 pub record IsBetween (taken : List ℕ) (left sector end : ℕ) (bs : List (List ℕ)) : Type 0 where
@@ -25,27 +25,25 @@ pub record IsPast (taken : List ℕ) (left sector end : ℕ) (bs : List (List �
   pub place : end ≡ length head
   pub nothing : (rest : List ℕ) → length rest ≡ left → counts sector (behind ++ rest) ≡ false
 
--- All was read, and it ends with a closed gate.
-pub record IsAtGate (taken : List ℕ) (left sector end : ℕ) (bs : List (List ℕ)) : Type 0 where
-  pub all : left ≡ 0
-  pub closed : IsClosed sector end taken bs
-
 -- There was nothing to read.
 pub record IsEmpty (taken : List ℕ) (left sector end : ℕ) (bs : List (List ℕ)) : Type 0 where
   pub all : left ≡ 0
   pub unmade : IsUnmade end taken bs
 
+-- Where a reader is. A closed gate ends the batches, whatever is still to be read.
 abbrev pub IsPlace : Option Tail → (taken : List ℕ) → (left sector end : ℕ) → List (List ℕ) → Type 0
 IsPlace None taken left sector end bs = IsBetween taken left sector end bs
 IsPlace (Some Torn) taken left sector end bs = IsPast taken left sector end bs
-IsPlace (Some Closed) taken left sector end bs = IsAtGate taken left sector end bs
+IsPlace (Some Closed) taken left sector end bs = IsClosed sector end taken bs
 IsPlace (Some Unmade) taken left sector end bs = IsEmpty taken left sector end bs
+IsPlace (Some (Waiting written)) taken left sector end bs = ⊥
 
 -- The reader found these batches so far.
 pub record HasFound {F D : Type 0} (taken : F → List ℕ) (left : F → ℕ) (reader : Reader F D)
     (bs : List (List ℕ)) : Type 0 where
   pub valid : is_sector_length reader.sector ≡ true
-  pub total : length (taken reader.source) + left reader.source < 2 ^ 64
+  pub total : length (taken reader.source) + left reader.source ≡ reader.length
+  pub fits : reader.length < 2 ^ 64
   pub place :
       IsPlace reader.ended (taken reader.source) (left reader.source) reader.sector reader.end bs
 

@@ -10,7 +10,7 @@ use Rattle.sg_journal.specs.declared.read.Next.{Next}
 use Rattle.sg_journal.specs.declared.read.Next.TheVariants.{Batch, End}
 use Rattle.sg_journal.specs.declared.layout.TheConstants.{MAX_BATCH}
 use Rattle.sg_journal.specs.declared.journal.Tail.{Tail}
-use Rattle.sg_journal.specs.declared.journal.Tail.TheVariants.{Unmade, Torn, Closed}
+use Rattle.sg_journal.specs.declared.journal.Tail.TheVariants.{Unmade, Torn, Closed, Waiting}
 
 -- A number of bytes was read.
 pub record TookMore {F : Type 0} (taken : F → List ℕ) (left : F → ℕ) (old new : F)
@@ -35,12 +35,11 @@ pub record TookNone {F : Type 0} (taken : F → List ℕ) (left : F → ℕ) (ol
   pub nothing : (rest : List ℕ) → length rest ≡ left new
       → counts sector (first ++ (bytes ++ rest)) ≡ false
 
--- A closed gate was read, and nothing is left.
+-- A closed gate was read.
 pub record TookClosed {F : Type 0} (taken : F → List ℕ) (left : F → ℕ) (old new : F)
     (gate : List ℕ) : Type 0 where
   pub took : Took taken left old new gate
   pub closed : slice_index gate 0 ≢ 1
-  pub all : left new ≡ 0
 
 -- An open gate was read.
 pub record TookOpen {F : Type 0} (taken : F → List ℕ) (left : F → ℕ) (old new : F) (gate : List ℕ) :
@@ -54,6 +53,7 @@ IsGateRead taken left old new sector gate None = TookOpen taken left old new gat
 IsGateRead taken left old new sector gate (Some Torn) = TookNone taken left old new sector []
 IsGateRead taken left old new sector gate (Some Closed) = TookClosed taken left old new gate
 IsGateRead taken left old new sector gate (Some Unmade) = ⊥
+IsGateRead taken left old new sector gate (Some (Waiting written)) = ⊥
 
 -- A whole body was read.
 pub record TookBody {F : Type 0} (taken : F → List ℕ) (left : F → ℕ) (old new : F) (sector : ℕ)

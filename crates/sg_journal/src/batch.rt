@@ -1,6 +1,6 @@
 // The buffer in which a batch is built, written and read. All memory is taken when it is made.
 ghost use Rattle.std.specs.Prelude.{◌≡◌, ◌≤◌, ◌<◌, ◌+◌, ◌-◌, ◌*◌, ◌++◌, [], length, take, drop};
-ghost use Rattle.std.specs.Prelude.{replicate};
+ghost use Rattle.std.specs.Prelude.{max, replicate};
 ghost use Rattle.std.specs.Prelude.{true, IfOk};
 ghost use Rattle.byteorder.specs.Endian.{big_bytes};
 ghost use Rattle.sg_journal.specs.Layout.{body, body_size, closed_gate, is_sector_length};
@@ -141,4 +141,23 @@ pub(crate) fn seal(buffer: &mut [u8], sector: usize, len: usize) -> usize
     put_zeros(buffer, FIELDS_LENGTH + len, size + sector);
     put_fields(&mut buffer[..FIELDS_LENGTH], len as u64, checksum);
     size + sector
+}
+
+/// Completes a body as [`seal`] does. Zeros follow the closed gate if all of it has fewer than `least`
+/// bytes. Returns the length with these zeros.
+pub(crate) fn seal_with_room(buffer: &mut [u8], sector: usize, len: usize, least: usize) -> usize
+    requires sector { (0 < sector) × (sector ≤ 65536) }
+    requires len { len ≤ MAX_BATCH }
+    requires room { length buffer.old ≡ MAX_BATCH + 16 + 2 * sector }
+    requires least { least ≤ MAX_BATCH }
+    ensures written { take (body_size sector len + sector) buffer.new
+        ≡ body sector (take len (drop 16 buffer.old)) ++ closed_gate sector }
+    ensures kept { take len (drop 16 buffer.new) ≡ take len (drop 16 buffer.old) }
+    ensures size { result ≡ max (body_size sector len + sector) least }
+    ensures within { result ≤ length buffer.new }
+{
+    let size = seal(buffer, sector, len);
+    let total = size.max(least);
+    put_zeros(buffer, size, total);
+    total
 }

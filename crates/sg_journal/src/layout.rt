@@ -12,6 +12,10 @@ pub const NEW_SECTOR: usize = 4096;
 /// The most bytes that the records of a batch have.
 pub const MAX_BATCH: usize = 1 << 22;
 
+/// The bytes that a write has at least if it makes a file longer. The zeros after the batch are room for the
+/// next ones: a write within a file costs a file system less than a write that makes it longer.
+pub const ROOM_AHEAD: usize = 1 << 18;
+
 /// The bytes MEHDDISK, with which a file begins.
 pub(crate) const MAGIC: [u8; 8] = [77, 69, 72, 68, 68, 73, 83, 75];
 

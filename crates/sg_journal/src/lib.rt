@@ -2,6 +2,7 @@
 //! acknowledged is whole on the disk. This crate knows no commands and no blocks.
 #![tactic(auto)]
 
+mod adding;
 mod batch;
 mod checksum;
 mod device;
@@ -21,7 +22,7 @@ pub use batch::Batch;
 pub use device::{Device, DeviceError};
 pub use fault::Fault;
 pub use journal::Journal;
-pub use layout::{MAX_BATCH, NEW_SECTOR, is_sector_length};
+pub use layout::{MAX_BATCH, NEW_SECTOR, ROOM_AHEAD, is_sector_length};
 pub use memory::{Memory, MemorySource};
 pub use reader::{OpenError, Reader};
 pub use record::Record;

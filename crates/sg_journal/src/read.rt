@@ -124,9 +124,6 @@ pub(crate) fn read_gate<F: Source>(
     if gate[0] == 1 {
         return Ok(None);
     }
-    if source.left() > 0 {
-        return Ok(Some(Tail::Torn));
-    }
     Ok(Some(Tail::Closed))
 }
 

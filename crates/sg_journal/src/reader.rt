@@ -46,6 +46,8 @@ pub struct Reader<F: Source + Drop> {
     pub sector: usize,
     /// The length of what counts in the file so far, in bytes.
     pub end: u64,
+    /// The length of the file, in bytes.
+    pub length: u64,
     pub(crate) ended: Option<Tail>,
 }
 
@@ -68,17 +70,20 @@ impl<F: Source + Drop> Reader<F> {
         ensures cause { IfErr result (λ e. e.0 ≡ Device → F.failures source < F.failures e.1) }
     {
         let mut source = source;
+        let length = source.left();
         match read_first_sector(&mut source) {
             Ok(None) => Ok(Reader {
                 source,
                 sector: NEW_SECTOR,
                 end: 0,
+                length,
                 ended: Some(Tail::Unmade),
             }),
             Ok(Some(sector)) => Ok(Reader {
                 source,
                 sector,
                 end: sector as u64,
+                length,
                 ended: None,
             }),
             Err(error) => Err((error, source)),
@@ -135,7 +140,7 @@ impl<F: Source + Drop> Reader<F> {
         requires ended { HasEnded self }
         requires found { (bs : List (List ℕ)) × HasFound F.taken F.left self bs }
         ensures batches { IfOk result (λ j. (bs : List (List ℕ)) → HasFound F.taken F.left self bs →
-            HasBatches F.Device.seen F.Device.may_leave j bs) }
+            HasBatches F.Device.seen F.Device.may_leave j bs []) }
         ensures opening { IfOk result (λ j. F.Device.seen j.device ≡ F.Device.opening j.device) }
         ensures found { IfOk result (λ j. (bs : List (List ℕ)) → HasFound F.taken F.left self bs →
             found (F.Device.opening j.device) ≡ Ok bs) }
@@ -144,6 +149,7 @@ impl<F: Source + Drop> Reader<F> {
         ensures moment { IfOk result (λ j. F.Device.moment j.device ≡ 0) }
         ensures sector { IfOk result (λ j. j.sector ≡ self.sector) }
         ensures end { IfOk result (λ j. j.end ≡ self.end) }
+        ensures length { IfOk result (λ j. j.length ≡ self.length) }
         ensures known_of_error { IfErr result (λ e. F.known e.1 ≡ F.known self.source) }
         ensures cause { IfErr result (λ e. F.failures self.source < F.failures e.1) }
     {
@@ -154,6 +160,7 @@ impl<F: Source + Drop> Reader<F> {
                 device: source.into_device(),
                 sector: self.sector,
                 end: self.end,
+                length: self.length,
                 drafted: 0,
                 tail: self.ended.unwrap_or(Tail::Torn),
             }),

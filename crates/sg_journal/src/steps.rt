@@ -1,9 +1,23 @@
-// The writes of a journal: each is one change of the file and one sync.
-ghost use Rattle.std.specs.Prelude.{◌≡◌, ◌≤◌, ◌+◌, ◌++◌, length, take, drop, OnOk};
-ghost use Rattle.sg_journal.specs.Device.{Only, LeavesOnly, HasCause};
-ghost use Rattle.sg_journal.specs.Journal.{IsGrown, IsPut, IsCut};
+// The writes of a journal: each is one change of the file, and all but one are followed by a sync.
+ghost use Rattle.std.specs.Prelude.{◌≡◌, ◌≤◌, ◌+◌, ◌++◌, ℕ, List, length, take, drop, OnOk};
+ghost use Rattle.sg_journal.specs.Device.{Holds, Only, LeavesOnly, HasCause};
+ghost use Rattle.sg_journal.specs.Journal.{HasFirst, IsGrown, IsPut, IsCut};
 
 use crate::{Device, DeviceError};
+
+/// Writes over the bytes from an offset on, and past the end, without a sync. A crash leaves the bytes
+/// before them as it might have left them.
+pub(crate) fn overwrite<D: Device>(device: &mut D, at: u64, bytes: &[u8]) -> Result<(), DeviceError>
+    requires at { at ≤ length (D.seen device.old) }
+    ensures put { OnOk result (Holds (D.seen device.old) at bytes.now (D.seen device.new)) }
+    ensures crash { (c : List ℕ) → D.may_leave device.new c → HasFirst at (D.may_leave device.old) c }
+    ensures any_moment { LeavesOnly D.moment D.left_since device.old device.new
+        (HasFirst at (D.may_leave device.old)) }
+    ensures cause { HasCause (D.failures device.old) (D.failures device.new) result }
+    ensures opening { D.opening device.new ≡ D.opening device.old }
+{
+    device.write_at(at, bytes)
+}
 
 /// Adds bytes at the end. A crash leaves what was there, and some more bytes.
 pub(crate) fn append<D: Device>(device: &mut D, end: u64, bytes: &[u8]) -> Result<(), DeviceError>

@@ -1,32 +1,49 @@
-// The changes of a file that a journal makes, each of two writes. They know bytes and no batches.
-ghost use Rattle.std.specs.Prelude.{◌≡◌, ◌⊎◌, ◌≤◌, ◌<◌, ◌+◌, ◌^◌, ◌++◌, length, take, drop, OnOk};
-ghost use Rattle.sg_journal.specs.Device.{Only, LeavesOnly, HasCause};
-ghost use Rattle.sg_journal.specs.Journal.{IsGrown, IsPut, IsCut};
+// The changes of a file that a journal makes, each of two calls. They know bytes and no batches.
+ghost use Rattle.std.specs.Prelude.{◌≡◌, ◌⊎◌, ◌≤◌, ◌<◌, ◌+◌, ◌^◌, ◌++◌, ℕ, List, length, take, OnOk};
+ghost use Rattle.sg_journal.specs.Device.{Holds, NoMore, Only, LeavesOnly, HasCause};
+ghost use Rattle.sg_journal.specs.Journal.{HasFirst, IsGrown, IsPut, IsCut};
 
-use crate::steps::{append, replace, shorten};
+use crate::steps::{append, overwrite, replace, shorten};
 use crate::{Device, DeviceError};
 
-/// Writes a body after the closed gate at the end of a file, and then opens the gate.
-pub(crate) fn add_batch<D: Device>(
+/// Writes a gate, and a body after it, without a sync. A crash leaves the bytes before them as it might have
+/// left them.
+pub(crate) fn write_gate_and_body<D: Device>(
     device: &mut D,
-    end: u64,
-    body: &[u8],
+    at: u64,
     gate: &[u8],
+    body: &[u8],
 ) -> Result<(), DeviceError>
-    requires end { end + length gate.now ≡ length (D.seen device.old) }
-    requires fits { end + length gate.now < 2 ^ 64 }
-    requires durable { Only (D.seen device.old) (D.may_leave device.old) }
-    ensures added { OnOk result (D.seen device.new ≡ take end (D.seen device.old ++ body.now)
-        ++ gate.now ++ drop (end + length gate.now) (D.seen device.old ++ body.now)) }
-    ensures durable { OnOk result (Only (D.seen device.new) (D.may_leave device.new)) }
+    requires at { at + length gate.now ≤ length (D.seen device.old) }
+    requires fits { at + length gate.now < 2 ^ 64 }
+    ensures put { OnOk result (Holds (D.seen device.old) at (gate.now ++ body.now)
+        (D.seen device.new)) }
+    ensures crash { (c : List ℕ) → D.may_leave device.new c → HasFirst at (D.may_leave device.old) c }
     ensures any_moment { LeavesOnly D.moment D.left_since device.old device.new
-        (λ c. IsGrown (length body.now) (D.seen device.old) c
-        ⊎ IsPut end (length gate.now) (D.seen device.old ++ body.now) c) }
+        (HasFirst at (D.may_leave device.old)) }
     ensures cause { HasCause (D.failures device.old) (D.failures device.new) result }
     ensures opening { D.opening device.new ≡ D.opening device.old }
 {
-    append(device, end + gate.len() as u64, body)?;
-    replace(device, end, gate)
+    overwrite(device, at, gate)?;
+    overwrite(device, at + gate.len() as u64, body)
+}
+
+/// Makes the file durable, and then writes a gate in the place of another.
+pub(crate) fn exchange_gate<D: Device>(
+    device: &mut D,
+    at: u64,
+    gate: &[u8],
+) -> Result<(), DeviceError>
+    requires within { at + length gate.now ≤ length (D.seen device.old) }
+    ensures put { OnOk result (Holds (D.seen device.old) at gate.now (D.seen device.new)) }
+    ensures durable { OnOk result (Only (D.seen device.new) (D.may_leave device.new)) }
+    ensures any_moment { LeavesOnly D.moment D.left_since device.old device.new
+        (λ c. D.may_leave device.old c ⊎ IsPut at (length gate.now) (D.seen device.old) c) }
+    ensures cause { HasCause (D.failures device.old) (D.failures device.new) result }
+    ensures opening { D.opening device.new ≡ D.opening device.old }
+{
+    device.sync()?;
+    replace(device, at, gate)
 }
 
 /// Cuts a file, and then adds a gate.
@@ -51,12 +68,11 @@ pub(crate) fn cut_and_close<D: Device>(
 
 /// Begins a draft with these bytes.
 pub(crate) fn begin_draft_with<D: Device>(device: &mut D, first: &[u8]) -> Result<(), DeviceError>
-    requires durable { Only (D.seen device.old) (D.may_leave device.old) }
     ensures draft { OnOk result (D.draft device.new ≡ first.now) }
     ensures seen { D.seen device.new ≡ D.seen device.old }
-    ensures durable { Only (D.seen device.new) (D.may_leave device.new) }
+    ensures crash { NoMore (D.may_leave device.old) (D.may_leave device.new) }
     ensures any_moment { LeavesOnly D.moment D.left_since device.old device.new
-        (λ c. c ≡ D.seen device.old) }
+        (D.may_leave device.old) }
     ensures cause { HasCause (D.failures device.old) (D.failures device.new) result }
     ensures opening { D.opening device.new ≡ D.opening device.old }
 {
@@ -70,13 +86,12 @@ pub(crate) fn draft_batch<D: Device>(
     gate: &[u8],
     body: &[u8],
 ) -> Result<(), DeviceError>
-    requires durable { Only (D.seen device.old) (D.may_leave device.old) }
     ensures draft { OnOk result (D.draft device.new
         ≡ D.draft device.old ++ (gate.now ++ body.now)) }
     ensures seen { D.seen device.new ≡ D.seen device.old }
-    ensures durable { Only (D.seen device.new) (D.may_leave device.new) }
+    ensures crash { NoMore (D.may_leave device.old) (D.may_leave device.new) }
     ensures any_moment { LeavesOnly D.moment D.left_since device.old device.new
-        (λ c. c ≡ D.seen device.old) }
+        (D.may_leave device.old) }
     ensures cause { HasCause (D.failures device.old) (D.failures device.new) result }
     ensures opening { D.opening device.new ≡ D.opening device.old }
 {
@@ -86,11 +101,10 @@ pub(crate) fn draft_batch<D: Device>(
 
 /// Adds a gate to the draft, and puts the draft in the place of the file.
 pub(crate) fn close_and_exchange<D: Device>(device: &mut D, gate: &[u8]) -> Result<(), DeviceError>
-    requires durable { Only (D.seen device.old) (D.may_leave device.old) }
     ensures exchanged { OnOk result (D.seen device.new ≡ D.draft device.old ++ gate.now) }
     ensures durable { OnOk result (Only (D.seen device.new) (D.may_leave device.new)) }
     ensures any_moment { LeavesOnly D.moment D.left_since device.old device.new
-        (λ c. (c ≡ D.seen device.old) ⊎ (c ≡ D.draft device.old ++ gate.now)) }
+        (λ c. D.may_leave device.old c ⊎ (c ≡ D.draft device.old ++ gate.now)) }
     ensures cause { HasCause (D.failures device.old) (D.failures device.new) result }
     ensures opening { D.opening device.new ≡ D.opening device.old }
 {

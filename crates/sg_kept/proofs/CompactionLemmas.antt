@@ -1,11 +1,12 @@
 -- A file that is written afresh.
 use Rattle.std.proofs.Common.{◌≡◌, ◌⊎◌, inl, inr, ⊎_elim, ℕ, ◌+◌, ◌*◌, ◌≤◌, ◌<◌, true, ◌&&◌, List, []}
 use Rattle.std.proofs.Common.{◌∷◌, ◌++◌, leb, Option, Some, None, refl, sym, ap, ap₂, subst}
-use Rattle.std.proofs.Common.{◌∙◌, arith}
+use Rattle.std.proofs.Common.{◌∙◌, append_assoc, arith, false}
+use Rattle.std.proofs.lemmas.List.{append-nil}
 use Rattle.std.proofs.lemmas.Bool.{and_parts, leb-true}
 use Rattle.std.specs.Int.{is_power_of_two}
 use Rattle.std.specs.List.{flat_map}
-use Rattle.std.specs.Prelude.{Result, Ok, Err, OnOk, option_and_then, option_map}
+use Rattle.std.specs.Prelude.{Result, Ok, Err, IfNone, OnOk, option_and_then, option_map, length}
 use Rattle.sg_changes.specs.FirstRecord.{NewDiskFields, first_record, new_disk_kept}
 use Rattle.sg_changes.specs.KeptFields.{KeptFields}
 use Rattle.sg_changes.specs.Change.{Change, applied_all}
@@ -17,8 +18,8 @@ use Rattle.sg_changes.specs.Replay.{replayed}
 use Rattle.sg_changes.specs.Snapshot.{kept_below, run_changes}
 use Rattle.sg_journal.specs.BatchValue.{BatchValue}
 use Rattle.sg_journal.specs.Device.{LeavesOnly}
-use Rattle.sg_journal.specs.Journal.{found}
-use Rattle.sg_journal.specs.JournalState.{Drafts}
+use Rattle.sg_journal.specs.Journal.{Found, found}
+use Rattle.sg_journal.specs.JournalState.{Drafts, HasBatches, has_waiting}
 use Rattle.sg_journal.specs.Layout.{body_size, is_sector_length}
 use Rattle.sg_journal.specs.declared.journal.Journal.{Journal}
 use Rattle.sg_faults.specs.Faults.{Faults}
@@ -26,12 +27,14 @@ use Rattle.sg_store.specs.Disk.{Disk, empty_disk}
 use Rattle.sg_store.specs.LbaStatus.{descriptor_at, status_at}
 use Rattle.sg_target.specs.Armed.{Armed}
 use Rattle.sg_target.specs.State.{IsWithinLimits, State}
+use Rattle.sg_target.specs.Target.{TargetFields, disk_of}
 use Rattle.sg_units.specs.Reservations.{IsConsistent}
 use Rattle.sg_units.specs.declared.reservation_state.ReservationState.{ReservationState}
 use Rattle.sg_wire.specs.declared.extent.Extent.{Extent}
 use Rattle.sg_wire.specs.declared.lba_status.StatusDescriptor.{StatusDescriptor}
-use Rattle.sg_kept.specs.Recording.{Adds}
-use Rattle.sg_kept.specs.Compaction.{IsDrafted, LeadsOn, StandsFor}
+use Rattle.sg_kept.specs.Recording.{Adds, HasRoom}
+use Rattle.sg_kept.specs.Compaction.{IsDraftOf, IsDrafted, IsNextPart, LeadsOn, StandsFor}
+use Rattle.sg_kept.specs.Compaction.{draft_weight, heaviest}
 use Rattle.sg_kept.specs.Disk.{IsKept}
 use Rattle.sg_kept.specs.Kept.{kept, powered, restored}
 use Rattle.sg_kept.specs.Opened.{IsBeforeOr, begun, filed, opened, replayed_all}
@@ -39,6 +42,7 @@ use Rattle.sg_kept.specs.Opening.{IsSteady, new_disk_of}
 use Rattle.sg_kept.specs.Changes.{persistent}
 use Rattle.sg_kept.proofs.AppliedLemmas.{restored-persistent}
 use Rattle.sg_kept.proofs.OpenedLemmas.{all-after, all-push, filed-push, opened-is, opened-same, replayed-nil}
+use Rattle.sg_kept.proofs.OpenedLemmas.{none-waits, with-last, without-last}
 use Rattle.sg_kept.proofs.OpeningLemmas.{filed-one, read-new}
 use Rattle.sg_kept.proofs.SteadyLemmas.{steady-new, steady-replayed}
 
@@ -125,6 +129,61 @@ module _ {D : Type 0} (seen : D → List ℕ) (may_leave : D → List ℕ → Ty
     sector = sector;
   }
 
+-- ---- Records that are added in turn
+
+pub leads-nothing : (b : BatchValue) (k : KeptFields) → LeadsOn b b k k
+leads-nothing b k = record {
+  bytes = [];
+  added = ap (λ (l : List ℕ). record b { records = l }) (sym (append-nil b.records));
+  leads = replayed-nil k;
+}
+
+pub leads-then : RecordsAreReplayed → (a b c : BatchValue) (k l m : KeptFields) → LeadsOn a b k l
+    → LeadsOn b c l m → LeadsOn a c k m
+leads-then law a b c k l m first second = record {
+  bytes = first.bytes ++ second.bytes;
+  added = second.added
+      ∙ (ap (λ (v : BatchValue). record v { records = v.records ++ second.bytes }) first.added
+      ∙ ap (λ (l : List ℕ). record a { records = l })
+      (append_assoc a.records first.bytes second.bytes));
+  leads = law.joined first.bytes second.bytes k l first.leads ∙ second.leads;
+}
+
+-- ---- A file that stands for a disk
+
+abbrev filed_of : Found → Option KeptFields
+filed_of (Ok bs) = filed bs
+filed_of (Err fault) = None
+
+module _ {D : Type 0} (seen : D → List ℕ) (may_leave : D → List ℕ → Type 0) where
+  -- its batches are the same as before
+  pub stands-still : (old new : Journal D) (left : KeptFields) → StandsFor seen may_leave old left
+      → (bs ws : List (List ℕ)) → HasBatches seen may_leave new bs ws → has_waiting new ≡ false
+      → found (seen new.device) ≡ found (seen old.device) → StandsFor seen may_leave new left
+  stands-still old new left s bs ws has not same = record {
+    batches = bs;
+    stands = subst (HasBatches seen may_leave new bs) (none-waits seen may_leave new bs ws has not) has;
+    files = ap filed_of (sym has.found ∙ (same ∙ s.stands.found)) ∙ s.files;
+  }
+
+  -- no record waits
+  pub stands-alone : (journal : Journal D) (b : BatchValue) (disk : Armed)
+      → IsKept seen may_leave journal b disk → b.records ≡ [] → has_waiting journal ≡ false
+      → StandsFor seen may_leave journal (kept disk)
+  stands-alone journal b disk s none not =
+      let nothing = none-waits seen may_leave journal s.batches s.waiting s.stands not in
+      let leads = without-last s.waiting b.records s.left (kept disk) none s.waits in
+      record {
+        batches = s.batches;
+        stands = subst (HasBatches seen may_leave journal s.batches) nothing s.stands;
+        files = s.files
+            ∙ subst (λ (ws : List (List ℕ)). replayed_all ws s.left ≡ Some (kept disk)) nothing leads;
+      }
+
+  pub stands-opened : (journal : Journal D) (left : KeptFields) → StandsFor seen may_leave journal left
+      → opened (seen journal.device) ≡ Some (restored left)
+  stands-opened journal left s = opened-is (seen journal.device) s.batches left s.stands.found s.files
+
 -- ---- A run
 
 -- the record of the first addresses of a run
@@ -158,7 +217,36 @@ pub same-kept : (s t : State) (f h : Faults) → s ≡ t → f ≡ h
     → kept (record { state = s; faults = f }) ≡ kept (record { state = t; faults = h })
 same-kept s t f h e same = ap₂ (λ (x : State) (y : Faults). kept (record { state = x; faults = y })) e same
 
+-- a draft that has all runs
+pub drafted-whole : {D : Type 0} (seen : D → List ℕ) (may_leave : D → List ℕ → Type 0) (draft : D → List ℕ)
+    → RecordsAreReplayed → FirstRecordsAreExact → RunsMakeTheDisk → (journal : Journal D)
+    (b new : BatchValue) (k : KeptFields) (from next : ℕ)
+    → IsDrafted seen may_leave draft journal b (kept_below k from)
+    → LeadsOn b new (kept_below k from) (kept_below k next) → next ≡ k.disk.capacity
+    → IsDrafted seen may_leave draft journal new k
+drafted-whole seen may_leave draft replays exact runs journal b new k from next s leads end =
+    subst (IsDrafted seen may_leave draft journal new) (all-kept runs k next end)
+    (drafted-more seen may_leave draft replays exact journal b new (kept_below k from) (kept_below k next) s
+    leads)
+
+pub same-disk : (old new : TargetFields) → old.state ≡ new.state → old.faults ≡ new.faults
+    → disk_of old ≡ disk_of new
+same-disk old new state faults =
+    ap₂ (λ (s : State) (f : Faults). record { state = s; faults = f }) state faults
+
 -- ---- The first records
+
+-- a draft that has begun
+pub draft-begun : {D : Type 0} (seen : D → List ℕ) (may_leave : D → List ℕ → Type 0) (draft : D → List ℕ)
+    (journal : Journal D) (b : BatchValue) (disk : Armed)
+    → IsDrafted seen may_leave draft journal b (kept_below (kept disk) 0)
+    → draft_weight journal b ≤ heaviest 0 → IsDraftOf seen may_leave draft journal b disk 0
+draft-begun seen may_leave draft journal b disk drafted weight = record {
+  drafted = drafted;
+  within = omega arith;
+  room = omega (arith, weight);
+  weight = omega (arith, weight);
+}
 
 -- all that is kept but the blocks
 pub head-begun : RecordsAreReplayed → FirstRecordsAreExact → RunsMakeTheDisk → (disk : Armed)
@@ -217,7 +305,9 @@ pub steady-kept : {D : Type 0} (seen : D → List ℕ) (may_leave : D → List �
     → (journal : Journal D) (b : BatchValue) (disk : Armed) → IsKept seen may_leave journal b disk
     → IsSteady (kept disk)
 steady-kept seen may_leave law journal b disk s =
-    steady-replayed law b.records s.left (kept disk) (steady-filed law s.batches s.left s.files) s.waits
+    let steady = steady-filed law s.batches s.left s.files in
+    steady-all law (s.waiting ++ b.records ∷ []) (Some s.left) (kept disk)
+    (λ k e. let is : s.left ≡ k = cc in subst IsSteady is steady) s.waits
 
 -- ---- The length of the draft
 
@@ -275,6 +365,10 @@ pub if-ok : {T E P : Type 0} (r : Result T E) → P → OnOk r P
 if-ok (Ok x) p = p
 if-ok (Err e) p = tt
 
+pub if-none : {A P Q : Type 0} (o : Option A) → IfNone o P → (P → Q) → IfNone o Q
+if-none (Some x) p f = tt
+if-none None p f = f p
+
 pub three-ok : {T E P Q R S : Type 0} (r : Result T E) → (P → Q → R → S) → OnOk r P → OnOk r Q → OnOk r R
     → OnOk r S
 three-ok (Ok x) f p q s = f p q s
@@ -286,10 +380,45 @@ pub kept-afresh : {D : Type 0} (seen : D → List ℕ) (may_leave : D → List �
     → b.sector ≡ journal.sector → IsWithinLimits disk.state → IsKept seen may_leave journal b disk
 kept-afresh seen may_leave journal b disk s none sector limits = record {
   batches = s.batches;
+  waiting = [];
   stands = s.stands;
   left = kept disk;
   files = s.files;
-  waits = ap (λ (l : List ℕ). replayed l (kept disk)) none ∙ replayed-nil (kept disk);
+  waits = with-last [] b.records (kept disk) (kept disk) none refl;
   sector = sector;
   limits = limits;
 }
+
+-- ---- One part of a snapshot, while the file stands for the disk
+
+module _ {D : Type 0} (seen : D → List ℕ) (may_leave : D → List ℕ → Type 0) where
+  -- what a crash leaves opens to the disk still
+  pub still-or : (journal : Journal D) (left : KeptFields) → StandsFor seen may_leave journal left
+      → (file : List ℕ)
+      → (found file ≡ found (seen journal.device)) ⊎ (opened file ≡ Some (restored left))
+      → opened file ≡ opened (seen journal.device)
+  still-or journal left s file here =
+      ⊎_elim (λ was. opened-same file (seen journal.device) was)
+      (λ now. now ∙ sym (stands-opened seen may_leave journal left s)) here
+
+  pub part-opened : (draft : D → List ℕ) (old new : Journal D) (b : BatchValue) (disk : Armed) (from : ℕ)
+      (next : Option ℕ) → StandsFor seen may_leave old (kept disk)
+      → IsNextPart seen may_leave draft old new b disk from next
+      → opened (seen new.device) ≡ opened (seen old.device)
+  part-opened draft old new b disk from (Some next) s part =
+      opened-same (seen new.device) (seen old.device) part.same
+  part-opened draft old new b disk from None s part =
+      stands-opened seen may_leave new (kept disk) part.stands
+      ∙ sym (stands-opened seen may_leave old (kept disk) s)
+
+  -- after the last part the disk is as usable as before
+  pub part-usable : (draft : D → List ℕ) (old new : Journal D) (b : BatchValue) (disk : Armed) (from : ℕ)
+      (next : Option ℕ) → IsWithinLimits disk.state
+      → IsNextPart seen may_leave draft old new b disk from next
+      → IfNone next (IsKept seen may_leave new b disk × HasRoom b)
+  part-usable draft old new b disk from (Some next) limits part = tt
+  part-usable draft old new b disk from None limits part =
+      let none : length b.records ≡ 0 = ap length part.empty in (
+        kept-afresh seen may_leave new b disk part.stands part.empty part.sector limits,
+        omega (arith, none),
+      )

@@ -14,11 +14,11 @@ mod RefusedLemmas
 -- The operation that a command has executed.
 mod ExecutedLemmas
 -- Which disk a file stands for.
-mod OpenedLemmas
-mod MomentsLemmas
+pub mod OpenedLemmas
+pub mod MomentsLemmas
 mod OpeningLemmas
 mod SteadyLemmas
 -- Histories.
-mod HistoryLemmas
+pub mod HistoryLemmas
 -- A file that is written afresh.
-mod CompactionLemmas
+pub mod CompactionLemmas

@@ -1,7 +1,7 @@
 -- What a crash at any moment of a call leaves.
-use Rattle.std.proofs.Common.{inl, inr, ⊎_elim, ℕ, List, sym, subst, arith}
+use Rattle.std.proofs.Common.{inl, inr, ⊎_elim, ℕ, List, arith}
 use Rattle.std.specs.Prelude.{Result, Ok, Err, OnOk}
-use Rattle.sg_journal.specs.Device.{LeavesOnly, Only}
+use Rattle.sg_journal.specs.Device.{LeavesOnly}
 
 module _ {D : Type 0} (moment : D → ℕ) (left_since : D → ℕ → List ℕ → Type 0) where
   pub weaker : (old new : D) (P R : List ℕ → Type 0) → LeavesOnly moment left_since old new P
@@ -12,13 +12,14 @@ module _ {D : Type 0} (moment : D → ℕ) (left_since : D → ℕ → List ℕ 
     before = λ t c le left. ⊎_elim inl (λ had. inr (each c had)) (leaves.before t c le left);
   }
 
-  -- no call at all, on a file that is durable
-  pub no-call : (seen : List ℕ) (may_leave : List ℕ → Type 0) (file : D) (P : List ℕ → Type 0)
-      → Only seen may_leave → ((c : List ℕ) → left_since file (moment file) c → may_leave c) → P seen
+  -- no call at all, on a file of which each crash leaves what has P
+  pub no-call : (may_leave : List ℕ → Type 0) (file : D) (P : List ℕ → Type 0)
+      → ((c : List ℕ) → may_leave c → P c)
+      → ((c : List ℕ) → left_since file (moment file) c → may_leave c)
       → LeavesOnly moment left_since file file P
-  no-call seen may_leave file P only now holds = record {
+  no-call may_leave file P holds now = record {
     later = omega arith;
-    each = λ c left. subst P (sym (only c (now c left))) holds;
+    each = λ c left. holds c (now c left);
     before = λ t c le left. inl left;
   }
 

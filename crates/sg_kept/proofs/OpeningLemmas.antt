@@ -27,7 +27,7 @@ use Rattle.sg_kept.specs.Opened.{IsBeforeOr, begun, filed, replayed_all}
 use Rattle.sg_kept.specs.Opening.{HasStarted}
 use Rattle.sg_kept.specs.Recording.{longest_write}
 use Rattle.sg_kept.proofs.MomentsLemmas.{weaker}
-use Rattle.sg_kept.proofs.OpenedLemmas.{opened-is, opened-same, replayed-nil}
+use Rattle.sg_kept.proofs.OpenedLemmas.{opened-is, opened-same, replayed-nil, with-last}
 
 -- ---- The first record
 
@@ -118,7 +118,7 @@ kept-restored k same =
 
 -- a file that stands for what a new target has
 pub started : {S D : Type 0} (seen : D → List ℕ) (may_leave : D → List ℕ → Type 0) (disk : KeptDisk S D)
-    (bs : List (List ℕ)) (left : KeptFields) → HasBatches seen may_leave disk.journal bs
+    (bs : List (List ℕ)) (left : KeptFields) → HasBatches seen may_leave disk.journal bs []
     → filed bs ≡ Some left → after_power_on left.reservations ≡ left.reservations
     → disk_of disk.target ≡ restored left → IsWithinLimits disk.target.state
     → disk.batch.records ≡ [] → disk.batch.sector ≡ disk.journal.sector
@@ -131,10 +131,11 @@ started seen may_leave disk bs left stands files same is limits none sector scra
       usable = record {
         kept = record {
           batches = bs;
+          waiting = [];
           stands = stands;
           left = left;
           files = files;
-          waits = ap (λ l. replayed l left) none ∙ replayed-nil left
+          waits = with-last [] disk.batch.records left left none refl
               ∙ ap Some (sym (ap kept is ∙ kept-restored left same));
           sector = sector;
           limits = limits;
@@ -153,7 +154,7 @@ filed-one first left e = ap (option_and_then (replayed_all [])) e
 -- what a crash of the call that makes a file left
 unmade-or : (before first : List ℕ) (left : KeptFields) (disk : Armed) → found before ≡ Ok []
     → begun first ≡ Some left → disk ≡ restored left
-    → (file : List ℕ) → IsBeforeOrAfter [] first file → IsBeforeOr before disk file
+    → (file : List ℕ) → IsBeforeOrAfter [] (first ∷ []) file → IsBeforeOr before disk file
 unmade-or before first left disk f e is file here =
     ⊎_elim (λ was. inl (opened-same file before (was ∙ sym f)))
     (λ now. inr (opened-is file (first ∷ []) left now (filed-one first left e)
@@ -163,8 +164,9 @@ unmade-or before first left disk f e is file here =
 -- a crash at any moment of that call
 pub unmade-leaves : {D : Type 0} (moment : D → ℕ) (left_since : D → ℕ → List ℕ → Type 0) (old new : D)
     (before first : List ℕ) (left : KeptFields) → found before ≡ Ok [] → begun first ≡ Some left
-    → LeavesOnly moment left_since old new (IsBeforeOrAfter [] first)
+    → LeavesOnly moment left_since old new (IsBeforeOrAfter [] (first ∷ []))
     → LeavesOnly moment left_since old new (IsBeforeOr before (restored left))
 unmade-leaves moment left_since old new before first left f e leaves =
-    weaker moment left_since old new (IsBeforeOrAfter [] first) (IsBeforeOr before (restored left)) leaves
+    weaker moment left_since old new (IsBeforeOrAfter [] (first ∷ []))
+    (IsBeforeOr before (restored left)) leaves
     (unmade-or before first left (restored left) f e refl)

@@ -12,7 +12,7 @@ use Rattle.sg_changes.proofs.ReplayLemmas.{replayed_append, step_none}
 use Rattle.sg_journal.specs.Journal.{Found, IsHead, after, batches, found}
 use Rattle.sg_journal.specs.Reading.{IsPlace}
 use Rattle.sg_journal.specs.declared.journal.Tail.{Tail}
-use Rattle.sg_journal.specs.declared.journal.Tail.TheVariants.{Unmade, Torn, Closed}
+use Rattle.sg_journal.specs.declared.journal.Tail.TheVariants.{Unmade, Torn, Closed, Waiting}
 use Rattle.sg_kept.specs.declared.opening.OpenDiskError.{OpenDiskError}
 use Rattle.sg_kept.specs.declared.opening.OpenDiskError.TheVariants.{Memory, Device, File, Unmade as NotMade}
 use Rattle.sg_kept.specs.declared.opening.OpenDiskError.TheVariants.{Damaged, TooLong}
@@ -42,7 +42,8 @@ begins None taken left sector end bs place rest size =
 begins (Some Torn) taken left sector end bs place rest size =
     from-head taken place.head place.behind rest sector bs place.is place.whole
 begins (Some Closed) taken left sector end bs place rest size =
-    let c = place.closed in from-head taken c.head c.gate rest sector bs c.is c.whole
+    from-head taken place.head (place.gate ++ place.rest) rest sector bs place.is place.whole
+begins (Some (Waiting written)) taken left sector end bs place rest size = absurd place
 begins (Some Unmade) taken left sector end bs place rest size = (
   found (taken ++ rest),
   subst (λ (l : List (List ℕ)). found (taken ++ rest) ≡ after l (found (taken ++ rest)))

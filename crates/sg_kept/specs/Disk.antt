@@ -1,7 +1,6 @@
 -- What a disk in memory and its file have in common.
-use Rattle.std.specs.Prelude.{◌≡◌, ◌^◌, ℕ, List, length, true, false, None, Some}
+use Rattle.std.specs.Prelude.{◌≡◌, ◌^◌, ℕ, List, [], ◌∷◌, ◌++◌, length, true, false, None, Some}
 use Rattle.sg_changes.specs.KeptFields.{KeptFields}
-use Rattle.sg_changes.specs.Replay.{replayed}
 use Rattle.sg_journal.specs.BatchValue.{BatchValue}
 use Rattle.sg_journal.specs.JournalState.{HasBatches}
 use Rattle.sg_journal.specs.declared.journal.Journal.{Journal}
@@ -18,18 +17,19 @@ use Rattle.sg_target.specs.declared.refusal.Refusal.TheVariants.{CheckCondition}
 use Rattle.sg_target.specs.declared.reply.Reply.{Reply}
 use Rattle.sg_kept.specs.declared.disk.KeptDisk.{KeptDisk}
 use Rattle.sg_kept.specs.Kept.{kept}
-use Rattle.sg_kept.specs.Opened.{filed}
+use Rattle.sg_kept.specs.Opened.{filed, replayed_all}
 use Rattle.sg_kept.specs.Recording.{HasRoom, longest_write}
 
--- The file is durable and stands for batches. The records that wait in the batch lead from what those
--- batches leave to what is kept of the disk in memory.
+-- The file stands for batches, whatever a crash makes of it. The batches that wait in the file, and the
+-- records of the batch in memory, lead from what those batches leave to what is kept of the disk in memory.
 pub record IsKept {D : Type 0} (seen : D → List ℕ) (may_leave : D → List ℕ → Type 0)
     (journal : Journal D) (batch : BatchValue) (disk : Armed) : Type 0 where
   pub batches : List (List ℕ)
-  pub stands : HasBatches seen may_leave journal batches
+  pub waiting : List (List ℕ)
+  pub stands : HasBatches seen may_leave journal batches waiting
   pub left : KeptFields
   pub files : filed batches ≡ Some left
-  pub waits : replayed batch.records left ≡ Some (kept disk)
+  pub waits : replayed_all (waiting ++ batch.records ∷ []) left ≡ Some (kept disk)
   pub sector : batch.sector ≡ journal.sector
   pub limits : IsWithinLimits disk.state
 

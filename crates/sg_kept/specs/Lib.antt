@@ -12,5 +12,9 @@ pub mod Refused
 pub mod Opening
 -- What a crash leaves of a list of events.
 pub mod History
+-- Commands that share one flush.
+pub mod GroupCommit
 -- A file that is written afresh.
 pub mod Compaction
+-- What a disk is asked to have.
+pub mod Asked

@@ -1,5 +1,6 @@
 -- What opening a file finds, and what a crash leaves of it.
-use Rattle.std.specs.Prelude.{◌≡◌, ◌⊎◌, ℕ, List, [], ◌∷◌, Option, Some, None, option_and_then, Ok, Err}
+use Rattle.std.specs.Prelude.{◌≡◌, ◌⊎◌, ℕ, List, [], ◌∷◌, length, Option, Some, None}
+use Rattle.std.specs.Prelude.{option_and_then, Ok, Err}
 use Rattle.std.specs.Option.{option_map}
 use Rattle.sg_changes.specs.FirstRecord.{first_record, new_disk_kept}
 use Rattle.sg_changes.specs.KeptFields.{KeptFields}
@@ -31,6 +32,14 @@ opened_of (Err fault) = None
 -- The disk that opening a file finds, after power on. None if the file is no disk, or damaged.
 unfoldable pub opened : (file : List ℕ) → Option Armed
 opened file = opened_of (found file)
+
+abbrev pub count_of : Found → Option ℕ
+count_of (Ok batches) = Some (length batches)
+count_of (Err fault) = None
+
+-- The number of batches that a file has. None if it is no journal, or damaged.
+unfoldable pub batch_count : (file : List ℕ) → Option ℕ
+batch_count file = count_of (found file)
 
 -- A crash left what the file stood for, or this disk after a power cycle.
 abbrev pub IsBeforeOr : (before : List ℕ) → (disk : Armed) → (file : List ℕ) → Type 0

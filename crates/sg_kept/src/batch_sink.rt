@@ -47,6 +47,13 @@ impl BatchSink {
         self.batch.room() >= LONGEST_CHANGES
     }
 
+    /// Drops all records.
+    pub(crate) fn clear(&mut self)
+        ensures { self.new ≡ record self.old { records = [] } }
+    {
+        self.batch.clear();
+    }
+
     /// Adds the record of a change.
     pub fn add(&mut self, change: &Change<'_>)
         requires room { length self.old.records + room_for (change_of change.now) ≤ MAX_BATCH }

@@ -1,12 +1,11 @@
 // What happens to a disk in a file between two commands, and what a script runner asks of it.
 ghost use Rattle.std.specs.Prelude.{◌≡◌, ◌⊎◌, ◌<◌, ◌≤◌, [], ◌∷◌, true, OnOk, IsErr, Some};
-ghost use Rattle.std.specs.FinMap.{len};
 ghost use Rattle.sg_journal.specs.Device.{LeavesOnly};
 ghost use Rattle.sg_target.specs.Runs.{armed_after_happening};
 ghost use Rattle.sg_target.specs.State.{profile_of};
 ghost use Rattle.sg_target.specs.Target.{disk_of};
 ghost use Rattle.sg_target.specs.declared.event.Event.TheVariants.{Happen};
-ghost use Rattle.sg_kept.specs.Compaction.{longest_uncompacted};
+ghost use Rattle.sg_kept.specs.Compaction.{IsKeptShort};
 ghost use Rattle.sg_kept.specs.Disk.{IsAlive, IsDead, IsUsable, longest_file};
 ghost use Rattle.sg_kept.specs.History.{AddsEvents, HasHistory};
 ghost use Rattle.sg_kept.specs.Kept.{powered, without_port};
@@ -33,15 +32,15 @@ impl<S: Store, D: Device> KeptDisk<S, D> {
         ensures any_moment { LeavesOnly D.moment D.left_since self.old.journal.device
             self.new.journal.device (IsBeforeOr (D.seen self.old.journal.device)
             (armed_after_happening (disk_of self.old.target) happening)) }
-        ensures short { OnOk result (self.new.journal.end
-            ≤ longest_uncompacted (len self.new.target.state.disk.contents)) }
+        ensures short { OnOk result (IsKeptShort self.new) }
         ensures later { D.failures self.old.journal.device ≤ D.failures self.new.journal.device }
         ensures cause { IsErr result
             → (D.failures self.old.journal.device < D.failures self.new.journal.device)
-            ⊎ (longest_file < self.old.journal.end) }
+            ⊎ (longest_file < self.old.journal.length) }
         ensures is_dead { self.new.is_dead ≡ self.old.is_dead }
+        ensures compacts { self.new.compacts ≡ self.old.compacts }
     {
-        if self.journal.end > LONGEST_FILE {
+        if self.journal.length > LONGEST_FILE {
             return Err(DeviceError);
         }
         happen_and_record(&mut self.target, &mut self.batch, &happening);
@@ -61,9 +60,9 @@ impl<S: Store, D: Device> KeptDisk<S, D> {
         // Opening the file finds the disk with this happening.
         ensures written { OnOk result (opened (D.seen self.new.journal.device)
             ≡ Some (powered (disk_of self.new.target))) }
-        // The file is at most twice as long as the longest snapshot of such a disk, and 16 MiB.
-        ensures short { IsAlive self.new → self.new.journal.end
-            ≤ longest_uncompacted (len self.new.target.state.disk.contents) }
+        // The file is short, or it is left to the disk's owner to write it afresh.
+        ensures short { IsAlive self.new → IsKeptShort self.new }
+        ensures compacts { self.new.compacts ≡ self.old.compacts }
 
         // A crash at any moment leaves what the file had, or the disk with this happening, after power on.
         ensures any_moment { IsAlive self.old → LeavesOnly D.moment D.left_since
@@ -76,9 +75,10 @@ impl<S: Store, D: Device> KeptDisk<S, D> {
 
         // It fails only if the device does, or if the file is too long. Then it stays dead.
         ensures failed { IsErr result → IsDead self.new }
+        ensures later { D.failures self.old.journal.device ≤ D.failures self.new.journal.device }
         ensures cause { IsAlive self.old → IsErr result
             → (D.failures self.old.journal.device < D.failures self.new.journal.device)
-            ⊎ (longest_file < self.old.journal.end) }
+            ⊎ (longest_file < self.old.journal.length) }
         ensures stays_dead { IsDead self.old → self.new ≡ self.old }
     {
         if self.is_dead {
@@ -107,9 +107,9 @@ impl<S: Store, D: Device> KeptDisk<S, D> {
         // Opening the file finds the disk, after power on.
         ensures written { OnOk result (opened (D.seen self.new.journal.device)
             ≡ Some (powered (disk_of self.new.target))) }
-        // The file is at most twice as long as the longest snapshot of such a disk, and 16 MiB.
-        ensures short { IsAlive self.new → self.new.journal.end
-            ≤ longest_uncompacted (len self.new.target.state.disk.contents) }
+        // The file is short, or it is left to the disk's owner to write it afresh.
+        ensures short { IsAlive self.new → IsKeptShort self.new }
+        ensures compacts { self.new.compacts ≡ self.old.compacts }
 
         // A crash at any moment leaves what the file had, or the disk after power on. Power on clears
         // these unit attentions, too.
@@ -123,9 +123,10 @@ impl<S: Store, D: Device> KeptDisk<S, D> {
         // forgotten nothing.
         ensures failed { IsErr result → IsDead self.new }
         ensures remembered { IsErr result → disk_of self.new.target ≡ disk_of self.old.target }
+        ensures later { D.failures self.old.journal.device ≤ D.failures self.new.journal.device }
         ensures cause { IsAlive self.old → IsErr result
             → (D.failures self.old.journal.device < D.failures self.new.journal.device)
-            ⊎ (longest_file < self.old.journal.end) }
+            ⊎ (longest_file < self.old.journal.length) }
         ensures stays_dead { IsDead self.old → self.new ≡ self.old }
     {
         self.flush()?;

@@ -2,6 +2,7 @@
 //! happenings change that.
 #![tactic(auto)]
 
+pub mod asked;
 mod batch_sink;
 mod compaction;
 mod disk;
@@ -13,7 +14,9 @@ mod owing;
 mod recording;
 mod room;
 mod serving;
+mod steps;
 
 pub use batch_sink::BatchSink;
 pub use disk::KeptDisk;
+pub use group_commit::Unflushed;
 pub use opening::{MakeError, OpenDiskError};

@@ -16,7 +16,7 @@ ghost use Rattle.sg_target.specs.State.{IsWithinLimits};
 ghost use Rattle.sg_target.specs.Target.{disk_of};
 ghost use Rattle.sg_kept.specs.Disk.{longest_file};
 ghost use Rattle.sg_kept.specs.Kept.{restored};
-ghost use Rattle.sg_kept.specs.Opened.{IsBeforeOr, begun, opened};
+ghost use Rattle.sg_kept.specs.Opened.{IsBeforeOr, batch_count, begun, opened};
 ghost use Rattle.sg_kept.specs.Opening.{HasRead, HasStarted, IsSteady, new_disk_of};
 ghost use Rattle.sg_kept.specs.Recording.{longest_write};
 ghost use Rattle.sg_kept.specs.Refused.{IsNoDisk, IsOfBytes, IsTrueOf, IsTrueOfFirst};
@@ -138,14 +138,14 @@ fn write_first<D: Device>(
     journal: &mut Journal<D>,
     batch: &mut BatchSink,
 ) -> Result<(), DeviceError>
-    requires batches { HasBatches D.seen D.may_leave journal.old [] }
-    requires end { journal.old.end ≤ longest_file }
+    requires batches { HasBatches D.seen D.may_leave journal.old [] [] }
+    requires length { journal.old.length ≤ longest_file }
     requires sector { batch.old.sector ≡ journal.old.sector }
     requires some { 0 < length batch.old.records }
     ensures batches { OnOk result (HasBatches D.seen D.may_leave journal.new
-        (batch.old.records ∷ [])) }
+        (batch.old.records ∷ []) []) }
     ensures any_moment { LeavesOnly D.moment D.left_since journal.old.device journal.new.device
-        (IsBeforeOrAfter [] batch.old.records) }
+        (IsBeforeOrAfter [] (batch.old.records ∷ [])) }
     ensures cause { HasCause (D.failures journal.old.device) (D.failures journal.new.device) result }
     ensures sector { batch.new.sector ≡ journal.new.sector }
     ensures empty { OnOk result (batch.new.records ≡ []) }
@@ -161,14 +161,16 @@ fn begin_file<S: Store, D: Device + Drop>(
     journal: Journal<D>,
     disk: &NewDisk,
 ) -> Result<KeptDisk<S, D>, (MakeError, Journal<D>)>
-    requires batches { HasBatches D.seen D.may_leave journal [] }
-    requires end { journal.end ≤ longest_file }
+    requires batches { HasBatches D.seen D.may_leave journal [] [] }
+    requires length { journal.length ≤ longest_file }
     requires parts { made.parts ≡ new_disk_kept disk.now }
     requires sector { made.batch.sector ≡ journal.sector }
     requires empty { made.batch.records ≡ [] }
     requires scratch { length made.scratch.items ≡ longest_write }
     ensures started { IfOk result (HasStarted D.seen D.may_leave) }
+    ensures compacts { IfOk result (λ disk. disk.compacts ≡ true) }
     ensures disk { IfOk result (λ made. disk_of made.target ≡ restored (new_disk_kept disk.now)) }
+    ensures batches { IfOk result (λ made. made.found_batches ≡ 0) }
     ensures any_moment { IfOk result (λ made. LeavesOnly D.moment D.left_since
         journal.device made.journal.device
         (IsBeforeOr (D.seen journal.device) (restored (new_disk_kept disk.now)))) }
@@ -194,7 +196,9 @@ fn begin_file<S: Store, D: Device + Drop>(
             journal,
             batch,
             is_dead: false,
+            compacts: true,
             scratch,
+            found_batches: 0,
         }),
         Err(DeviceError) => Err((MakeError::Device, journal)),
     }
@@ -236,18 +240,19 @@ fn begin<S: Store>(alloc: Global, first: &[u8]) -> Result<KeptParts<S>, OpenDisk
     }
 }
 
-/// Replays the other batches of a file, one after another. One was read already.
+/// Replays the other batches of a file, one after another. One was read already. Returns how many the
+/// file has.
 fn replay_rest<F: Source + Drop, S: Store>(
     reader: &mut Reader<F>,
     batch: &mut Batch,
     parts: &mut KeptParts<S>,
-) -> Result<(), OpenDiskError>
+) -> Result<u64, OpenDiskError>
     requires read { HasRead F.taken F.left reader.old 1 parts.old }
     requires room { 1 + F.left reader.old.source < 2 ^ 64 }
     requires steady { IsSteady parts.old }
     requires sector { batch.old.sector ≡ reader.old.sector }
     ensures ended { OnOk result (HasEnded reader.new) }
-    ensures read { OnOk result ((number : ℕ) × HasRead F.taken F.left reader.new number parts.new) }
+    ensures read { IfOk result (λ number. HasRead F.taken F.left reader.new number parts.new) }
     ensures steady { OnOk result (IsSteady parts.new) }
     ensures says { IfErr result (λ e. IsTrueOf e (F.taken reader.new.source) (F.left reader.new.source)) }
     ensures known { F.known reader.new.source ≡ F.known reader.old.source }
@@ -261,7 +266,7 @@ fn replay_rest<F: Source + Drop, S: Store>(
     loop {
         match reader.next(batch) {
             Ok(true) => {}
-            Ok(false) => return Ok(()),
+            Ok(false) => return Ok(number),
             Err(error) => return Err(error_of_file(error)),
         }
         if let Err(damaged) = parts.replay(batch.records()) {
@@ -274,17 +279,17 @@ fn replay_rest<F: Source + Drop, S: Store>(
     }
 }
 
-/// Reads all batches of a file, and replays them.
+/// Reads all batches of a file, and replays them. Returns how many there are, too.
 fn read_parts<F: Source + Drop, S: Store>(
     alloc: Global,
     reader: &mut Reader<F>,
     batch: &mut Batch,
-) -> Result<KeptParts<S>, OpenDiskError>
+) -> Result<(KeptParts<S>, u64), OpenDiskError>
     requires found { HasFound F.taken F.left reader.old [] }
     requires sector { batch.old.sector ≡ reader.old.sector }
     ensures ended { OnOk result (HasEnded reader.new) }
-    ensures read { IfOk result (λ parts. (number : ℕ) × HasRead F.taken F.left reader.new number parts) }
-    ensures steady { IfOk result IsSteady }
+    ensures read { IfOk result (λ r. HasRead F.taken F.left reader.new r.1 r.0) }
+    ensures steady { IfOk result (λ r. IsSteady r.0) }
     ensures says { IfErr result (λ e. IsTrueOf e (F.taken reader.new.source) (F.left reader.new.source)) }
     ensures known { F.known reader.new.source ≡ F.known reader.old.source }
     ensures later { F.failures reader.old.source ≤ F.failures reader.new.source }
@@ -298,36 +303,37 @@ fn read_parts<F: Source + Drop, S: Store>(
         Err(error) => return Err(error_of_file(error)),
     }
     let mut parts = begin(alloc, batch.records())?;
-    replay_rest(reader, batch, &mut parts)?;
-    Ok(parts)
+    let batches = replay_rest(reader, batch, &mut parts)?;
+    Ok((parts, batches))
 }
 
-/// Takes the memory of a disk, and reads its file to the end of the batches.
+/// Takes the memory of a disk, and reads its file to the end of the batches. Returns how many there are,
+/// too.
 fn read_disk<F: Source + Drop, S: Store>(
     alloc: Global,
     reader: &mut Reader<F>,
-) -> Result<Made<S>, OpenDiskError>
+) -> Result<(Made<S>, u64), OpenDiskError>
     requires found { HasFound F.taken F.left reader.old [] }
     ensures ended { OnOk result (HasEnded reader.new) }
-    ensures read { IfOk result (λ disk. (number : ℕ)
-        × HasRead F.taken F.left reader.new number disk.parts) }
-    ensures steady { IfOk result (λ disk. IsSteady disk.parts) }
+    ensures read { IfOk result (λ r. HasRead F.taken F.left reader.new r.1 r.0.parts) }
+    ensures steady { IfOk result (λ r. IsSteady r.0.parts) }
     ensures says { IfErr result (λ e. IsTrueOf e (F.taken reader.new.source) (F.left reader.new.source)) }
     ensures known { F.known reader.new.source ≡ F.known reader.old.source }
     ensures later { F.failures reader.old.source ≤ F.failures reader.new.source }
     ensures cause { IsErrOf result DeviceFailed →
         F.failures reader.old.source < F.failures reader.new.source }
-    ensures sector { IfOk result (λ disk. disk.batch.sector ≡ reader.new.sector) }
-    ensures scratch { IfOk result (λ disk. length disk.scratch.items ≡ longest_write) }
+    ensures sector { IfOk result (λ r. r.0.batch.sector ≡ reader.new.sector) }
+    ensures scratch { IfOk result (λ r. length r.0.scratch.items ≡ longest_write) }
 {
     let mut batch = Batch::new(alloc, reader.sector)?;
     let scratch = vec![in alloc; 0; BUFFER_LENGTH]?;
-    let parts = read_parts(alloc, reader, &mut batch)?;
-    Ok(Made {
+    let (parts, batches) = read_parts(alloc, reader, &mut batch)?;
+    let made = Made {
         parts,
         batch,
         scratch,
-    })
+    };
+    Ok((made, batches))
 }
 
 impl<S: Store, D: Device + Drop> KeptDisk<S, D> {
@@ -340,10 +346,13 @@ impl<S: Store, D: Device + Drop> KeptDisk<S, D> {
         journal: Journal<D>,
         disk: &NewDisk,
     ) -> Result<KeptDisk<S, D>, (MakeError, Journal<D>)>
-        requires batches { HasBatches D.seen D.may_leave journal [] }
-        requires end { journal.end ≤ longest_file }
+        requires batches { HasBatches D.seen D.may_leave journal [] [] }
+        requires length { journal.length ≤ longest_file }
         ensures started { IfOk result (HasStarted D.seen D.may_leave) }
+        // It writes the file afresh if that gets long.
+        ensures compacts { IfOk result (λ disk. disk.compacts ≡ true) }
         ensures disk { IfOk result (λ made. disk_of made.target ≡ restored (new_disk_kept disk.now)) }
+        ensures batches { IfOk result (λ made. made.found_batches ≡ 0) }
 
         // A crash at any moment leaves a file without a disk, as it was, or the new disk.
         ensures any_moment { IfOk result (λ made. LeavesOnly D.moment D.left_since
@@ -375,12 +384,16 @@ impl<S: Store, D: Device + Drop> KeptDisk<S, D> {
     ) -> Result<KeptDisk<S, D>, (OpenDiskError, F)>
         requires fresh { F.taken source ≡ [] }
         ensures started { IfOk result (HasStarted D.seen D.may_leave) }
+        // It writes the file afresh if that gets long.
+        ensures compacts { IfOk result (λ disk. disk.compacts ≡ true) }
         ensures opened { IfOk result (λ disk. opened (D.opening disk.journal.device)
             ≡ Some (disk_of disk.target)) }
         // The file was read to its end.
         ensures read { IfOk result (λ disk.
             WasRead F.known F.taken F.left source (D.opening disk.journal.device)) }
         ensures short { IfOk result (λ _. F.left source ≤ longest_file) }
+        ensures batches { IfOk result (λ disk.
+            batch_count (D.opening disk.journal.device) ≡ Some disk.found_batches) }
 
         // An error says what is true of the file, whatever is still to be read of it.
         ensures says { IfErr result (λ e. IsTrueOf e.0 (F.taken e.1) (F.left e.1)) }
@@ -396,14 +409,15 @@ impl<S: Store, D: Device + Drop> KeptDisk<S, D> {
             Ok(reader) => reader,
             Err((error, source)) => return Err((error_of_file(error), source)),
         };
+        let (made, found_batches) = match read_disk(alloc, &mut reader) {
+            Ok(disk) => disk,
+            Err(error) => return Err((error, reader.source)),
+        };
         let Made {
             parts,
             mut batch,
             scratch,
-        } = match read_disk(alloc, &mut reader) {
-            Ok(disk) => disk,
-            Err(error) => return Err((error, reader.source)),
-        };
+        } = made;
         let journal = match reader.into_journal() {
             Ok(journal) => journal,
             Err((DeviceError, source)) => return Err((OpenDiskError::Device, source)),
@@ -414,7 +428,9 @@ impl<S: Store, D: Device + Drop> KeptDisk<S, D> {
             journal,
             batch: BatchSink { batch },
             is_dead: false,
+            compacts: true,
             scratch,
+            found_batches,
         })
     }
 }

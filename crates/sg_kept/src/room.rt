@@ -1,7 +1,6 @@
 // Commands with a buffer of any length.
 ghost use Rattle.std.specs.Prelude.{◌≡◌, ◌⊎◌, ◌≤◌, ◌<◌, [], ◌∷◌, length, true, is_some, nat_le};
 ghost use Rattle.std.specs.Prelude.{IfNone, IfSome, Some};
-ghost use Rattle.std.specs.FinMap.{len};
 ghost use Rattle.sg_journal.specs.Device.{LeavesOnly};
 ghost use Rattle.sg_target.specs.Armed.{armed_step};
 ghost use Rattle.sg_target.specs.DataInBound.{longest_data_in, needed_buffer};
@@ -10,7 +9,7 @@ ghost use Rattle.sg_target.specs.Execution.{IsExecuted};
 ghost use Rattle.sg_target.specs.Target.{disk_of};
 ghost use Rattle.sg_target.specs.declared.call.Call.{Call};
 ghost use Rattle.sg_target.specs.declared.event.Event.TheVariants.{Call as Command};
-ghost use Rattle.sg_kept.specs.Compaction.{longest_uncompacted};
+ghost use Rattle.sg_kept.specs.Compaction.{IsKeptShort};
 ghost use Rattle.sg_kept.specs.Disk.{IsAlive, IsDead, IsUsable, failure_reply, longest_file};
 ghost use Rattle.sg_kept.specs.History.{AddsEvents, IsSent};
 ghost use Rattle.sg_kept.specs.Kept.{powered};
@@ -62,9 +61,9 @@ impl<S: Store, D: Device> KeptDisk<S, D> {
             → owes_flush (disk_of self.new.target) cdb.now
             (executed_operation (disk_of self.old.target) initiator cdb.now data_out.now) ≡ true
             → opened (D.seen self.new.journal.device) ≡ Some (powered (disk_of self.new.target))) }
-        // The file is at most twice as long as the longest snapshot of such a disk, and 16 MiB.
-        ensures short { IfSome result (λ _. IsAlive self.new → self.new.journal.end
-            ≤ longest_uncompacted (len self.new.target.state.disk.contents)) }
+        // The file is short, or it is left to the disk's owner to write it afresh.
+        ensures short { IfSome result (λ _. IsAlive self.new → IsKeptShort self.new) }
+        ensures compacts { self.new.compacts ≡ self.old.compacts }
 
         // A crash at any moment leaves what the file had, or the disk with this command, after power on.
         ensures any_moment { IfSome result (λ _. IsAlive self.old → LeavesOnly D.moment D.left_since
@@ -81,9 +80,10 @@ impl<S: Store, D: Device> KeptDisk<S, D> {
         // It fails only if the device does, or if the file is too long. Then it stays dead.
         ensures failed { IfSome result (λ reply. IsDead self.new
             → reply ≡ failure_reply self.new.target.state) }
+        ensures later { D.failures self.old.journal.device ≤ D.failures self.new.journal.device }
         ensures cause { IfSome result (λ _. IsAlive self.old → IsDead self.new
             → (D.failures self.old.journal.device < D.failures self.new.journal.device)
-            ⊎ (longest_file < self.old.journal.end)) }
+            ⊎ (longest_file < self.old.journal.length)) }
         ensures stays_dead { IsDead self.old → self.new ≡ self.old }
     {
         if buf.len() < self.target.needed_buffer(initiator, cdb, data_out) {

@@ -10,10 +10,11 @@ use thiserror::Error;
 #[error("the buffer is too short")]
 pub struct TooShort;
 
-// The calls of a flush, and some more.
+// The calls of a flush and of the beginning of a draft, and some more.
 const CALLS: usize = 16;
 
-// The bytes of the longest flush: 4 MiB of records, their fields, and five of the longest sectors.
+// The bytes of the longest flush, and the first sector of a draft: 4 MiB of records, their fields, and five
+// of the longest sectors. The calls of one batch of a draft have fewer.
 const BYTES: usize = (1 << 22) + 16 + 5 * 65536;
 
 /// Calls that succeed as far as anybody knows, because nobody has made them yet.
@@ -115,7 +116,7 @@ fn forget(bytes: &mut Vec<u8>, start: usize) -> usize
         return start;
     }
     bytes.clear();
-    // A draft may have taken more memory than a flush needs.
+    // Calls of more than one flush may have waited.
     bytes.shrink_to(BYTES);
     0
 }

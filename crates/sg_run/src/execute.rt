@@ -19,6 +19,7 @@ ghost use Rattle.sg_run.specs.RequestLines.{happening_line_request, line_request
 
 use crate::buffers::{Buffers, DATA_OUT_LENGTH, REPLY_LENGTH};
 use crate::request::{FilledBlocks, HappeningLine, LineFault, Request, ToolLine, read_request};
+use crate::script_disk::ScriptDisk;
 use crate::text::answer::put_answer;
 use crate::text::faults::put_faults;
 use crate::text::{put_line_header, put_reply};
@@ -30,13 +31,16 @@ use std::alloc::Global;
 use std::io;
 use std::io::Write;
 
+/// The exit status of a happening that the file of the disk may not have.
+const FILE_FAULT: u8 = 15;
+
 /// Executes a line of a script, writes its text and returns its exit status. The line is `None` if
 /// it is too long. The command is executed before its text is written.
 ///
 /// # Errors
 /// The writer failed. The line was still executed.
 #[tactic(auto, unfolding(crate::specs::Outcome::outcome))]
-pub(crate) fn execute_line<W: Write, T: DeviceServer>(
+pub(crate) fn execute_line<W: Write, T: ScriptDisk>(
     alloc: Global,
     number: u64,
     line: Option<&[u8]>,
@@ -71,7 +75,7 @@ struct LineContext {
 }
 
 /// Executes the request of a line, and prints its text.
-fn execute_request<W: Write, T: DeviceServer>(
+fn execute_request<W: Write, T: ScriptDisk>(
     context: LineContext,
     request: &Request,
     data_out: &mut [u8],
@@ -134,7 +138,7 @@ fn put_shown<W: Write>(
 /// Reads what a line lets happen to the disk, does it, and returns the exit status.
 // Not inlined: the stack frame of every line would have room for the happening.
 #[inline(never)]
-fn run_happening<W: Write, T: DeviceServer>(
+fn run_happening<W: Write, T: ScriptDisk>(
     number: u64,
     line: &HappeningLine,
     target: &mut T,
@@ -154,8 +158,9 @@ fn run_happening<W: Write, T: DeviceServer>(
     }
 }
 
-/// Lets something happen to the disk, and returns the exit status.
-fn happen<W: Write, T: DeviceServer>(
+/// Lets something happen to the disk, prints its name, and returns the exit status. If what keeps the disk
+/// has failed, it prints that: the happening may be lost.
+fn happen<W: Write, T: ScriptDisk>(
     number: u64,
     happening: &Happening,
     target: &mut T,
@@ -168,6 +173,10 @@ fn happen<W: Write, T: DeviceServer>(
     ensures serves { Serves T.is_ready T.works target.old target.new }
 {
     target.happen(*happening);
+    if target.has_failed() {
+        put_line_header(number, b"file fault", out);
+        return FILE_FAULT;
+    }
     put_line_header(number, happening_name(happening), out);
     0
 }

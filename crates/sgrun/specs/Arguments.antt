@@ -13,6 +13,8 @@ use Rattle.sg_wire.specs.Profile.{is_in}
 use Rattle.sg_pages.specs.Identity.{IdentityFields}
 use Rattle.sg_pages.specs.NewIdentity.{identity_of_seed}
 use Rattle.sg_pages.specs.declared.identity.IdentityFault.{IdentityFault}
+use Rattle.sg_kept.specs.Asked.{asked_profile, of_profile}
+use Rattle.sg_kept.specs.declared.asked.AskedProfile.{AskedProfile}
 use Rattle.sg_target.specs.Config.{ConfigFields, checked_config}
 use Rattle.sg_target.specs.declared.config.ConfigFault.{ConfigFault}
 use Rattle.sg_tools.specs.GivenOptions.{given_options, text_of}
@@ -21,7 +23,6 @@ use Rattle.sg_tools.specs.declared.tool_fault.ToolFault.{ToolFault}
 use Rattle.sg_tools.specs.Options.{OptionRow}
 use Rattle.sgrun.specs.Options.{command_line, run_options}
 use Rattle.sgrun.specs.declared.disk_options.DiskOptions.{DiskOptions}
-use Rattle.sgrun.specs.declared.named_profile.NamedProfile.{NamedProfile}
 use Rattle.sgrun.specs.Stops.{stop_of_config, stop_of_identity, stop_of_options}
 use Rattle.sgrun.specs.declared.stop.Stop.{Stop}
 use Rattle.sgrun.specs.declared.stop.Stop.TheVariants.{Usage, Number, OutOfMemory}
@@ -43,18 +44,12 @@ default_seed = 1
 -- than a command needs.
 pub record ProfileRow : Type 0 where
   pub name : List ℕ
-  pub named : NamedProfile
-
-abbrev pub named_profile : Profile → (takes_short_data_out : Bool) → NamedProfile
-named_profile profile takes_short_data_out = record {
-  profile = profile;
-  takes_short_data_out = takes_short_data_out;
-}
+  pub asked : AskedProfile
 
 abbrev pub profile_row : List ℕ → Profile → (takes_short_data_out : Bool) → ProfileRow
 profile_row name profile takes_short_data_out = record {
   name = name;
-  named = named_profile profile takes_short_data_out;
+  asked = asked_profile profile takes_short_data_out;
 }
 
 -- One row for each name.
@@ -66,25 +61,22 @@ profiles =
     ∷ []
 
 -- What a name says of a disk. Without a name it is a disk of the base profile.
-abbrev pub profile_named : Option Text → Option NamedProfile
-profile_named None = Some (named_profile Base false)
+abbrev pub profile_named : Option Text → Option AskedProfile
+profile_named None = Some (asked_profile Base false)
 profile_named (Some name) =
-    option_map (λ row. row.named) (find (λ row. bytes_eq name row.name) profiles)
+    option_map (λ row. row.asked) (find (λ row. bytes_eq name row.name) profiles)
 
 -- Only a disk of the extended profile takes a seed.
-abbrev pub takes_seed : Option NamedProfile → Bool
+abbrev pub takes_seed : Option AskedProfile → Bool
 takes_seed None = false
-takes_seed (Some named) = is_in Extended named.profile
+takes_seed (Some asked) = is_in Extended asked.profile
 
 -- A disk with the names of a seed, and with what a name of `--profile` says of it.
-abbrev pub disk_with : (blocks pool : ℕ) → NamedProfile → IdentityFields → ConfigFields
-disk_with blocks pool named names = record {
+abbrev pub disk_with : (blocks pool : ℕ) → AskedProfile → IdentityFields → ConfigFields
+disk_with blocks pool asked names = record {
   blocks = blocks;
   pool = pool;
-  identity = record names {
-    profile = named.profile;
-    takes_short_data_out = named.takes_short_data_out;
-  };
+  identity = of_profile asked names;
 }
 
 abbrev pub by_config : Result ConfigFields ConfigFault → Result ConfigFields Stop
@@ -92,11 +84,11 @@ by_config (Ok disk) = Ok disk
 by_config (Err fault) = Err (stop_of_config fault)
 
 -- Its numbers have to be in range.
-abbrev pub checked_disk : (blocks pool : ℕ) → NamedProfile → Result IdentityFields IdentityFault
+abbrev pub checked_disk : (blocks pool : ℕ) → AskedProfile → Result IdentityFields IdentityFault
     → Result ConfigFields Stop
-checked_disk blocks pool named (Err fault) = Err (stop_of_identity fault)
-checked_disk blocks pool named (Ok names) =
-    by_config (checked_config (disk_with blocks pool named names))
+checked_disk blocks pool asked (Err fault) = Err (stop_of_identity fault)
+checked_disk blocks pool asked (Ok names) =
+    by_config (checked_config (disk_with blocks pool asked names))
 
 -- The number of an option's text, which may be missing. None if the text is no number.
 abbrev pub number_of_option : Option Text → Option (Option ℕ)
@@ -108,22 +100,22 @@ abbrev pub with_number : Option (Option ℕ) → (Option ℕ → Result DiskOpti
 with_number None disk = Err Number
 with_number (Some number) disk = disk number
 
-abbrev pub with_profile : Option NamedProfile → (NamedProfile → Result DiskOptions Stop)
+abbrev pub with_profile : Option AskedProfile → (AskedProfile → Result DiskOptions Stop)
     → Result DiskOptions Stop
 with_profile None disk = Err BadProfile
-with_profile (Some named) disk = disk named
+with_profile (Some asked) disk = disk asked
 
 -- The numbers are read before the profile.
-abbrev pub disk_by : Option NamedProfile → List Row → Result DiskOptions Stop
+abbrev pub disk_by : Option AskedProfile → List Row → Result DiskOptions Stop
 disk_by profile rows =
     with_number (number_of_option (text_of (codes "blocks") rows)) (λ blocks.
     with_number (number_of_option (text_of (codes "pool") rows)) (λ pool.
     with_number (number_of_option (text_of (codes "seed") rows)) (λ seed.
-    with_profile profile (λ named.
+    with_profile profile (λ asked.
     Ok (record {
       blocks = blocks;
       pool = pool;
-      profile = option_map (λ name. named) (text_of (codes "profile") rows);
+      profile = option_map (λ name. asked) (text_of (codes "profile") rows);
       seed = seed;
     })))))
 
@@ -138,7 +130,7 @@ disk_options rows =
 abbrev pub config_of : DiskOptions → Result ConfigFields Stop
 config_of options =
     checked_disk (unwrap_or options.blocks default_blocks) (unwrap_or options.pool default_pool)
-    (unwrap_or options.profile (named_profile Base false))
+    (unwrap_or options.profile (asked_profile Base false))
     (identity_of_seed (unwrap_or options.seed default_seed))
 
 -- ---- Every option

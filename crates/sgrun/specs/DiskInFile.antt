@@ -1,10 +1,8 @@
 -- A disk that a file keeps, what the options say of it, and a script on it.
-use Rattle.std.specs.Prelude.{◌≡◌, ◌⊎◌, ◌<◌, ℕ, ◌==◌, ◌&&◌, Bool, true, false, not, Option, None, Some}
-use Rattle.std.specs.Prelude.{List, Result, Ok, Err, if◌then◌else◌}
+use Rattle.std.specs.Prelude.{◌≡◌, ◌⊎◌, ◌<◌, ℕ, Some}
+use Rattle.std.specs.Prelude.{List, Result, Ok, Err, IsErrAnd, IsOkAnd, if◌then◌else◌}
 use Rattle.std.specs.Borrow.{Bor}
-use Rattle.sg_wire.specs.Profile.{is_in}
-use Rattle.sg_wire.specs.declared.profile.Profile.TheVariants.{Extended}
-use Rattle.sg_pages.specs.Identity.{IdentityFields}
+use Rattle.sg_kept.specs.Asked.{is_other, is_other_profile}
 use Rattle.sg_kept.specs.Disk.{IsDead}
 use Rattle.sg_kept.specs.Kept.{powered}
 use Rattle.sg_kept.specs.Opened.{opened}
@@ -13,40 +11,23 @@ use Rattle.sg_kept.specs.declared.opening.MakeError.{MakeError}
 use Rattle.sg_kept.specs.Refused.{IsTrueOf}
 use Rattle.sg_kept.specs.declared.opening.OpenDiskError.{OpenDiskError}
 use Rattle.sg_kept.specs.declared.opening.OpenDiskError.TheVariants.{Device}
-use Rattle.sg_run.specs.ScriptRun.{Snapshot}
+use Rattle.sg_run.specs.ScriptRun.{RunsScript, Snapshot}
+use Rattle.sg_run.specs.declared.run.RunFault.{RunFault}
 use Rattle.sg_target.specs.Armed.{Armed}
 use Rattle.sg_target.specs.Config.{ConfigFields}
 use Rattle.sg_target.specs.State.{State}
 use Rattle.sg_target.specs.Target.{disk_of}
 use Rattle.sgrun.specs.Arguments.{config_of}
-use Rattle.sgrun.specs.NewDisk.{Ran, Refused, new_disk}
+use Rattle.sgrun.specs.NewDisk.{Refused, by_run, new_disk}
+use Rattle.sgrun.specs.PowerCycles.{AreReadBack}
+use Rattle.sgrun.specs.declared.power_cycle.PowerCycle.{PowerCycle}
 use Rattle.sgrun.specs.Stops.{stop_of_disk, stop_of_making}
 use Rattle.sgrun.specs.declared.disk_options.DiskOptions.{DiskOptions}
-use Rattle.sgrun.specs.declared.named_profile.NamedProfile.{NamedProfile}
 use Rattle.sgrun.specs.declared.stop.Stop.{Stop}
 use Rattle.sgrun.specs.declared.stop.Stop.TheVariants.{CannotWrite, OtherBlocks, OtherPool}
 use Rattle.sgrun.specs.declared.stop.Stop.TheVariants.{OtherProfile, OtherSeed}
 
 -- ---- What options say of a disk that there is
-
--- The option is given, and the disk has another number.
-abbrev pub is_other : Option ℕ → (has : ℕ) → Bool
-is_other None has = false
-is_other (Some given) has = not (given == has)
-
-abbrev pub is_same : Bool → Bool → Bool
-is_same true b = b
-is_same false b = not b
-
--- A name of `--profile` is of what a disk has.
-abbrev pub is_of : NamedProfile → IdentityFields → Bool
-is_of named disk =
-    is_same (is_in Extended named.profile) (is_in Extended disk.profile)
-    && is_same named.takes_short_data_out disk.takes_short_data_out
-
-abbrev pub is_other_profile : Option NamedProfile → IdentityFields → Bool
-is_other_profile None disk = false
-is_other_profile (Some named) disk = not (is_of named disk)
 
 -- Each option that is given has to be the disk's. The seed is the locally assigned identifier.
 abbrev pub checked_against : DiskOptions → State → Result Unit Stop
@@ -89,21 +70,32 @@ pub record HasOtherDisk (options : DiskOptions) (stop : Stop) : Type 0 where
 
 -- ---- A script
 
--- The script was run, and the file stands for the disk after it.
-pub record RanAndSaved (before after : Armed) (file : List ℕ) (old new : Armed → Snapshot)
-    (result : Result ℕ Stop) : Type 0 where
-  pub ran : Ran (old before) (new after) result
-  pub saved : opened file ≡ Some (powered after)
+-- The file stands for the disk.
+abbrev pub IsSaved : {S D : Type 0} → (seen : D → List ℕ) → Result (KeptDisk S D) Stop → Type 0
+IsSaved seen disk = IsOkAnd disk (λ kept.
+    opened (seen kept.journal.device) ≡ Some (powered (disk_of kept.target)))
 
--- The file could not be written. The disk is dead then.
-pub record CouldNotWrite {S D : Type 0} (name : Bor (List ℕ)) (disk : KeptDisk S D)
+-- The script was run, and the file stands for the disk after it. If each opening has read what was written,
+-- a power cycle in the script left what it leaves of a disk in memory. So the whole run is as on such a disk.
+pub record RanAndSaved {S D : Type 0} (seen opening : D → List ℕ) (before : Armed)
+    (after : KeptDisk S D) (cycles : List (PowerCycle D)) (old new : Armed → Snapshot)
     (result : Result ℕ Stop) : Type 0 where
-  pub dead : IsDead disk
-  pub result_is : result ≡ Err (CannotWrite name)
+  pub ran : Result ℕ RunFault
+  pub runs : AreReadBack seen opening cycles → RunsScript (old before) (new (disk_of after.target)) ran
+  pub result_is : result ≡ by_run ran
+  pub saved : opened (seen after.journal.device) ≡ Some (powered (disk_of after.target))
 
--- The script was run on a disk and the disk was saved, or memory was refused, or the file failed.
-abbrev pub RunsOnKeptDisk : {S D : Type 0} → (seen : D → List ℕ) → (name : Bor (List ℕ))
-    → (before after : KeptDisk S D) → (old new : Armed → Snapshot) → Result ℕ Stop → Type 0
-RunsOnKeptDisk seen name before after old new result =
-    RanAndSaved (disk_of before.target) (disk_of after.target) (seen after.journal.device) old new result
-    ⊎ Refused old new result ⊎ CouldNotWrite name after result
+-- Why a run has no status of the script: the file could not be written, and the disk is dead; or the disk
+-- did not come back after a power cycle.
+abbrev pub IsLost : {S D : Type 0} → (name : Bor (List ℕ)) → Result (KeptDisk S D) Stop → Stop → Type 0
+IsLost name (Ok disk) stop = IsDead disk × (stop ≡ CannotWrite name)
+IsLost name (Err gone) stop = stop ≡ gone
+
+-- The script was run on a disk and the disk was saved, or memory was refused before, or the disk was lost.
+abbrev pub RunsOnKeptDisk : {S D : Type 0} → (seen opening : D → List ℕ) → (name : Bor (List ℕ))
+    → (before : Armed) → (after : Result (KeptDisk S D) Stop) → (cycles : List (PowerCycle D))
+    → (old new : Armed → Snapshot) → Result ℕ Stop → Type 0
+RunsOnKeptDisk seen opening name before after cycles old new result =
+    IsOkAnd after (λ disk. RanAndSaved seen opening before disk cycles old new result)
+    ⊎ Refused old new result
+    ⊎ IsErrAnd result (IsLost name after)

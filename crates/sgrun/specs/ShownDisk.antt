@@ -141,16 +141,18 @@ block_lines disk = codes "BLOCKS\n" ++ run_lines_from disk 0
 
 -- ---- The text
 
--- The length of the file in bytes, and what it has of the disk's state but the blocks.
-unfoldable pub facts : (length : ℕ) → State → List ℕ
-facts length state =
+-- The length of the file in bytes and the number of its batches, and what it has of the disk's state but
+-- the blocks.
+unfoldable pub facts : (length batches : ℕ) → State → List ℕ
+facts length batches state =
     codes "FILE\n" ++ (number_line (codes "length") length
+    ++ (number_line (codes "batches") batches
     ++ (codes "DISK\n" ++ (size_lines state.disk ++ (identity_lines state.identity
     ++ (codes "SAVED MODE PAGES\n" ++ (page_lines state.modes.saved
-    ++ (codes "RESERVATIONS\n" ++ reservation_lines state.reservations)))))))
+    ++ (codes "RESERVATIONS\n" ++ reservation_lines state.reservations))))))))
 
 -- The armed faults are listed as the verb `faults` of a script lists them.
-abbrev pub shown_disk : (length : ℕ) → Armed → List ℕ
-shown_disk length disk =
-    facts length disk.state
+abbrev pub shown_disk : (length batches : ℕ) → Armed → List ℕ
+shown_disk length batches disk =
+    facts length batches disk.state
     ++ (codes "FAULTS\n" ++ (faults_text disk.faults ++ block_lines disk.state.disk))

@@ -38,9 +38,10 @@ ghost use Rattle.sgrun.specs.Arguments.{IsUnlessOutOfMemory, arguments, argument
 ghost use Rattle.sgrun.specs.Arguments.{disk_options, gives_run_option, number_of_option};
 ghost use Rattle.sgrun.specs.Options.{command_line, text_option};
 
-use crate::named_profile::{NamedProfile, profile_named, takes_seed};
+use crate::named_profile::{profile_named, takes_seed};
 use crate::stop::Stop;
 use clap::{Arg, ArgAction, Command};
+use sg_kept::asked::AskedProfile;
 use sg_tools::{GivenOptions, number_or};
 use std::alloc::{AllocError, Global};
 
@@ -109,7 +110,7 @@ fn disk_options<'a>(options: &GivenOptions) -> Result<DiskOptions, Stop<'a>>
 
 /// What options say of a disk of a profile. None is no profile.
 fn disk_by<'a>(
-    profile: Option<NamedProfile>,
+    profile: Option<AskedProfile>,
     options: &GivenOptions,
 ) -> Result<DiskOptions, Stop<'a>>
     ensures { result ≡ disk_by profile options.now }

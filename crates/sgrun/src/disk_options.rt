@@ -1,12 +1,12 @@
 // What the options of the command line say of a disk: of a new one, or of one that a file keeps.
 ghost use Rattle.std.specs.Prelude.{◌≡◌};
 ghost use Rattle.sgrun.specs.Arguments.{checked_disk, config_of};
-ghost use Rattle.sgrun.specs.DiskInFile.{checked_against, is_other, is_other_profile};
-ghost use Rattle.sg_pages.specs.Identity.{IdentityFields};
+ghost use Rattle.sgrun.specs.DiskInFile.{checked_against};
+ghost use Rattle.sgrun.specs.Reopened.{options_of};
 ghost use Rattle.sg_target.specs.State.{State, config_of as config_of_state};
 
-use crate::named_profile::{BASE, NamedProfile};
 use crate::stop::Stop;
+use sg_kept::asked::{AskedProfile, BASE, is_other, is_other_profile};
 use sg_pages::{Identity, IdentityFault};
 use sg_target::Config;
 
@@ -26,12 +26,24 @@ pub(crate) struct DiskOptions {
     /// How many of them can be mapped or anchored at once.
     pub(crate) pool: Option<u64>,
     /// Which commands it has.
-    pub(crate) profile: Option<NamedProfile>,
+    pub(crate) profile: Option<AskedProfile>,
     /// What its names are made of.
     pub(crate) seed: Option<u64>,
 }
 
 impl DiskOptions {
+    /// The options that ask for a disk as it is.
+    pub(crate) fn of(disk: &Config) -> DiskOptions
+        ensures { result ≡ options_of disk.now }
+    {
+        DiskOptions {
+            blocks: Some(disk.blocks()),
+            pool: Some(u64::from(disk.pool())),
+            profile: Some(AskedProfile::of_disk(disk.identity())),
+            seed: Some(disk.identity().local()),
+        }
+    }
+
     /// The new disk that the options ask for.
     ///
     /// # Errors
@@ -75,39 +87,16 @@ impl DiskOptions {
     }
 }
 
-/// Whether an option is given, with another number than the disk has.
-fn is_other(given: Option<u64>, has: u64) -> bool
-    ensures { result ≡ is_other given has }
-{
-    match given {
-        Some(number) => number != has,
-        None => false,
-    }
-}
-
-/// Whether a profile is given, and the disk has another one.
-fn is_other_profile(given: Option<NamedProfile>, disk: &Identity) -> bool
-    ensures { result ≡ is_other_profile given disk.now }
-{
-    match given {
-        Some(named) => !named.is_of(disk),
-        None => false,
-    }
-}
-
 /// A disk of a size and a profile, with the names of an identity, if there can be one.
 fn checked_disk<'a>(
     blocks: u64,
     pool: u64,
-    named: NamedProfile,
+    asked: AskedProfile,
     names: Result<Identity, IdentityFault>,
 ) -> Result<Config, Stop<'a>>
-    ensures { result ≡ checked_disk blocks pool named names }
+    ensures { result ≡ checked_disk blocks pool asked names }
 {
     // A number that is no u32 is too large for any pool. So it is refused as 0 is.
     let pool = u32::try_from(pool).unwrap_or(0);
-    let identity = names?
-        .with_profile(named.profile)
-        .with_short_data_out(named.takes_short_data_out);
-    Ok(Config::new(blocks, pool, identity)?)
+    Ok(Config::new(blocks, pool, asked.of(names?))?)
 }

@@ -2,17 +2,19 @@
 ghost use Rattle.std.specs.Prelude.{◌≡◌, ◌⊎◌, ◌<◌, [], false, IfErr, IfOk, OnOk, Ok, Err, Some};
 ghost use Rattle.sg_kept.specs.Disk.{IsAlive, IsDead, IsUsable};
 ghost use Rattle.sg_kept.specs.Kept.{powered};
-ghost use Rattle.sg_kept.specs.Opened.{opened};
+ghost use Rattle.sg_kept.specs.Opened.{batch_count, opened};
 ghost use Rattle.sg_kept.specs.Opening.{HasStarted};
 ghost use Rattle.sg_run.specs.ScriptRun.{snapshot};
-ghost use Rattle.sg_target.specs.Target.{disk_of};
+ghost use Rattle.sg_target.specs.Target.{TargetFields, disk_of};
 ghost use Rattle.sg_wire.specs.Watched.{has_failed};
 ghost use Rattle.sgrun.specs.Arguments.{config_of};
 ghost use Rattle.sgrun.specs.Stops.{stop_of_disk};
 ghost use Rattle.sgrun.specs.declared.stop.Stop.TheVariants.{CannotWrite};
 ghost use Rattle.sgrun.specs.DiskInFile.{HasNoDisk, HasOtherDisk, IsMade, IsNotMade};
-ghost use Rattle.sgrun.specs.DiskInFile.{RunsOnKeptDisk, checked_against};
+ghost use Rattle.sgrun.specs.DiskInFile.{IsLost, IsSaved, RunsOnKeptDisk, checked_against};
+ghost use Rattle.sgrun.specs.Reopened.{IsReady, IsServing, disk_in};
 
+use crate::disk_in_file::{DiskInFile, Opener};
 use crate::disk_options::DiskOptions;
 use crate::stop::{Stop, outcome_of_run};
 use sg_changes::NewDisk;
@@ -79,6 +81,8 @@ where
     ensures started { IfOk result (HasStarted F.Device.seen F.Device.may_leave) }
     ensures opened { IfOk result (λ disk.
         opened (F.Device.opening disk.journal.device) ≡ Some (disk_of disk.target)) }
+    ensures batches { IfOk result (λ disk.
+        batch_count (F.Device.opening disk.journal.device) ≡ Some disk.found_batches) }
     ensures refused { IfErr result
         (HasNoDisk F.taken F.left F.failures source file.entry) }
 {
@@ -126,33 +130,66 @@ where
 /// status.
 ///
 /// # Errors
-/// Memory was refused, before anything was read; or the file failed; or the reader or the writer did.
-pub(crate) fn run_on_kept_disk<'a, R: Read, W: Write, S: Store, D: Device>(
+/// Memory was refused, before anything was read; or the file failed; or the disk did not come back after
+/// a power cycle; or the reader or the writer failed.
+pub(crate) fn run_on_kept_disk<
+    'a,
+    R: Read,
+    W: Write,
+    S: Store,
+    D: Device + Drop,
+    O: Opener<S, D> + Drop,
+>(
     alloc: Global,
     file: &'a str,
-    disk: &mut KeptDisk<S, D>,
+    disk: &mut DiskInFile<'a, S, D, O>,
     reader: &mut Watched<R>,
     writer: &mut Watched<W>,
 ) -> Result<u8, Stop<'a>>
-    requires usable { IsAlive disk.old → IsUsable D.seen D.may_leave disk.old }
+    requires ready { IsReady D.seen D.may_leave disk.old.disk }
     requires reads { has_failed reader.old ≡ false }
     requires writes { has_failed writer.old ≡ false }
-    ensures { RunsOnKeptDisk D.seen file.entry disk.old disk.new
+    ensures { RunsOnKeptDisk D.seen D.opening file.entry
+        (disk_in disk.old.substitute disk.old.disk) disk.new.disk disk.new.cycles.items
         (snapshot R.remaining W.contents reader.old writer.old)
         (snapshot R.remaining W.contents reader.new writer.new)
         result }
 {
     let mut session = Session::new(alloc)?;
     let ran = run_script(alloc, reader, writer, &mut session, disk);
-    save(file, disk)?;
+    save(file, &mut disk.disk)?;
     outcome_of_run(ran)
+}
+
+/// Writes what waits to the file of a disk, if it came back after each power cycle.
+///
+/// # Errors
+/// Why it did not come back, or `CannotWrite` if the file failed, now or earlier.
+fn save<'a, S: Store, D: Device>(
+    file: &'a str,
+    disk: &mut Result<KeptDisk<S, D>, Stop<'a>>,
+) -> Result<(), Stop<'a>>
+    requires ready { IsReady D.seen D.may_leave disk.old }
+    ensures served { OnOk result (IsServing disk.old) }
+    ensures saved { OnOk result (IsSaved D.seen disk.new) }
+    ensures disk { (substitute : TargetFields)
+        → disk_in substitute disk.new ≡ disk_in substitute disk.old }
+    ensures failed { IfErr result (λ stop. IsLost file.entry disk.new stop) }
+{
+    match disk {
+        Ok(kept) => save_kept(file, kept),
+        Err(stop) => Err(*stop),
+    }
 }
 
 /// Writes what waits to the file.
 ///
 /// # Errors
 /// `CannotWrite` if the file failed, now or earlier.
-fn save<'a, S: Store, D: Device>(file: &'a str, disk: &mut KeptDisk<S, D>) -> Result<(), Stop<'a>>
+fn save_kept<'a, S: Store, D: Device>(
+    file: &'a str,
+    disk: &mut KeptDisk<S, D>,
+) -> Result<(), Stop<'a>>
     requires usable { IsAlive disk.old → IsUsable D.seen D.may_leave disk.old }
     ensures alive { OnOk result (IsAlive disk.old) }
     ensures saved { OnOk result (opened (D.seen disk.new.journal.device)

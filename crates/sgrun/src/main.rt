@@ -4,10 +4,12 @@
 #![tactic(auto)]
 
 mod arguments;
+mod disk_in_file;
 mod disk_options;
 mod kept_disk;
 mod named_profile;
 mod new_disk;
+mod power_cycle;
 mod show_disk;
 mod stop;
 #[cfg(test)]
@@ -17,6 +19,7 @@ ghost use Rattle.std.specs.Prelude.{◌≡◌, [], false, IfOk};
 ghost use Rattle.sg_wire.specs.Watched.{has_failed};
 
 use arguments::Arguments;
+use disk_in_file::{DiskInFile, Opener};
 use disk_options::DiskOptions;
 use kept_disk::{open_disk, open_kept, run_on_kept_disk};
 use new_disk::run_on_new_disk;
@@ -27,7 +30,7 @@ use sg_kept::KeptDisk;
 use sg_wire::Watched;
 use show_disk::show_disk;
 use std::env;
-use std::fs::File;
+use std::fs::{self, File};
 use std::io::{Read, Write};
 use std::process::ExitCode;
 use std::rt::Runtime;
@@ -103,28 +106,47 @@ fn run_on_file<'a, R: Read, W: Write>(
     requires writes { has_failed writer.old ≡ false }
 {
     let source = open_source(rt, file)?;
-    // A disk of any profile is over an `ExtentMap`: the profile is in the file.
-    let mut disk: KeptDisk<ExtentMap, FileDevice<StdFile>> = open_disk(
-        rt.alloc(),
-        file,
-        source,
-        options,
-    )?;
+    let disk = open_disk(rt.alloc(), file, source, options)?;
+    let mut disk = DiskInFile::new(rt.alloc(), disk, file, FileOpener { rt })?;
     run_on_kept_disk(rt.alloc(), file, &mut disk, reader, writer)
+}
+
+/// Opens the files of disks. A disk of any profile is over an `ExtentMap`: the profile is in the file.
+#[derive(Clone, Copy)]
+struct FileOpener<'r> {
+    rt: &'r HostRuntime,
+}
+
+impl<'r> Opener<ExtentMap, FileDevice<StdFile<'r>>> for FileOpener<'r> {
+    fn open<'a>(
+        &self,
+        file: &'a str,
+    ) -> Result<KeptDisk<ExtentMap, FileDevice<StdFile<'r>>>, Stop<'a>> {
+        let source = open_present(self.rt, file)?;
+        open_kept(self.rt.alloc(), file, source)
+    }
 }
 
 /// Shows the disk that a file keeps.
 fn show_file<'a>(rt: &HostRuntime, file: &'a str) -> Result<u8, Stop<'a>> {
-    // `StdFile` makes a file that is missing. So the file is looked for first.
-    open(rt, file)?;
-    let source = open_source(rt, file)?;
+    let source = open_present(rt, file)?;
     let length = source.left();
     let mut disk: KeptDisk<ExtentMap, FileDevice<StdFile>> = open_kept(rt.alloc(), file, source)?;
     show_disk(length, &mut disk, &mut Watched::new(rt.stdout()))?;
     Ok(0)
 }
 
-/// Opens the file of a disk.
+/// Opens the file of a disk, if there is one: `StdFile` makes a file that is missing.
+fn open_present<'a, 'r>(rt: &'r HostRuntime, file: &'a str) -> Result<FileSource<'r>, Stop<'a>>
+    ensures { IfOk result (λ source. source.calls ≡ []) }
+{
+    match fs::metadata(rt, file) {
+        Ok(_) => open_source(rt, file),
+        Err(error) => Err(Stop::of_open(file, error.kind())),
+    }
+}
+
+/// Opens the file of a disk, or makes an empty one.
 fn open_source<'a, 'r>(rt: &'r HostRuntime, file: &'a str) -> Result<FileSource<'r>, Stop<'a>>
     ensures { IfOk result (λ source. source.calls ≡ []) }
 {

@@ -1,7 +1,8 @@
 // Shows what the file of a disk holds: one fact a line (docs/SCRIPT.md, "What a file holds").
-ghost use Rattle.std.specs.Prelude.{◌≡◌, ◌++◌, ◌≤◌, [], codes, decimal, false, length, IfErr, IfOk, Some};
+ghost use Rattle.std.specs.Prelude.{◌≡◌, ◌++◌, ◌≤◌, ℕ, [], codes, decimal, false, length, IfErr, IfOk};
+ghost use Rattle.std.specs.Prelude.{Some};
 ghost use Rattle.std.specs.List.{flat_map};
-ghost use Rattle.sg_kept.specs.Opened.{opened};
+ghost use Rattle.sg_kept.specs.Opened.{batch_count, opened};
 ghost use Rattle.sg_target.specs.Armed.{Armed};
 ghost use Rattle.sg_target.specs.Target.{disk_of};
 ghost use Rattle.sg_units.specs.ReservationType.{code_of};
@@ -47,13 +48,16 @@ pub(crate) fn show_disk<'a, S: Store, D: Device, W: Write>(
     writer: &mut Watched<W>,
 ) -> Result<(), Stop<'a>>
     requires opened { opened (D.opening disk.old.journal.device) ≡ Some (disk_of disk.old.target) }
+    requires batches { batch_count (D.opening disk.old.journal.device) ≡ Some disk.old.found_batches }
     requires writes { has_failed writer.old ≡ false }
-    ensures text { (found : Armed) → opened (D.opening disk.old.journal.device) ≡ Some found
-        → SendsText W.contents writer.old writer.new result (shown_disk length found) }
+    ensures text { (found : Armed) (batches : ℕ)
+        → opened (D.opening disk.old.journal.device) ≡ Some found
+        → batch_count (D.opening disk.old.journal.device) ≡ Some batches
+        → SendsText W.contents writer.old writer.new result (shown_disk length batches found) }
     ensures error { IfErr result (λ stop. stop ≡ WriteFault) }
     ensures file { disk.new.journal ≡ disk.old.journal }
 {
-    match print_disk(length, &mut disk.target, writer) {
+    match print_disk(length, disk.found_batches, &mut disk.target, writer) {
         Ok(()) => Ok(()),
         Err(_) => Err(Stop::Write),
     }
@@ -62,39 +66,48 @@ pub(crate) fn show_disk<'a, S: Store, D: Device, W: Write>(
 /// Prints all that a disk holds, in several texts.
 fn print_disk<S: Store, W: Write>(
     length: u64,
+    batches: u64,
     target: &mut Target<S>,
     writer: &mut Watched<W>,
 ) -> io::Result<()>
     requires { has_failed writer.old ≡ false }
     ensures { SendsText W.contents writer.old writer.new result
-        (shown_disk length (disk_of target.old)) }
+        (shown_disk length batches (disk_of target.old)) }
 {
-    print_facts(length, target, writer)?;
+    print_facts(length, batches, target, writer)?;
     writer.send(b"FAULTS\n")?;
     print_faults(target.faults(), writer)?;
     print_blocks(target, writer)
 }
 
-/// Prints the length of the file, and what it has of the disk's state but the blocks.
+/// Prints the sizes of the file, and what it has of the disk's state but the blocks.
 fn print_facts<S: Store, W: Write>(
     length: u64,
+    batches: u64,
     target: &Target<S>,
     writer: &mut Watched<W>,
 ) -> io::Result<()>
     requires { has_failed writer.old ≡ false }
-    ensures { SendsText W.contents writer.old writer.new result (facts length target.now.state) }
+    ensures { SendsText W.contents writer.old writer.new result
+        (facts length batches target.now.state) }
 {
     let mut buffer = [0; GATHERED];
     let mut out = Printer::new(writer, &mut buffer);
-    put_facts(length, target, &mut out);
+    put_facts(length, batches, target, &mut out);
     out.finish()
 }
 
-fn put_facts<S: Store, W: Write>(length: u64, target: &Target<S>, out: &mut Printer<'_, W>)
-    ensures { PrintsText W.contents out.old out.new (facts length target.now.state) }
+fn put_facts<S: Store, W: Write>(
+    length: u64,
+    batches: u64,
+    target: &Target<S>,
+    out: &mut Printer<'_, W>,
+)
+    ensures { PrintsText W.contents out.old out.new (facts length batches target.now.state) }
 {
     out.put(b"FILE\n");
     put_number_line(b"length", length, out);
+    put_number_line(b"batches", batches, out);
     out.put(b"DISK\n");
     put_sizes(target, out);
     put_identity(target.config().identity(), out);

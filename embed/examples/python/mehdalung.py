@@ -60,6 +60,7 @@ class Error(IntEnum):
     OTHER_IDENTITY = 36
     CANNOT_OPEN = 39
     NO_FILE = 40
+    FLUSH_OWED = 41
 
 
 class Profile(IntEnum):
@@ -201,8 +202,9 @@ def load():
     library.mdl_close.argtypes = [slot]
     library.mdl_free.argtypes = [slot]
     library.mdl_free.restype = None
-    library.mdl_execute.argtypes = [slot, c_uint32, bytes_of, c_size_t, bytes_of, c_size_t,
-                                    c_void_p, c_size_t, ctypes.POINTER(ReplyRecord)]
+    for execute in library.mdl_execute, library.mdl_execute_unflushed:
+        execute.argtypes = [slot, c_uint32, bytes_of, c_size_t, bytes_of, c_size_t, c_void_p,
+                            c_size_t, ctypes.POINTER(ReplyRecord)]
     library.mdl_power_cycle.argtypes = [slot]
     library.mdl_happen.argtypes = [slot, ctypes.POINTER(HappeningRecord)]
     library.mdl_read_happening.argtypes = [bytes_of, ctypes.POINTER(HappeningRecord)]
@@ -297,13 +299,15 @@ def identity_of_seed(seed):
 
 class Reply(NamedTuple):
     """The reply to a command. Its kind says how data-in is printed: Kind.HEX, unless a tool sent
-    the command. data_out_length is how many bytes of data-out the CDB asks for."""
+    the command. data_out_length is how many bytes of data-out the CDB asks for. If it waits, it
+    must not go out before Disk.flush has returned."""
     status: int
     sense: bytes
     data_in: bytes
     kind: Kind
     exit_status: int
     data_out_length: int
+    waits: bool = False
 
     def text(self):
         """Returns what sgrun prints of it after its status: sense data, or data-in if there is
@@ -353,15 +357,19 @@ class Disk:
             raise Refused(error, damage)
         return disk
 
-    def execute(self, initiator, cdb, data_out=b"", kind=Kind.HEX):
-        """The Reply to the command of an initiator, 0 to 7."""
+    def execute(self, initiator, cdb, data_out=b"", kind=Kind.HEX, flush=True):
+        """The Reply to the command of an initiator, 0 to 7. With flush=False the disk does not flush
+        its file for it, and the reply may have to wait: see mdl_execute_unflushed."""
         record = ReplyRecord()
-        check(LIBRARY.mdl_execute(
-            self.slot, within("initiator", initiator, 32), cdb, len(cdb), data_out, len(data_out),
-            self.data_in, BUFFER_LENGTH, record))
+        execute = LIBRARY.mdl_execute if flush else LIBRARY.mdl_execute_unflushed
+        error = execute(self.slot, within("initiator", initiator, 32), cdb, len(cdb), data_out,
+                        len(data_out), self.data_in, BUFFER_LENGTH, record)
+        if error != Error.FLUSH_OWED:
+            check(error)
         return Reply(record.status, bytes(record.sense[:record.sense_length]),
                      bytes(self.data_in[:record.data_in_length]), Kind(kind),
-                     LIBRARY.mdl_exit_status(record), record.data_out_length)
+                     LIBRARY.mdl_exit_status(record), record.data_out_length,
+                     error == Error.FLUSH_OWED)
 
     def tool(self, initiator, words):
         """Executes what the words of a tool ask for, such as "sg_vpd -p lbpv"."""

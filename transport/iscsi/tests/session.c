@@ -164,8 +164,12 @@ int session_serve(struct session *session)
            || iscsi_service(session->context, descriptor.revents);
 }
 
+/* The number of answers and responses that have come, and that of the last response among them. */
+static unsigned long received, last_response;
+
 struct command {
     struct scsi_task *task; /* null when the reply is there */
+    unsigned long received; /* its number among all that have come, from 1 on */
     size_t buffered;        /* the length of data-in that goes to the answer's buffer at once */
     struct answer answer;
 };
@@ -183,6 +187,7 @@ static void receive_answer(struct iscsi_context *context, int status, void *data
             command->answer.data_in_length = command->buffered - (size_t)command->answer.residual;
     }
     command->task = NULL;
+    command->received = ++received;
     scsi_free_scsi_task(task);
 }
 
@@ -250,6 +255,11 @@ const struct answer *session_settle(struct session *session, const struct comman
     return &command->answer;
 }
 
+int session_was_first(const struct command *command)
+{
+    return command->received > 0 && command->received < last_response;
+}
+
 void session_forget(struct session *session, struct command *command)
 {
     if (command->task)
@@ -263,6 +273,7 @@ static void receive_response(struct iscsi_context *context, int status, void *da
     int *response = private_data;
 
     (void)context;
+    last_response = ++received;
     *response = status == SCSI_STATUS_GOOD && data ? (int)*(const uint32_t *)data : NO_REPLY;
 }
 

@@ -72,6 +72,9 @@ struct command *session_begin(struct session *session, const struct request *req
  * has the status NO_REPLY. */
 const struct answer *session_settle(struct session *session, const struct command *command);
 
+/* Returns 1 if the answer to a command came before the response of the last task management function. */
+int session_was_first(const struct command *command);
+
 /* Forgets a command. If its session still waits for its reply, the session ignores it. */
 void session_forget(struct session *session, struct command *command);
 

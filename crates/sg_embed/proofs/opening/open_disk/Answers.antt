@@ -2,7 +2,7 @@ use Rattle.std.proofs.Common.{◌≡◌, ◌≢◌, ℕ, List, [], rules, refl, 
 use Rattle.sg_target.specs.Target.{disk_of}
 use Rattle.sg_embed.specs.FileDisk.{FileDiskFields}
 use Rattle.sg_embed.specs.Opening.{IsFound, IsOpened}
-use Rattle.sg_embed.proofs.OpeningLemmas.{is-empty, of-found, of-made}
+use Rattle.sg_embed.proofs.OpeningLemmas.{by-steps, is-empty, of-found, of-made, started-by-steps}
 use Rattle.sg_embed.proofs.opening.open_disk.Goals as goal
 
 pub returns-then-is_empty-clause-opened : goal.returns-then-is_empty-clause-opened
@@ -12,10 +12,12 @@ returns-then-is_empty-clause-opened c =
     let disk = c.in_ok-disk.disk in
     let said = c.in_ok-disk.ensures in
     let empty : file ≡ [] = is-empty file (sym c.is_empty.ensures ∙ c.if-is_empty.true) in
-    let opened : IsOpened wanted file (record { kept = disk; device = wanted.device }) = record {
-      started = said.started;
+    let opened : IsOpened wanted file (by-steps disk wanted.device) = record {
+      started = started-by-steps disk said.started;
       is = of-made wanted file (disk_of disk.target) empty said.made;
       device = refl;
+      by_steps = refl;
+      idle = refl;
     } in
     subst (λ (d : FileDiskFields). IsOpened wanted file d) (sym c.new-then-is_empty.ensures) opened
 
@@ -28,9 +30,11 @@ returns-clause-opened c =
     let full : file ≢ [] = search rules in
     let found : IsFound wanted file (disk_of disk.target) =
     subst (λ (l : List ℕ). IsFound wanted l (disk_of disk.target)) c.in_ok-source.ensures.bytes said.found in
-    let opened : IsOpened wanted file (record { kept = disk; device = wanted.device }) = record {
-      started = said.started;
+    let opened : IsOpened wanted file (by-steps disk wanted.device) = record {
+      started = started-by-steps disk said.started;
       is = of-found wanted file (disk_of disk.target) full found;
       device = refl;
+      by_steps = refl;
+      idle = refl;
     } in
     subst (λ (d : FileDiskFields). IsOpened wanted file d) (sym c.new-2.ensures) opened

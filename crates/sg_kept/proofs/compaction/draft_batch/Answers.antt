@@ -1,7 +1,10 @@
 use Rattle.std.proofs.Common.{◌≡◌, [], ◌∷◌, ◌++◌, length, sym, ap, subst, ◌∙◌, arith}
+use Rattle.std.specs.Prelude.{Ok}
 use Rattle.sg_journal.specs.BatchValue.{BatchValue}
+use Rattle.sg_journal.specs.Journal.{found}
 use Rattle.sg_journal.specs.JournalState.{Drafts}
 use Rattle.sg_kept.proofs.CompactionLemmas.{drafted-next, weighed}
+use Rattle.sg_kept.proofs.MomentsLemmas.{weaker}
 use Rattle.sg_kept.proofs.compaction.draft_batch.Goals as goal
 
 pub returns-clause-drafted : goal.returns-clause-drafted
@@ -33,3 +36,21 @@ returns-clause-at_most g c =
     let weight = weighed journal.sector journal.drafted (length c.batch.inside.batch.records)
     s.drafts.stands.valid in
     omega (arith, size, weight, none, count)
+
+pub returns-in_err-rewrite-clause-any_moment : goal.returns-in_err-rewrite-clause-any_moment
+returns-in_err-rewrite-clause-any_moment g c =
+    let before = g.D.Device.seen c.args.journal.now.device in
+    let s = c.requires.drafted.1 in
+    weaker g.D.Device.moment g.D.Device.left_since c.args.journal.now.device c.rewrite.new.self.device
+    (λ f. found f ≡ Ok s.batches) (λ f. found f ≡ found before)
+    (c.rewrite.ensures.any_moment s.batches s.drafted s.drafts)
+    (λ f is. is ∙ sym s.drafts.stands.found)
+
+pub returns-clause-any_moment : goal.returns-clause-any_moment
+returns-clause-any_moment g c =
+    let before = g.D.Device.seen c.args.journal.now.device in
+    let s = c.requires.drafted.1 in
+    weaker g.D.Device.moment g.D.Device.left_since c.args.journal.now.device c.rewrite.new.self.device
+    (λ f. found f ≡ Ok s.batches) (λ f. found f ≡ found before)
+    (c.rewrite.ensures.any_moment s.batches s.drafted s.drafts)
+    (λ f is. is ∙ sym s.drafts.stands.found)

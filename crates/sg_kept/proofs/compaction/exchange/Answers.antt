@@ -1,9 +1,11 @@
 use Rattle.std.proofs.Common.{◌≡◌, [], ◌∷◌, ◌++◌, inl, length, sym, ap, ◌∙◌, arith}
-use Rattle.std.specs.Prelude.{Ok}
+use Rattle.std.specs.Prelude.{Ok, Some, ◌⊎◌}
 use Rattle.sg_journal.specs.BatchValue.{BatchValue}
 use Rattle.sg_journal.specs.Journal.{found}
-use Rattle.sg_kept.specs.Opened.{filed}
-use Rattle.sg_kept.proofs.CompactionLemmas.{exchanged-or, then-leaves, weighed}
+use Rattle.sg_kept.specs.Kept.{restored}
+use Rattle.sg_kept.specs.Opened.{filed, opened}
+use Rattle.sg_kept.proofs.CompactionLemmas.{exchanged-or, sector-most, then-leaves, weighed}
+use Rattle.sg_kept.proofs.MomentsLemmas.{weaker}
 use Rattle.sg_kept.proofs.compaction.exchange.Goals as goal
 
 pub finish_rewrite-requires-clause-drafts : goal.finish_rewrite-requires-clause-drafts
@@ -60,3 +62,23 @@ returns-clause-end g c =
     let weight = weighed journal.sector journal.drafted (length c.last.inside.batch.records)
     s.drafts.stands.valid in
     omega (arith, c.finish_rewrite.ensures.end, c.rewrite.ensures.drafted, weight, count)
+
+pub returns-in_err-rewrite-clause-any_moment : goal.returns-in_err-rewrite-clause-any_moment
+returns-in_err-rewrite-clause-any_moment g c left s =
+    let before = g.D.Device.seen c.args.journal.now.device in
+    weaker g.D.Device.moment g.D.Device.left_since c.args.journal.now.device c.rewrite.new.self.device
+    (λ f. found f ≡ Ok s.batches) (λ f. (found f ≡ found before) ⊎ (opened f ≡ Some (restored left)))
+    (c.rewrite.ensures.any_moment s.batches s.drafted s.drafts)
+    (λ f is. inl (is ∙ sym s.drafts.stands.found))
+
+pub returns-clause-length : goal.returns-clause-length
+returns-clause-length g c =
+    let s = c.requires.drafted.1 in
+    let most = sector-most c.args.journal.now.sector s.drafts.stands.valid in
+    omega (
+      arith,
+      most.1,
+      c.finish_rewrite.ensures.end,
+      c.finish_rewrite.ensures.length,
+      c.rewrite.ensures.sector,
+    )

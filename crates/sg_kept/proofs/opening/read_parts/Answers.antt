@@ -9,7 +9,7 @@ returns-in-Ok-false-clause-says g c rest size =
     let reader = c.next.new.self in
     let ended = c.in-Ok-false.ensures.ended c.in-Ok-false.field-0-test [] c.requires.found in
     ended_found reader.ended (g.F.Source.taken reader.source) rest (g.F.Source.left reader.source)
-    reader.sector reader.end [] ended.1 size ended.0.place
+    reader.sector reader.end [] ended.0.valid ended.1 size ended.0.place
 
 pub returns-in_err-parts-clause-says : goal.returns-in_err-parts-clause-says
 returns-in_err-parts-clause-says g c =

@@ -9,7 +9,8 @@ unfolding facts
 returns g c =
     let identity : c.identity.result.now ≡ c.args.target.now.state.identity =
     c.identity.ensures ∙ ap (λ (x : ConfigFields). x.identity) c.config.ensures in
-    Prints-on c.put.ensures (Prints-on c.put_number_line.ensures (Prints-on c.put-2.ensures
-    (Prints-on c.put_sizes.ensures (Prints-on (rw identity at c.put_identity.ensures)
+    Prints-on c.put.ensures (Prints-on c.put_number_line.ensures (Prints-on c.put_number_line-2.ensures
+    (Prints-on c.put-2.ensures (Prints-on c.put_sizes.ensures
+    (Prints-on (rw identity at c.put_identity.ensures)
     (Prints-on c.put-3.ensures (Prints-on (rw c.saved_pages.ensures at c.put_pages.ensures)
-    (Prints-on c.put-4.ensures (rw c.reservations.ensures at c.put_reservations.ensures))))))))
+    (Prints-on c.put-4.ensures (rw c.reservations.ensures at c.put_reservations.ensures)))))))))

@@ -56,6 +56,7 @@ pub mod error {
     pub const OTHER_IDENTITY: u32 = 36;
     pub const CANNOT_OPEN: u32 = 39;
     pub const NO_FILE: u32 = 40;
+    pub const FLUSH_OWED: u32 = 41;
 }
 
 /// `mdl_profile`.
@@ -241,6 +242,17 @@ extern "C" {
     pub fn mdl_close(disk: *mut mdl_disk) -> c_uint;
     pub fn mdl_free(disk: *mut mdl_disk);
     pub fn mdl_execute(
+        disk: *mut mdl_disk,
+        initiator: u32,
+        cdb: *const u8,
+        cdb_length: usize,
+        data_out: *const u8,
+        data_out_length: usize,
+        data_in: *mut u8,
+        data_in_length: usize,
+        reply: *mut mdl_reply,
+    ) -> c_uint;
+    pub fn mdl_execute_unflushed(
         disk: *mut mdl_disk,
         initiator: u32,
         cdb: *const u8,

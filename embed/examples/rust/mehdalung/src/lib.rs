@@ -60,11 +60,17 @@ pub struct Reply<'a> {
     record: sys::mdl_reply,
     pub data_in: &'a [u8],
     pub kind: u32,
+    waits: bool,
 }
 
 impl Reply<'_> {
     pub fn status(&self) -> u8 {
         self.record.status
+    }
+
+    /// It must not go out before `Disk::flush` has returned `Ok`: only with `Disk::execute_unflushed`.
+    pub fn waits(&self) -> bool {
+        self.waits
     }
 
     /// How many bytes of data-out the CDB asks for, executed or refused.
@@ -201,7 +207,36 @@ impl Disk {
             sys::mdl_execute(&mut self.slot, initiator, cdb.as_ptr(), cdb.len(), data_out.as_ptr(),
                              data_out.len(), buffer, length, &mut record)
         })?;
-        Ok(Reply { record, data_in: &self.data_in[..record.data_in_length], kind: kind::HEX })
+        Ok(self.reply(record, false))
+    }
+
+    /// Executes a command as `execute` does, without a flush of the disk's file. So several commands share
+    /// one flush: execute each, keep the replies that wait, and call `flush`. If that fails, none of these
+    /// may go out, and `execute` returns the reply to each of the commands.
+    pub fn execute_unflushed(
+        &mut self,
+        initiator: u32,
+        cdb: &[u8],
+        data_out: &[u8],
+    ) -> Result<Reply<'_>, Error> {
+        let mut record = sys::mdl_reply::default();
+        let (buffer, length) = (self.data_in.as_mut_ptr(), self.data_in.len());
+        // SAFETY: no pointer is null, each has the bytes that its length says, and none overlap.
+        let error = unsafe {
+            sys::mdl_execute_unflushed(&mut self.slot, initiator, cdb.as_ptr(), cdb.len(),
+                                       data_out.as_ptr(), data_out.len(), buffer, length,
+                                       &mut record)
+        };
+        let waits = error == sys::error::FLUSH_OWED;
+        if !waits {
+            check(error)?;
+        }
+        Ok(self.reply(record, waits))
+    }
+
+    fn reply(&self, record: sys::mdl_reply, waits: bool) -> Reply<'_> {
+        let data_in = &self.data_in[..record.data_in_length];
+        Reply { record, data_in, kind: kind::HEX, waits }
     }
 
     /// Executes what the words of a tool ask for, such as "sg_vpd -p lbpv".

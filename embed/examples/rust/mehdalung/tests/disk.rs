@@ -222,3 +222,25 @@ fn a_file_keeps_a_disk() -> Result<(), Error> {
     assert_eq!(Disk::new(64, 4, None)?.flush(), Err(Error::NoFile));
     Ok(())
 }
+
+#[test]
+fn commands_share_a_flush() -> Result<(), Error> {
+    let path = std::env::temp_dir().join(format!("mehdalung-group-{}", std::process::id()));
+    let wanted = Wanted { profile: Some(profile::BASE), blocks: Some(64), pool: Some(4), identity: None };
+    let mut write_through = WRITE_ONE;
+    write_through[1] = 0x08;
+    let mut disk = Disk::open(&path, &wanted)?;
+    only_report(&mut disk, 0xFF, 0x29, 0x00)?;
+    for (cdb, byte, waits) in [(WRITE_ONE, 1, false), (write_through, 2, true), (WRITE_ONE, 3, false)] {
+        let reply = disk.execute_unflushed(0, &cdb, &[byte; 512])?;
+        assert_eq!((reply.status(), reply.waits()), (GOOD, waits));
+    }
+    disk.flush()?;
+    let reply = disk.execute_unflushed(0, &write_through, &[4; 512])?;
+    assert_eq!((reply.status(), reply.waits()), (GOOD, true));
+    disk.free();
+    assert_eq!(byte_of(&mut Disk::open(&path, &wanted)?)?, 3);
+    fs::remove_file(&path).unwrap();
+    assert!(!Disk::new(64, 4, None)?.execute_unflushed(0, &write_through, &[5; 512])?.waits());
+    Ok(())
+}

@@ -1,25 +1,23 @@
-use Rattle.std.proofs.Common.{Some, refl, sym, ap, subst, ◌∙◌}
-use Rattle.sg_kept.specs.Kept.{powered}
+use Rattle.std.proofs.Common.{subst}
 use Rattle.sg_embed.specs.FileDisk.{FileDiskFields, FlushesFile}
-use Rattle.sg_embed.proofs.FileDiskLemmas.{if-alive, if-dead}
+use Rattle.sg_embed.proofs.FileDiskLemmas.{flushes, if-alive, if-dead, in-file}
 use Rattle.sg_embed.proofs.file_disk.FileDisk.flush.Goals as goal
 
 pub returns : goal.returns
 returns c =
-    let new = c.flush.new.self in
-    let device = c.self.inside.device in
+    let was = c.self.inside in
+    let mid = c.flush.new.self in
+    let new = c.keep_short.new in
     let said = c.flush.ensures in
-    subst (λ (old : FileDiskFields). FlushesFile old (record { kept = new; device = device })) c.self.view_is
+    subst (λ (old : FileDiskFields). FlushesFile old (in-file new.disk was.device new.next)) c.self.view_is
+    (flushes was.disk c.give_up.new.disk mid new.disk was.next new.next was.device c.self.invariant
+    c.give_up.ensures.stopped
     (record {
-      written = λ alive. if-alive c.flush.result new.is_dead said.failed said.flushed alive
-          ∙ ap (λ disk. Some (powered disk)) (sym said.disk);
-      disk = said.disk;
-      events = said.events;
-      calls = record {
-        cause = λ was dead. said.cause was (if-dead _ c.flush.result new.is_dead said.usable dead);
-        stays_dead = λ dead. ap (λ disk. record { kept = disk; device = device }) (said.stays_dead dead);
-        any_moment = said.any_moment;
-        short = said.short;
-        device = refl;
-      };
+      cause = λ alive dead. said.cause alive (if-dead _ c.flush.result mid.is_dead said.usable dead);
+      stays_dead = said.stays_dead;
+      any_moment = said.any_moment;
+      later = said.later;
+      is = λ _. said.disk;
     })
+    said.events (λ alive. if-alive c.flush.result mid.is_dead said.failed said.flushed alive) said.disk
+    c.keep_short.ensures.settles)

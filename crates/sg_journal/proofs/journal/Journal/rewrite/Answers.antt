@@ -1,15 +1,16 @@
 use Rattle.std.proofs.Common.{◌≡◌, ℕ, ◌+◌, ◌-◌, ◌<◌, ◌≤◌, List, [], ◌∷◌, ◌++◌, length, take, drop}
-use Rattle.std.proofs.Common.{sym, ◌∙◌, ap, subst, arith}
+use Rattle.std.proofs.Common.{refl, sym, ◌∙◌, ap, subst, arith}
+use Rattle.std.specs.Prelude.{Ok}
 use Rattle.std.proofs.Common.{length-append}
 use Rattle.sg_journal.specs.BatchValue.{BatchValue}
 use Rattle.sg_journal.specs.Layout.{open_gate, closed_gate, body, body_size, max_batch}
 use Rattle.sg_journal.specs.Journal.{found, IsHead}
-use Rattle.sg_journal.specs.JournalState.{HasTail}
 use Rattle.sg_journal.proofs.Batches.{head_append}
 use Rattle.sg_journal.proofs.Buffers.{gate_is, body_is_sealed, body_only, held_length}
 use Rattle.sg_journal.proofs.Written.{front_written, length_gate, first_of_gate, length_body}
 use Rattle.sg_journal.proofs.Written.{max_is}
-use Rattle.sg_journal.proofs.Moments.{on_ok_weaker}
+use Rattle.sg_journal.proofs.Moments.{on_ok_weaker, weaker}
+use Rattle.sg_journal.proofs.States.{same_has}
 use Rattle.sg_journal.proofs.journal.Journal.rewrite.Goals as goal
 
 pub returns-clause-added : goal.returns-clause-added
@@ -51,12 +52,9 @@ returns-clause-added g c =
     let front = front_written j.sector (open_gate j.sector) b.records (length_gate j.sector 1 some)
     within some (first_of_gate j.sector 1) in
     record {
-      stands = record {
-        valid = s.stands.valid;
-        found = ap found same ∙ s.stands.found;
-        tail = subst (λ (f : List ℕ). HasTail j.tail j.sector j.end f bs) (sym same) s.stands.tail;
-        durable = c.draft_batch.ensures.durable;
-      };
+      waiting = s.waiting;
+      stands = same_has g.D.Device.seen g.D.Device.may_leave j _ bs s.waiting s.stands refl refl refl
+          refl same c.draft_batch.ensures.crash;
       drafts =
           subst (λ (f : List ℕ). IsHead j.sector f (drafted ++ b.records ∷ [])) (sym all)
           (head_append j.sector old (open_gate j.sector ++ body j.sector b.records) drafted
@@ -74,3 +72,10 @@ returns-clause-added g c =
           );
     })
     c.draft_batch.ensures.draft
+
+pub returns-clause-any_moment : goal.returns-clause-any_moment
+returns-clause-any_moment g c bs drafted s =
+    let j = c.args.self.now in
+    weaker g.D.Device.moment g.D.Device.left_since j.device c.draft_batch.new.device
+    (g.D.Device.may_leave j.device) (λ f. found f ≡ Ok bs) c.draft_batch.ensures.any_moment
+    s.stands.crash

@@ -1,4 +1,4 @@
-use Rattle.std.proofs.Common.{◌≡◌, List, [], ℕ, refl, sym, ◌∙◌, ap, subst}
+use Rattle.std.proofs.Common.{◌≡◌, List, [], ℕ, length, refl, sym, ◌∙◌, ap, subst}
 use Rattle.sg_journal.specs.Device.{Only}
 use Rattle.sg_journal.specs.Journal.{found}
 use Rattle.sg_journal.proofs.Heads.{found_nothing, new_sector}
@@ -11,8 +11,11 @@ returns-clause-batches g c =
     let file : g.D.Device.seen d ≡ [] = seen ∙ c.requires.fresh in
     record {
       valid = new_sector;
+      crash = λ f left. ap found (c.into_device.ensures.durable f left ∙ c.requires.fresh)
+          ∙ found_nothing;
       found = ap found file ∙ found_nothing;
-      tail = record { is = file; nothing = refl; place = refl };
+      tail = (record { is = file; nothing = refl; place = refl }, refl);
       durable = subst (λ (l : List ℕ). Only l (g.D.Device.may_leave d)) (sym seen)
           c.into_device.ensures.durable;
+      length = sym (ap length file);
     }

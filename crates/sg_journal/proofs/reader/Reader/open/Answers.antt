@@ -15,7 +15,8 @@ returns-in-Ok-None-clause-found g c =
     let all : left new ≡ 0 = ap left none.0 ∙ none.1 in
     record {
       valid = new_sector;
-      total = omega (arith, ap length nothing, all);
+      total = omega (arith, ap length nothing, all, none.1, c.left-length.ensures);
+      fits = omega arith;
       place = record { all = all; unmade = record { is = nothing; nothing = refl; place = refl } };
     }
 
@@ -30,7 +31,8 @@ returns-in-Ok-Some-clause-found g c =
     subst (IsFirstRead taken left old new) c.in-Ok-Some.field-0-is c.in-Ok-Some.ensures.read in
     record {
       valid = first.valid;
-      total = omega (arith, first.size, first.rest, c.in-Ok-Some.ensures.fits);
+      total = omega (arith, first.size, first.rest, c.left-length.ensures);
+      fits = omega arith;
       place = record { whole = first.whole; place = sym first.size };
     }
 

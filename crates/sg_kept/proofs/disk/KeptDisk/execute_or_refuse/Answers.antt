@@ -1,5 +1,5 @@
-use Rattle.std.proofs.Common.{◌≡◌, [], ◌∷◌, ◌&&◌, Some, true, ap, subst, ◌∙◌}
-use Rattle.std.proofs.lemmas.Bool.{and_parts}
+use Rattle.std.proofs.Common.{◌≡◌, [], ◌∷◌, ◌&&◌, not, true, Some, ap, subst, ◌∙◌}
+use Rattle.std.proofs.lemmas.Bool.{and_parts, not-true}
 use Rattle.sg_target.specs.Armed.{Armed, armed_step}
 use Rattle.sg_target.specs.Executed.{executed_operation}
 use Rattle.sg_target.specs.Target.{disk_of}
@@ -28,20 +28,21 @@ returns-in-Ok-clause-events g c call sent =
     let cdb = c.args.cdb.now in
     let data_out = c.args.data_out.now in
     let done = c.in-Ok.ensures in
+    let done_waits = c.in-Ok.done.waits in
     let owes = owes_flush (disk_of new.target) cdb (executed_operation disk i cdb data_out) in
     let after : disk_of new.target ≡ (armed_step disk i cdb data_out).after
     = done.executed.after in
     adds-events seen old new (Command call ∷ []) _
     (sent-is disk call i cdb data_out sent) g.D.Device.moment
-    g.D.Device.left_since (c.args.flushes && owes)
+    g.D.Device.left_since (not done_waits && owes)
     (λ alive. c.step.ensures.any_moment)
     (λ alive. (
       after,
       (
         subst (λ (d : Armed). IsBeforeOr (seen old.journal.device) d (seen new.journal.device)) after
             done.left,
-        λ both. let parts = and_parts c.args.flushes owes both in
-            done.owed parts.0 parts.1 ∙ ap (λ (d : Armed). Some (powered d)) after,
+        λ both. let parts = and_parts (not done_waits) owes both in
+            done.owed (not-true done_waits parts.0) parts.1 ∙ ap (λ (d : Armed). Some (powered d)) after,
       ),
     ))
 

@@ -1,6 +1,6 @@
 use Rattle.std.proofs.Common.{Some, refl, sym, ap, ◌∙◌}
 use Rattle.sg_journal.specs.BatchValue.{BatchValue}
-use Rattle.sg_kept.proofs.OpenedLemmas.{opened-is}
+use Rattle.sg_kept.proofs.OpenedLemmas.{batch_count-is, opened-is}
 use Rattle.sg_kept.proofs.OpeningLemmas.{started}
 use Rattle.sg_kept.proofs.RefusedLemmas.{no-disk}
 use Rattle.sg_kept.proofs.disk.KeptDisk.open.Goals as goal
@@ -21,9 +21,9 @@ returns-in-Err-read_disk-clause-refused g c =
 pub returns-clause-started : goal.returns-clause-started
 returns-clause-started g c =
     let made = c.in-Ok-read_disk in
-    let read = made.ensures.read.1 in
+    let read = made.ensures.read in
     let journal = c.in-Ok-into_journal.ensures in
-    started g.D.Device.seen g.D.Device.may_leave _ read.batches made.disk.parts
+    started g.D.Device.seen g.D.Device.may_leave _ read.batches made.disk.0.parts
     (journal.batches read.batches read.found) read.files made.ensures.steady.reservations
     c.target_of.ensures.disk c.target_of.ensures.limits (ap (λ (b : BatchValue). b.records) c.clear.ensures)
     (ap (λ (b : BatchValue). b.sector) c.clear.ensures ∙ made.ensures.sector ∙ sym journal.sector)
@@ -32,8 +32,8 @@ returns-clause-started g c =
 pub returns-clause-opened : goal.returns-clause-opened
 returns-clause-opened g c =
     let made = c.in-Ok-read_disk in
-    let read = made.ensures.read.1 in
-    opened-is (g.D.Device.opening c.in-Ok-into_journal.journal.device) read.batches made.disk.parts
+    let read = made.ensures.read in
+    opened-is (g.D.Device.opening c.in-Ok-into_journal.journal.device) read.batches made.disk.0.parts
     (c.in-Ok-into_journal.ensures.found read.batches read.found) read.files
     ∙ ap Some (sym c.target_of.ensures.disk)
 
@@ -46,3 +46,9 @@ returns-clause-read g c =
       all = all.all;
       is = all.is;
     }
+
+pub returns-clause-batches : goal.returns-clause-batches
+returns-clause-batches g c =
+    let read = c.in-Ok-read_disk.ensures.read in
+    batch_count-is (g.D.Device.opening c.in-Ok-into_journal.journal.device) read.batches
+    c.in-Ok-read_disk.disk.1 (c.in-Ok-into_journal.ensures.found read.batches read.found) read.number

@@ -39,6 +39,7 @@ returns-clause-flushed g c =
     let disk = disk_of c.args.self.now.target in
     on-ok c.keep_short.result
     (λ left needed. ⊎_elim
-    (λ same. same ∙ c.in_ok-write_batch_if.ensures.flushed needed disk c.requires.kept)
+    (λ same. same ∙ c.in_ok-write_batch_if.ensures.flushed
+    (c.has_to_write-is_needed.ensures.needed needed) disk c.requires.kept)
     (λ now. now) left)
     c.keep_short.ensures.left
