@@ -218,11 +218,11 @@ with tempfile.TemporaryDirectory() as folder:
     assert refusal(Disk.open, path + "\0") is ValueError
     with open(path, "r+b") as file:
         file.seek(11)
-        file.write(b"\x02")
+        file.write(b"\x01")
     try:
         Disk.open(path)
     except Refused as it:
-        assert (it.error, it.damage.offset) == (Error.OTHER_VERSION, 2)
+        assert (it.error, it.damage.offset) == (Error.OTHER_VERSION, 1)
     with open(path, "wb") as file:
         file.write(b"This is no disk.")
     assert refusal(Disk.open, path) == Error.NOT_A_DISK

@@ -273,10 +273,10 @@ static void refuse_files(void)
     write_block(1, 1, 0x08);
     WANT(mdl_close(&disk) == MDL_OK);
     length = read_bytes(name, bytes);
-    bytes[11] = 2;
-    write_bytes(copied, bytes, length);
-    WANT(open_any(&disk, copied, &damage) == MDL_OTHER_VERSION && damage.offset == 2);
     bytes[11] = 1;
+    write_bytes(copied, bytes, length);
+    WANT(open_any(&disk, copied, &damage) == MDL_OTHER_VERSION && damage.offset == 1);
+    bytes[11] = 2;
     bytes[12] ^= 1; /* the length of a sector */
     write_bytes(copied, bytes, length);
     WANT(open_any(&disk, copied, &damage) == MDL_DAMAGED_FILE);

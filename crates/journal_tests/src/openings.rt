@@ -44,7 +44,7 @@ fn other_files_are_refused(rt: HostRuntime) -> Result<(), Fail> {
     let alloc = rt.alloc();
     for (at, byte, fault) in [
         (0, b'm', Fault::NotADisk),
-        (11, 2, Fault::OtherVersion(2)),
+        (11, 1, Fault::OtherVersion(1)),
         (14, 3, Fault::Damaged { at: 12 }),
         (14, 16, Fault::NotADisk),
     ] {

@@ -12,7 +12,7 @@ fn a_file_is_made_by_the_first_flush(rt: HostRuntime) -> Result<(), Fail> {
     journal.flush(&mut batch)?;
     let file = journal.device.bytes();
     assert_eq!(rt; file.len(), 4 * 4096);
-    assert!(rt; file.starts_with(b"MEHDDISK\0\0\0\x01\0\0\x10\0\0"));
+    assert!(rt; file.starts_with(b"MEHDDISK\0\0\0\x02\0\0\x10\0\0"));
     assert!(rt; file.get(4096..4098) == Some([1, 0].as_slice()));
     let body = [0, 0, 0, 0, 0, 0, 0, 2, 0, 0, 0, 22, 0, 0, 0, 15, 7, 8, 0];
     assert!(rt; file.get(8192..8211) == Some(body.as_slice()));
@@ -20,6 +20,20 @@ fn a_file_is_made_by_the_first_flush(rt: HostRuntime) -> Result<(), Fail> {
     let (journal, batch) = opened(alloc, file.to_vec(alloc)?)?;
     assert!(rt; batch.records() == [7, 8].as_slice());
     assert_eq!(rt; journal.end, 3 * 4096);
+    Ok(())
+}
+
+/// The words are 01000002h, FFFFFFFFh and 3. So the sums of the prefixes are 01000002h, 01000001h and
+/// 01000004h, the last of which is the sum, and the sum of the three is 03000007h.
+#[test]
+fn a_checksum_is_over_words(rt: HostRuntime) -> Result<(), Fail> {
+    let alloc = rt.alloc();
+    let (mut journal, mut batch) = opened(alloc, file_of_one_batch(alloc)?)?;
+    batch.clear();
+    batch.push(&[1, 0, 0, 2, 255, 255, 255, 255, 3]);
+    journal.flush(&mut batch)?;
+    let fields = [0, 0, 0, 0, 0, 0, 0, 9, 3, 0, 0, 7, 1, 0, 0, 4];
+    assert!(rt; journal.device.bytes().get(2048..2064) == Some(fields.as_slice()));
     Ok(())
 }
 

@@ -1,10 +1,11 @@
 -- The format of a file: a first sector, then batches, then a closed gate. Numbers are big-endian.
-use Rattle.std.specs.Prelude.{ℕ, ◌+◌, ◌-◌, ◌*◌, ◌%◌, ◌^◌, Bool, ◌&&◌, ◌||◌, not, nat_eq, nat_le}
-use Rattle.std.specs.Prelude.{nat_lt}
+use Rattle.std.specs.Prelude.{ℕ, ◌+◌, ◌-◌, ◌*◌, ◌/◌, ◌%◌, ◌^◌, Bool, ◌&&◌, ◌||◌, not, nat_eq, nat_le}
+use Rattle.std.specs.Prelude.{nat_lt, map}
 use Rattle.std.specs.Prelude.{List, [], ◌∷◌, ◌++◌, length, take, drop, replicate, sum, slice_index}
 use Rattle.std.specs.Prelude.{Result, Ok, Err, if◌then◌else◌, ◌==◌}
-use Rattle.std.specs.Int.{is_power_of_two, next_multiple_of}
+use Rattle.std.specs.Int.{from_be_bytes, is_power_of_two, next_multiple_of, w32}
 use Rattle.std.specs.List.{starts_with}
+use Rattle.std.specs.Simd.{first_chunks}
 use Rattle.byteorder.specs.Endian.{big_bytes, big_number}
 use Rattle.sg_journal.specs.declared.fault.Fault.{Fault}
 use Rattle.sg_journal.specs.declared.fault.Fault.TheVariants.{NotADisk, OtherVersion, Damaged}
@@ -16,7 +17,7 @@ abbrev pub magic : List ℕ
 magic = 77 ∷ 69 ∷ 72 ∷ 68 ∷ 68 ∷ 73 ∷ 83 ∷ 75 ∷ []
 
 abbrev pub format_version : ℕ
-format_version = 1
+format_version = 2
 
 -- The powers of two from 512 to 65,536.
 unfoldable pub is_sector_length : ℕ → Bool
@@ -60,15 +61,21 @@ closed_gate sector = gate sector 0
 abbrev pub open_gate : (sector : ℕ) → List ℕ
 open_gate sector = gate sector 1
 
--- The sum of the sums of all prefixes: each byte counts once for itself and once for each byte
+-- Words of four bytes, and behind them each byte that is left as a word of its own.
+abbrev pub words : List ℕ → List ℕ
+words bytes =
+    map (from_be_bytes w32) (first_chunks 4 (length bytes / 4) bytes)
+    ++ drop (length bytes / 4 * 4) bytes
+
+-- The sum of the sums of all prefixes: each word counts once for itself and once for each word
 -- after it.
 abbrev pub sum_of_sums : List ℕ → ℕ
 sum_of_sums [] = 0
-sum_of_sums (byte ∷ bytes) = byte * (length bytes + 1) + sum_of_sums bytes
+sum_of_sums (word ∷ others) = word * (length others + 1) + sum_of_sums others
 
 -- Fletcher's checksum: both sums modulo 2 ^ 32.
 unfoldable pub checksum : (records : List ℕ) → ℕ
-checksum records = sum_of_sums records % 2 ^ 32 * 2 ^ 32 + sum records % 2 ^ 32
+checksum records = sum_of_sums (words records) % 2 ^ 32 * 2 ^ 32 + sum (words records) % 2 ^ 32
 
 -- The length of a body, by the length of its records.
 unfoldable pub body_size : (sector count : ℕ) → ℕ

@@ -10,6 +10,7 @@ pub mod Laws
 pub mod Batch
 pub mod Reads
 pub mod Record
+pub mod Sums
 pub mod Memory
 pub mod MemoryBytes
 pub mod MemoryLaws
