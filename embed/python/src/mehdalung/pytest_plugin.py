@@ -1,0 +1,68 @@
+"""Fixtures for pytest, and what a failed assertion prints of replies: docs/PYTHON.md."""
+from typing import Iterator, List, Optional, Tuple
+
+import pytest
+
+from .disk import Disk, Initiator, Reply, Status, identity_of_seed
+from ._library import Profile
+
+# The most lines of a reply that a failed assertion prints.
+MOST_LINES = 40
+
+
+def pytest_configure(config: pytest.Config) -> None:
+    config.addinivalue_line(
+        "markers", "scsi_disk(blocks=4096, pool=1024, profile=Profile.EXTENDED, seed=1): the disk "
+        "that the fixtures scsi_disk and two_initiators make")
+
+
+def make_disk(*, blocks: int = 4096, pool: int = 1024, profile: int = Profile.EXTENDED,
+              seed: int = 1) -> Disk:
+    """Makes the disk that a marker asks for."""
+    return Disk(blocks, pool, identity_of_seed(seed), profile)
+
+
+@pytest.fixture
+def scsi_disk(request: pytest.FixtureRequest) -> Iterator[Disk]:
+    """A new disk in memory, an extended one. The marker scsi_disk chooses its blocks, pool, profile
+    and seed. A unit attention, POWER ON, is pending for each initiator."""
+    marker = request.node.get_closest_marker("scsi_disk")
+    with make_disk(*marker.args, **marker.kwargs) if marker else make_disk() as disk:
+        yield disk
+
+
+@pytest.fixture
+def two_initiators(scsi_disk: Disk) -> Tuple[Initiator, Initiator]:
+    """Initiators 0 and 1 of the same disk, which have taken their unit attentions."""
+    pair = scsi_disk.initiator(0), scsi_disk.initiator(1)
+    for initiator in pair:
+        initiator.test_unit_ready()
+    return pair
+
+
+def described(value: object) -> List[str]:
+    """A reply in lines, and any other value in one."""
+    if not isinstance(value, Reply):
+        return [repr(value)]
+    lines = value.lines()
+    return lines[:MOST_LINES] + ["  .."] * (len(lines) > MOST_LINES)
+
+
+def named(value: object) -> str:
+    """A status by its name, as `CHECK CONDITION (02h)`."""
+    if isinstance(value, int) and value in set(Status):
+        return f"{Status(value).name.replace('_', ' ')} ({value:02X}h)"
+    return repr(value)
+
+
+def pytest_assertrepr_compare(op: str, left: object, right: object) -> Optional[List[str]]:
+    """The lines that pytest prints of a comparison with a reply or a status that has failed."""
+    if isinstance(left, Reply) or isinstance(right, Reply):
+        differ = [name for name in Reply._fields
+                  if isinstance(left, Reply) and isinstance(right, Reply)
+                  and getattr(left, name) != getattr(right, name)]
+        return ([f"{left!r} {op} {right!r}"] + [f"they differ in {', '.join(differ)}"] * bool(differ)
+                + ["left:"] + described(left) + ["right:"] + described(right))
+    if isinstance(left, Status) or isinstance(right, Status):
+        return [f"{named(left)} {op} {named(right)}"]
+    return None
