@@ -1,13 +1,12 @@
 #!/usr/bin/env python3
 """The first minute of README, from Python: it prints what sgrun prints."""
 import sys
+from typing import Callable, List
 
-from mehdalung import CHECK_CONDITION, GOOD, RESERVATION_CONFLICT, Disk
+from mehdalung import Disk, Reply
 
-STATUSES = {GOOD: "GOOD", CHECK_CONDITION: "CHECK CONDITION",
-            RESERVATION_CONFLICT: "RESERVATION CONFLICT"}
 REQUEST_SENSE = bytes.fromhex("030000000000")
-MINUTE = [
+MINUTE: List[Callable[[Disk], Reply]] = [
     lambda disk: disk.execute(0, REQUEST_SENSE),
     lambda disk: disk.tool(0, "sg_vpd -p lbpv"),
     lambda disk: disk.execute(0, bytes.fromhex("2a000000000000000400"), b"\xab" * 2048),
@@ -22,6 +21,6 @@ MINUTE = [
 with Disk() as disk:
     for line, request in enumerate(MINUTE, 1):
         reply = request(disk)
-        print(f"line {line}: {STATUSES[reply.status]}")
+        print(f"line {line}: {reply.status_name}")
         print(reply.text(), end="")
 sys.exit(reply.exit_status)

@@ -1,5 +1,5 @@
 #!/usr/bin/env python3
-"""Tries the parts of examples/python/mehdalung.py that the first minute does not use."""
+"""Tries the calls of the library for C that the first minute does not use. It needs no pytest."""
 import os
 import tempfile
 

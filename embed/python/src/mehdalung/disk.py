@@ -147,10 +147,11 @@ def identity_of_seed(seed: int) -> IdentityRecord:
 
 
 def kind_of(cdb: bytes) -> Kind:
-    """Returns the kind of the data-in of a command, and HEX if it has no other."""
+    """Returns the kind of the data-in of a command, and HEX if it has no other. The kinds of an
+    extended disk print the data of a base disk, too."""
     code, action = cdb[0], cdb[1] & 0x1F
     if code == 0x12:
-        return Kind.VPD if cdb[1] & 0x01 else Kind.INQUIRY
+        return Kind.VPD_EXTENDED if cdb[1] & 0x01 else Kind.INQUIRY_EXTENDED
     if code == 0xA3 and action == 0x0C:
         return Kind.ONE_COMMAND if cdb[2] & 0x07 else Kind.ALL_COMMANDS
     return KINDS.get((code, action if code in (0x5E, 0x9E, 0xA3) else None), Kind.HEX)
@@ -158,7 +159,7 @@ def kind_of(cdb: bytes) -> Kind:
 
 # By the operation code and the service action.
 KINDS = {
-    (0x03, None): Kind.SENSE, (0x1A, None): Kind.MODES_6, (0x25, None): Kind.CAPACITY_10,
+    (0x03, None): Kind.SENSE_EXTENDED, (0x1A, None): Kind.MODES_6, (0x25, None): Kind.CAPACITY_10,
     (0x37, None): Kind.DEFECTS_10, (0x4D, None): Kind.LOG_PAGE, (0x5A, None): Kind.MODES_10,
     (0x5E, 0x00): Kind.KEYS, (0x5E, 0x01): Kind.RESERVATION, (0x5E, 0x02): Kind.CAPABILITIES,
     (0x5E, 0x03): Kind.FULL_STATUS, (0x9E, 0x10): Kind.CAPACITY_16, (0x9E, 0x12): Kind.LBA_STATUS,
@@ -245,8 +246,10 @@ class Reply(NamedTuple):
     def lines(self) -> List[str]:
         """Its status in a line, and then what its sense data and its data-in contain."""
         lines = [self.status_name]
-        if self.sense:
-            lines += decode(Kind.SENSE_EXTENDED, self.sense).splitlines()
+        if self.sense_key is not None:
+            text = decode(Kind.SENSE_EXTENDED, self.sense)
+            name = self.sense_key.name.replace("_", " ")
+            lines += text.replace(f"KEY {self.sense_key:02X}h", name).splitlines()
         if self.data_in:
             lines += decode(self.kind, self.data_in).splitlines()
         return lines
