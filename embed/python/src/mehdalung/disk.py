@@ -166,8 +166,8 @@ KINDS = {
     (0xA0, None): Kind.LUNS, (0xA3, 0x0D): Kind.TASK_MANAGEMENT, (0xB7, None): Kind.DEFECTS_12,
 }
 
-# The most characters of data-in, or of its text, that repr shows.
-SHOWN = 160
+# The most characters of sense data and data-in that repr shows.
+SHOWN = 80
 
 
 class Reply(NamedTuple):
@@ -243,9 +243,14 @@ class Reply(NamedTuple):
             return self
         raise CheckCondition(self) if self.sense else BadStatus(self)
 
+    def headline(self) -> str:
+        """Its status, and how many bytes of data-in it has."""
+        of_data = f", {len(self.data_in)} bytes of data-in" if self.data_in else ""
+        return self.status_name + of_data
+
     def lines(self) -> List[str]:
-        """Its status in a line, and then what its sense data and its data-in contain."""
-        lines = [self.status_name]
+        """Its headline, and then what its sense data and its data-in contain."""
+        lines = [self.headline()]
         if self.sense_key is not None:
             text = decode(Kind.SENSE_EXTENDED, self.sense)
             name = self.sense_key.name.replace("_", " ")
@@ -255,14 +260,12 @@ class Reply(NamedTuple):
         return lines
 
     def __repr__(self) -> str:
-        """Its status, and its sense data or the begin of its data-in, in one line."""
+        """Its headline, and the begin of what its sense data and its data-in contain, in a line."""
         # a READ may have a megabyte, whose text takes time
-        cut = self._replace(data_in=self.data_in[:SHOWN // 4]) if self.kind == Kind.HEX else self
-        name, *lines = cut.lines()
-        text = " ".join(" ".join(lines).split())
+        cut = self._replace(data_in=self.data_in[:SHOWN]) if self.kind == Kind.HEX else self
+        text = " ".join(" ".join(cut.lines()[1:]).split())
         shown = text if len(text) <= SHOWN else text[:SHOWN] + ".."
-        of_data = f", {len(self.data_in)} bytes of data-in" if self.data_in else ""
-        return f"<Reply {name}{of_data}{': ' if shown else ''}{shown}>"
+        return f"<Reply {self.headline()}{': ' if shown else ''}{shown}>"
 
 
 AnyDisk = TypeVar("AnyDisk", bound="Disk")

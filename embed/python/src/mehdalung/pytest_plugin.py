@@ -1,13 +1,14 @@
 """Fixtures for pytest, and what a failed assertion prints of replies: docs/PYTHON.md."""
+from itertools import zip_longest
 from typing import Iterator, List, Optional, Tuple
 
 import pytest
 
-from .disk import Disk, Initiator, Reply, Status, identity_of_seed
 from ._library import Profile
+from .disk import Disk, Initiator, Reply, Status, identity_of_seed
 
-# The most lines of a reply that a failed assertion prints.
-MOST_LINES = 40
+# The most lines of two replies that a failed assertion prints.
+MOST_LINES = 20
 
 
 def pytest_configure(config: pytest.Config) -> None:
@@ -40,12 +41,20 @@ def two_initiators(scsi_disk: Disk) -> Tuple[Initiator, Initiator]:
     return pair
 
 
-def described(value: object) -> List[str]:
-    """A reply in lines, and any other value in one."""
-    if not isinstance(value, Reply):
-        return [repr(value)]
-    lines = value.lines()
-    return lines[:MOST_LINES] + ["  .."] * (len(lines) > MOST_LINES)
+def headline(value: object) -> str:
+    """A reply without what its sense data and its data-in contain, and any other value."""
+    return f"<Reply {value.headline()}>" if isinstance(value, Reply) else repr(value)
+
+
+def described(left: object, right: object) -> List[str]:
+    """A reply and another value, line for line. Of two replies only the lines that differ."""
+    ours, theirs = (it.lines() if isinstance(it, Reply) else [repr(it)] for it in (left, right))
+    both_replies = isinstance(left, Reply) and isinstance(right, Reply)
+    lines = []
+    for our, their in zip_longest(ours, theirs):
+        if our != their or not both_replies:
+            lines += [f"left:  {our}"] * (our is not None) + [f"right: {their}"] * (their is not None)
+    return lines[:MOST_LINES] + [".."] * (len(lines) > MOST_LINES)
 
 
 def named(value: object) -> str:
@@ -58,11 +67,11 @@ def named(value: object) -> str:
 def pytest_assertrepr_compare(op: str, left: object, right: object) -> Optional[List[str]]:
     """The lines that pytest prints of a comparison with a reply or a status that has failed."""
     if isinstance(left, Reply) or isinstance(right, Reply):
-        differ = [name for name in Reply._fields
-                  if isinstance(left, Reply) and isinstance(right, Reply)
-                  and getattr(left, name) != getattr(right, name)]
-        return ([f"{left!r} {op} {right!r}"] + [f"they differ in {', '.join(differ)}"] * bool(differ)
-                + ["left:"] + described(left) + ["right:"] + described(right))
+        lines = [f"{headline(left)} {op} {headline(right)}"]
+        if isinstance(left, Reply) and isinstance(right, Reply):
+            names = [it for it in Reply._fields if getattr(left, it) != getattr(right, it)]
+            lines += [f"they differ in {', '.join(names)}"] if names else ["they are equal"]
+        return lines + described(left, right)
     if isinstance(left, Status) or isinstance(right, Status):
         return [f"{named(left)} {op} {named(right)}"]
     return None
