@@ -1,4 +1,6 @@
 """The fixtures, the marker, and what a failed assertion prints: tests that run pytest."""
+from typing import Tuple
+
 import pytest
 
 PLUGINS = ("-p", "mehdalung.pytest_plugin", "-p", "no:cacheprovider")
@@ -126,19 +128,19 @@ def test_what_failed_assertions_print(pytester: pytest.Pytester) -> None:
     """)
     result.assert_outcomes(failed=9)
     result.stdout.fnmatch_lines([
-        "E       assert CHECK CONDITION (02h) == GOOD (00h)",
-        "E        +  where *2* = <Reply CHECK CONDITION: sense: MEDIUM ERROR, 11h/00h, "
+        "E       assert CHECK CONDITION (02h) == 0",
+        "E        +  where CHECK CONDITION (02h) = <Reply CHECK CONDITION: MEDIUM ERROR, 11h/00h, "
         "information 0x0000000000000007>.status",
         "E       assert False",
-        "E        +  where False = <Reply CHECK CONDITION: sense: UNIT ATTENTION, 29h/00h>.good",
+        "E        +  where False = <Reply CHECK CONDITION: UNIT ATTENTION, 29h/00h>.good",
         "E       assert GOOD (00h) == CHECK CONDITION (02h)",
-        "E       assert <Reply GOOD, 512 bytes of data-in> == <Reply GOOD, 512 bytes of data-in>",
+        "E        +  where GOOD (00h) = <Reply GOOD>.status",
+        "E * assert <Reply GOOD, 512 bytes of data-in> == <Reply GOOD, 512 bytes of data-in>",
         "E         they differ in data_in",
         "E         left:    00000000  ab ab ab ab ab ab ab ab ab ab ab ab ab ab ab ab",
         "E         right:   00000000  00 00 00 00 00 00 00 00 00 00 00 00 00 00 00 00",
         "E         left:    00000010  ab ab ab ab ab ab ab ab ab ab ab ab ab ab ab ab",
-        "E         ..",
-        "E       assert <Reply GOOD, 8 bytes of data-in> == b'data'",
+        "E * assert <Reply GOOD, 8 bytes of data-in> == b'data'",
         "E         left:  GOOD, 8 bytes of data-in",
         "E         right: b'data'",
         "E         left:    returned logical block address: 4095",
@@ -150,8 +152,19 @@ def test_what_failed_assertions_print(pytester: pytest.Pytester) -> None:
         "E         left:  CHECK CONDITION",
         "E         right: GOOD",
         "E         left:    sense: UNIT ATTENTION, 2Ah/01h",
-        "E * mehdalung.disk.CheckCondition: <Reply CHECK CONDITION: sense: UNIT ATTENTION, 29h/00h>",
+        "E * mehdalung.disk.CheckCondition: <Reply CHECK CONDITION: UNIT ATTENTION, 29h/00h>",
         "E       assert 3 == 4",
     ])
-    # at most 20 lines of two replies
-    assert "00000080" in result.stdout.str() and "000000a0" not in result.stdout.str()
+
+
+@pytest.mark.parametrize("options, lines", [((), 20), (("-vv",), 2 + 2 * 32)])
+def test_how_many_lines_are_printed(pytester: pytest.Pytester, monkeypatch: pytest.MonkeyPatch,
+                                    options: Tuple[str, ...], lines: int) -> None:
+    monkeypatch.setenv("CI", "true")  # pytest itself cuts nothing then
+    result = run(pytester, """
+        def test_replies(two_initiators):
+            first, second = two_initiators
+            first.write10(0, bytes([0xAB]) * 512).check()
+            assert first.read10(0) == second.read10(1)
+    """, *options)
+    assert len([it for it in result.outlines if it.startswith("E  ") and it != "E         .."]) == lines

@@ -19,7 +19,7 @@ def test_the_fields_of_a_unit_attention(scsi_disk: Disk) -> None:
     assert (reply.status, reply.status_name, reply.good) == (0x02, "CHECK CONDITION", False)
     assert (reply.sense_key, reply.asc, reply.ascq) == (SenseKey.UNIT_ATTENTION, 0x29, 0x00)
     assert reply.sense_key == 6 and reply.information is None
-    assert repr(reply) == "<Reply CHECK CONDITION: sense: UNIT ATTENTION, 29h/00h>"
+    assert repr(reply) == "<Reply CHECK CONDITION: UNIT ATTENTION, 29h/00h>"
     assert reply.lines() == ["CHECK CONDITION", "  sense: UNIT ATTENTION, 29h/00h"]
 
 
@@ -35,7 +35,7 @@ def test_the_address_of_a_bad_block(initiator: Initiator) -> None:
     reply = initiator.read10(5, 3)
     assert (reply.sense_key, reply.asc, reply.ascq) == (SenseKey.MEDIUM_ERROR, 0x11, 0x04)
     assert reply.information == 7
-    assert repr(reply) == ("<Reply CHECK CONDITION: sense: MEDIUM ERROR, 11h/04h, "
+    assert repr(reply) == ("<Reply CHECK CONDITION: MEDIUM ERROR, 11h/04h, "
                            "information 0x0000000000000007>")
     with pytest.raises(CheckCondition, match="MEDIUM ERROR, 11h/04h") as caught:
         reply.check()
@@ -79,7 +79,7 @@ def test_a_status_without_sense(initiator: Initiator, outcome: FaultOutcome, sta
 def test_repr_has_the_data_by_its_kind(initiator: Initiator) -> None:
     reply = initiator.read_capacity10()
     assert repr(reply) == ("<Reply GOOD, 8 bytes of data-in: "
-                           "returned logical block address: 4095 logical block length: 512>")
+                           "returned logical block address: 4095; logical block length: 512>")
     assert repr(initiator.read10(0, 0)) == "<Reply GOOD>"
     # of a megabyte only the begin, and in a line
     initiator.write10(0, bytes(range(16)) * 32).check()

@@ -21,6 +21,9 @@ class Status(IntEnum):
     TASK_SET_FULL = 0x28
     NO_REPLY = 0xFF
 
+    def __repr__(self) -> str:
+        return f"{self.name.replace('_', ' ')} ({self:02X}h)"
+
     # print and format show the number on each version of Python
     __str__ = int.__repr__
 
@@ -263,7 +266,8 @@ class Reply(NamedTuple):
         """Its headline, and the begin of what its sense data and its data-in contain, in a line."""
         # a READ may have a megabyte, whose text takes time
         cut = self._replace(data_in=self.data_in[:SHOWN]) if self.kind == Kind.HEX else self
-        text = " ".join(" ".join(cut.lines()[1:]).split())
+        text = "; ".join(" ".join(it.split()) for it in cut.lines()[1:])
+        text = text[len("sense: "):] if text.startswith("sense: ") else text
         shown = text if len(text) <= SHOWN else text[:SHOWN] + ".."
         return f"<Reply {self.headline()}{': ' if shown else ''}{shown}>"
 

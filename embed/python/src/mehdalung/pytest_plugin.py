@@ -5,9 +5,9 @@ from typing import Iterator, List, Optional, Tuple
 import pytest
 
 from ._library import Profile
-from .disk import Disk, Initiator, Reply, Status, identity_of_seed
+from .disk import Disk, Initiator, Reply, identity_of_seed
 
-# The most lines of two replies that a failed assertion prints.
+# The most lines that a failed comparison prints without -vv. pytest may print fewer.
 MOST_LINES = 20
 
 
@@ -54,24 +54,19 @@ def described(left: object, right: object) -> List[str]:
     for our, their in zip_longest(ours, theirs):
         if our != their or not both_replies:
             lines += [f"left:  {our}"] * (our is not None) + [f"right: {their}"] * (their is not None)
-    return lines[:MOST_LINES] + [".."] * (len(lines) > MOST_LINES)
+    return lines
 
 
-def named(value: object) -> str:
-    """A status by its name, as `CHECK CONDITION (02h)`."""
-    if isinstance(value, int) and value in set(Status):
-        return f"{Status(value).name.replace('_', ' ')} ({value:02X}h)"
-    return repr(value)
-
-
-def pytest_assertrepr_compare(op: str, left: object, right: object) -> Optional[List[str]]:
-    """The lines that pytest prints of a comparison with a reply or a status that has failed."""
-    if isinstance(left, Reply) or isinstance(right, Reply):
-        lines = [f"{headline(left)} {op} {headline(right)}"]
-        if isinstance(left, Reply) and isinstance(right, Reply):
-            names = [it for it in Reply._fields if getattr(left, it) != getattr(right, it)]
-            lines += [f"they differ in {', '.join(names)}"] if names else ["they are equal"]
-        return lines + described(left, right)
-    if isinstance(left, Status) or isinstance(right, Status):
-        return [f"{named(left)} {op} {named(right)}"]
-    return None
+def pytest_assertrepr_compare(config: pytest.Config, op: str, left: object,
+                              right: object) -> Optional[List[str]]:
+    """The lines that pytest prints of a comparison with a reply that has failed. Of the comparison of
+    a status pytest itself prints the reply."""
+    if not isinstance(left, Reply) and not isinstance(right, Reply):
+        return None
+    lines = [f"{headline(left)} {op} {headline(right)}"]
+    if isinstance(left, Reply) and isinstance(right, Reply):
+        names = [it for it in Reply._fields if getattr(left, it) != getattr(right, it)]
+        lines += [f"they differ in {', '.join(names)}"] if names else ["they are equal"]
+    lines += described(left, right)
+    most = len(lines) if config.getoption("verbose") > 1 else MOST_LINES
+    return lines[:most] + [".."] * (len(lines) > most)
