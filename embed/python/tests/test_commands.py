@@ -222,6 +222,44 @@ def test_there_is_a_method_for_each_function() -> None:
     assert {it for it in vars(Commands) if not it.startswith("_")} == {"send", *functions()}
 
 
+def test_a_method_hands_each_argument_on(scsi_disk: Disk) -> None:
+    recorder = Recorder(scsi_disk, 0)
+    for name, function in functions().items():
+        others = {it: int(it == "blocks") for it in arguments(function)}
+        has_data_out = "data_out" in inspect.signature(getattr(recorder, name)).parameters
+        for argument in others:
+            values = {**others, argument: largest(function, argument, others)}
+            getattr(recorder, name)(**values, **{"data_out": b""} if has_data_out else {})
+            assert recorder.sent[0].hex() == function(**values).hex(), (name, argument)
+
+
+# From SPC-4, 5.13: whether an initiator that is not registered may read, whether one that is registered
+# may write, and whether each of these holds the reservation.
+TYPES = [
+    (ReservationType.WRITE_EXCLUSIVE, True, False, False),
+    (ReservationType.EXCLUSIVE_ACCESS, False, False, False),
+    (ReservationType.WRITE_EXCLUSIVE_REGISTRANTS_ONLY, True, True, False),
+    (ReservationType.EXCLUSIVE_ACCESS_REGISTRANTS_ONLY, False, True, False),
+    (ReservationType.WRITE_EXCLUSIVE_ALL_REGISTRANTS, True, True, True),
+    (ReservationType.EXCLUSIVE_ACCESS_ALL_REGISTRANTS, False, True, True),
+]
+
+
+@pytest.mark.parametrize("kind, others_read, registered_write, all_hold", TYPES)
+def test_types_of_reservations(two_initiators: Tuple[Initiator, Initiator], kind: ReservationType,
+                               others_read: bool, registered_write: bool, all_hold: bool) -> None:
+    first, second = two_initiators
+    third = first.disk.initiator(2)
+    third.test_unit_ready()
+    for it in first, second:
+        it.persistent_reserve_out(ReserveOut.REGISTER, reserve_out_list(0, 0xA0 + it.number)).check()
+    first.persistent_reserve_out(ReserveOut.RESERVE, reserve_out_list(0xA0), type=kind).check()
+    assert third.read10(0).good == others_read and not third.write10(0, bytes(512)).good
+    assert second.write10(0, bytes(512)).good == registered_write
+    holders = first.persistent_reserve_in(ReserveIn.READ_FULL_STATUS).text().count("holder: 1")
+    assert holders == 1 + all_hold and len(TYPES) == len(ReservationType)
+
+
 def test_data_out_is_as_long_as_the_cdb_asks(initiator: Initiator) -> None:
     """data_out_length of a reply is the proved disk's word on the CDB."""
     for name in ("write6", "write10", "write12", "write16", "write_and_verify10", "write_and_verify12",

@@ -43,6 +43,13 @@ def test_the_address_of_a_bad_block(initiator: Initiator) -> None:
     assert caught.value.information == 7 and caught.value.reply is reply
 
 
+def test_the_sense_keys_are_those_of_spc_4() -> None:
+    names = """NO_SENSE RECOVERED_ERROR NOT_READY MEDIUM_ERROR HARDWARE_ERROR ILLEGAL_REQUEST UNIT_ATTENTION
+        DATA_PROTECT BLANK_CHECK VENDOR_SPECIFIC COPY_ABORTED ABORTED_COMMAND RESERVED VOLUME_OVERFLOW
+        MISCOMPARE COMPLETED"""
+    assert [(it.name, it.value) for it in SenseKey] == [(it, at) for at, it in enumerate(names.split())]
+
+
 @pytest.mark.parametrize("descriptors", [False, True])
 def test_each_sense_key_and_both_formats(initiator: Initiator, descriptors: bool) -> None:
     if descriptors:
