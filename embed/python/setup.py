@@ -5,7 +5,7 @@ import os
 import shutil
 from pathlib import Path
 
-from setuptools import setup
+from setuptools import Distribution, setup
 from setuptools.command.build_py import build_py
 
 try:
@@ -29,13 +29,15 @@ class BuildWithLibrary(build_py):
 
 
 class WheelOfPlatform(bdist_wheel):
-    def finalize_options(self):
-        super().finalize_options()
-        self.root_is_pure = False
-
     def get_tag(self):
         """Any Python 3 loads it by ctypes, so only the platform matters."""
         return "py3", "none", super().get_tag()[2]
 
 
-setup(cmdclass={"build_py": BuildWithLibrary, "bdist_wheel": WheelOfPlatform})
+class OfPlatform(Distribution):
+    def has_ext_modules(self):
+        return True
+
+
+setup(distclass=OfPlatform,
+      cmdclass={"build_py": BuildWithLibrary, "bdist_wheel": WheelOfPlatform})
