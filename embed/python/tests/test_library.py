@@ -85,5 +85,7 @@ def test_the_names_of_the_module_are_still_here() -> None:
         Slot IdentityRecord ReplyRecord Fault HappeningRecord Damage Command Sense read_happening decode
         version identity identity_of_seed Reply Disk"""
     assert set(names.split()) <= set(mehdalung.__all__)
+    of_own_use = "LIBRARY load check within mask_of words_of text_of"
+    assert all(hasattr(mehdalung, it) for it in of_own_use.split())
     assert all(hasattr(mehdalung, it) for it in mehdalung.__all__)
     assert len(mehdalung.__all__) == len(set(mehdalung.__all__))

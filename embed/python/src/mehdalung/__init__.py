@@ -12,6 +12,11 @@ from .disk import (BUSY, CHECK_CONDITION, GOOD, NO_REPLY, RESERVATION_CONFLICT, 
                    decode, identity, identity_of_seed, read_happening, version)
 from .lists import ReservationType, reserve_out_list, unmap_list
 
+# The module that this package was had these names for its own use.
+from ._cdb import within
+from ._library import LIBRARY, load
+from .disk import check, mask_of, text_of, words_of
+
 __all__ = [
     "ANY_PROFILE", "BUFFER_LENGTH", "BUSY", "BadStatus", "CHECK_CONDITION", "CheckCondition",
     "Command", "DATA_OUT_LENGTH", "Damage", "Disk", "Error", "Fault", "FaultOutcome", "GOOD",

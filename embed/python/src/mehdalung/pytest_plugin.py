@@ -1,4 +1,6 @@
 """Fixtures for pytest, and what a failed assertion prints of replies: docs/PYTHON.md."""
+from __future__ import annotations  # pytest 6 lacks names of these
+
 from itertools import zip_longest
 from typing import Iterator, List, Optional, Tuple
 
