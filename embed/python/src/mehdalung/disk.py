@@ -6,8 +6,8 @@ from typing import Callable, Iterable, List, NamedTuple, Optional, Set, Type, Ty
 
 from ._cdb import within
 from ._library import (ANY_PROFILE, BUFFER_LENGTH, DATA_OUT_LENGTH, INITIATORS, LIBRARY, NO_TEXT,
-                       Command, Damage, Error, Fault, FaultOutcome, Happening, HappeningRecord,
-                       IdentityRecord, Kind, Profile, ReplyRecord, Sense, Slot)
+                       Command, Damage, Error, Fault, Happening, HappeningRecord, IdentityRecord,
+                       Kind, Profile, ReplyRecord, Sense, Slot)
 from .methods import Commands
 
 
