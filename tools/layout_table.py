@@ -1,0 +1,265 @@
+#!/usr/bin/env python3
+"""Reads the proved table of commands in crates/sg_wire/specs/Layout.antt, for programs that make CDBs of
+it. `rows()` returns its rows in the order of `each_command`, and
+  tools/layout_table.py
+prints a line for each: name, profile, operation code, service action, length, fields, then the free bits
+that are used and those that are ignored. Only what a name needs is said here: which bits have it."""
+
+import os
+import re
+import sys
+from collections import namedtuple
+
+TOP = os.path.dirname(os.path.dirname(os.path.realpath(__file__)))
+SPECS = os.path.join(TOP, "crates/sg_wire/specs")
+
+# A row. `variant` is the command in the table, `name` the same in lower case, as in `read10`. `title` and
+# `section` are those of docs/PROFILE.md, `READ(10)` and `SBC-3, 5.11`. `profile` is `base` or `extended`.
+# `action` is None, or the service action. `action_name` is its word, such as `read_keys`, if one command
+# has several. `fields` are those of the row. The last two are its free bits: the disk knows the used ones,
+# and does not look at the ignored ones.
+Row = namedtuple("Row", "variant name title section profile opcode action action_name length fields "
+                        "used ignored")
+
+# A field, in the profile `base` or `extended`. It has the bits from bit `high` of byte `first` to bit
+# `low` of byte `last`, the most significant one first.
+Field = namedtuple("Field", "name profile first last high low")
+
+# An expression of the table whose value does not matter: a name, and what it is applied to.
+Symbol = namedtuple("Symbol", "name arguments")
+
+# What the free bits of a name in FreeBits.antt are called, by byte, high bit and low bit. Obsolete bits
+# have no name there, and none here.
+FREE_NAMES = {
+    "cache_bits": {(1, 4, 4): "dpo", (1, 3, 3): "fua"},
+    "dpo_fua_bits": {(1, 4, 4): "dpo", (1, 3, 3): "fua"},
+    "dpo_bit": {(1, 4, 4): "dpo"},
+    "immed_bit": {(1, 1, 1): "immed"},
+    "immed_bits": {(1, 1, 1): "immed"},
+    "start_bits": {(1, 0, 0): "immed", (4, 2, 2): "no_flush"},
+    "diagnostic_bits": {(1, 4, 4): "pf", (1, 1, 1): "devoffl", (1, 0, 0): "unitoffl"},
+    "format_bits": {(1, 3, 3): "cmplst", (1, 2, 0): "defect_list_format"},
+    "sanitize_bits": {(1, 7, 7): "immed", (1, 5, 5): "ause"},
+    "log_bits": {(2, 7, 6): "page_control", (5, 7, 0): "parameter_pointer"},
+}
+
+TOKEN = re.compile(r"\s*(?:(0x[0-9A-Fa-f]+|0b[01]+|\d+)|([A-Za-z_][\w.]*)|(\[\]|\+\+|[∷(){}=;,]))")
+
+
+def text_of(path):
+    with open(os.path.join(TOP, path), encoding="utf-8") as file:
+        return file.read()
+
+
+def snake(variant):
+    """`ReadCapacity16` as `read_capacity16`."""
+    return re.sub(r"(?<!^)(?=[A-Z])", "_", variant).lower()
+
+
+class Definitions:
+    """The definitions of some files: for each name its equations, each with patterns and a text."""
+
+    def __init__(self, modules):
+        self.equations, self.rows = {}, []
+        for module in modules:
+            text = re.sub(r"--.*", "", text_of(f"{SPECS}/{module}.antt"))
+            for name, patterns, body in re.findall(r"(?m)^(\w+)((?: [^=\n]*?)?) =(.*(?:\n[ \t}].*)*)", text):
+                self.equations.setdefault(name, []).append((patterns.strip(), body))
+
+    def value(self, name, arguments):
+        """The value of a name applied to arguments, or a symbol if it is defined by cases or elsewhere."""
+        found = self.equations.get(name, [])
+        if len(found) != 1 or re.search(r"[λ→]|\bif\b|\blet\b|&&", found[0][1]):
+            return Symbol(name, arguments)
+        parameters = found[0][0].split()
+        if len(parameters) != len(arguments):
+            return Symbol(name, arguments)
+        value = Parser(self, found[0][1], dict(zip(parameters, arguments))).whole()
+        if isinstance(value, dict) and "used" in value:
+            value["bits"] = name
+        return value
+
+
+class Parser:
+    """Evaluates the text of an expression: applications, lists and records."""
+
+    def __init__(self, definitions, text, names):
+        self.definitions, self.names, self.at = definitions, names, 0
+        self.tokens = [it.group().strip() for it in TOKEN.finditer(text)]
+        if re.sub(r"\s", "", text) != "".join(self.tokens):
+            raise ValueError(f"an unknown form of expression: {text}")
+
+    def peek(self):
+        return self.tokens[self.at] if self.at < len(self.tokens) else ""
+
+    def take(self):
+        self.at += 1
+        return self.tokens[self.at - 1]
+
+    def whole(self):
+        value = self.expression()
+        if self.at != len(self.tokens):
+            raise ValueError(f"left over: {self.tokens[self.at:]}")
+        return value
+
+    def expression(self):
+        value = self.application()
+        if self.peek() == "∷":
+            self.take()
+            return [value, *self.expression()]
+        if self.peek() == "++":
+            self.take()
+            return [*value, *self.expression()]
+        return value
+
+    def application(self):
+        if self.peek() == "record":
+            return self.record()
+        head, arguments = self.peek(), []
+        value = self.atom(is_head=True)
+        while self.peek() and (self.peek() in ("(", "[]") or re.match(r"[\w.]", self.peek())):
+            arguments.append(self.atom())
+        if not re.match(r"[A-Za-z_]", head) or (head in self.names and not arguments):
+            return value
+        return self.definitions.value(head, arguments)
+
+    def atom(self, is_head=False):
+        token = self.take()
+        if token == "(":
+            value = self.expression()
+            if self.peek() == ",":
+                value = (value, self.take() and self.expression())
+            self.take()
+            return value
+        if token == "[]":
+            return []
+        if token[0].isdigit():
+            return int(token, 0)
+        if token in self.names:
+            return self.names[token]
+        return Symbol(token, []) if is_head else self.definitions.value(token, [])
+
+    def record(self):
+        self.take()
+        value = dict(self.atom()) if self.peek() != "{" else {}
+        self.take()
+        while self.peek() != "}":
+            name, _ = self.take(), self.take()
+            value[name] = self.expression()
+            if self.peek() == ";":
+                self.take()
+        self.take()
+        return value
+
+
+def name_of(value):
+    """What a field's value is called: the last word of `byte_check_code c.byte_check`. A number of blocks
+    is `blocks`."""
+    while value.arguments:
+        value = value.arguments[-1]
+    name = value.name.rpartition(".")[2]
+    return "blocks" if name == "count" else name
+
+
+def bits_of(place):
+    """First byte, last byte, high bit and low bit of a place."""
+    numbers = place.arguments
+    if place.name == "bit":
+        return numbers[0], numbers[0], numbers[1], numbers[1]
+    if place.name == "bits":
+        return numbers[0], numbers[0], numbers[1], numbers[2]
+    if place.name == "bytes":
+        return numbers[0], numbers[1], 7, 0
+    raise ValueError(f"an unknown place, {place.name}")
+
+
+def fields_of(value):
+    """The fields of a record `field`: one, or the two of READ(6) and WRITE(6)."""
+    profile, place = value["profile"].name.lower(), value["place"]
+    if place.name == "short_extent":
+        return [Field("lba", profile, 1, 3, 4, 0), Field("blocks", profile, 4, 4, 7, 0)]
+    return [Field(name_of(value["value"]), profile, *bits_of(place))]
+
+
+def free_fields(names, places):
+    """The named fields in places of free bits. A place may have two names for its parts."""
+    found = []
+    for place in places:
+        first, last, high, low = bits_of(place)
+        if (high, low) == (4, 0):
+            found.append(Field("group", "base", first, last, high, low))
+        for (byte, top, bottom), name in names.items():
+            if byte == first and high >= top and bottom >= low:
+                found.append(Field(name, "base", first, last, top, bottom))
+    return found
+
+
+def used_fields(names, places):
+    """The same for bits that the disk knows. Each has a name."""
+    found = free_fields(names, places)
+    if len(found) < len(places):
+        raise ValueError(f"free bits without a name beside {found}")
+    return found
+
+
+def length_of(opcode):
+    """The length of a CDB by its group code (SPC-4, 4.2.5.1), as `length_of` of the table has it."""
+    return {0: 6, 4: 16, 5: 12}.get(opcode // 32, 10)
+
+
+def titles():
+    """The names of commands in the standards and their sections, by operation code and action."""
+    found = {}
+    table = re.findall(r"(?m)^\| (\w\w)h(?:, actions? (\w\w)h(?: to (\w\w)h)?)? \| ([^|]+) \| \d+ \| "
+                       r"([^|]+) \|", text_of("docs/PROFILE.md"))
+    for opcode, first, last, title, section in table:
+        actions = range(int(first, 16), int(last or first, 16) + 1) if first else [None]
+        for action in actions:
+            found[int(opcode, 16), action] = title, section
+    return found
+
+
+def actions_of(definitions, value):
+    """The service actions of a row, each with its word if there are several."""
+    if value.name == "none":
+        return [(None, None)]
+    (action,) = value.arguments
+    if isinstance(action, int):
+        return [(action, None)]
+    return [(int(body.strip(), 0), snake(pattern)) for pattern, body in definitions.equations[action.name]]
+
+
+def rows():
+    """The rows of the table, in its order."""
+    definitions = Definitions(["Layout", "CdbFields", "FreeBits", "ReservationAction"])
+    named, found = titles(), []
+    for pattern, body in definitions.equations["layout"]:
+        variant = re.match(r"\(?command\.(\w+)", pattern)[1]
+        value = Parser(definitions, body, {"c": Symbol("c", [])}).whole()
+        free = value["free"]
+        names = FREE_NAMES.get(free["bits"], {})
+        fields = [it for field in value["fields"] for it in fields_of(field)]
+        opcode = value["opcode"]
+        for action, word in actions_of(definitions, value["action"]):
+            found.append(Row(variant, snake(variant), *named[opcode, action],
+                             value["profile"].name.lower(), opcode, action, word, length_of(opcode), fields,
+                             used_fields(names, free["used"]),
+                             free_fields(names, free["ignored"])))
+    return found
+
+
+def printed(fields):
+    return ", ".join(f"{it.name} {it.first}:{it.high}-{it.last}:{it.low}" for it in fields) or "none"
+
+
+def main():
+    for row in rows():
+        action = "" if row.action is None else f"/{row.action:02X}h"
+        print(f"{row.name}{'.' + row.action_name if row.action_name else ''} {row.profile} "
+              f"{row.opcode:02X}h{action} {row.length}: {printed(row.fields)}; {printed(row.used)}; "
+              f"{printed(row.ignored)}; {row.title} ({row.section})")
+    return 0
+
+
+if __name__ == "__main__":
+    sys.exit(main())
