@@ -22,8 +22,9 @@ Row = namedtuple("Row", "variant name title section profile opcode action action
                         "used ignored")
 
 # A field, in the profile `base` or `extended`. It has the bits from bit `high` of byte `first` to bit
-# `low` of byte `last`, the most significant one first.
-Field = namedtuple("Field", "name profile first last high low")
+# `low` of byte `last`, the most significant one first. `label` is its name in the standard, as
+# docs/PROFILE.md has it.
+Field = namedtuple("Field", "name label profile first last high low")
 
 # An expression of the table whose value does not matter: a name, and what it is applied to.
 Symbol = namedtuple("Symbol", "name arguments")
@@ -41,6 +42,13 @@ FREE_NAMES = {
     "format_bits": {(1, 3, 3): "cmplst", (1, 2, 0): "defect_list_format"},
     "sanitize_bits": {(1, 7, 7): "immed", (1, 5, 5): "ause"},
     "log_bits": {(2, 7, 6): "page_control", (5, 7, 0): "parameter_pointer"},
+}
+
+# Their names in the standards, if these are not the same in capitals.
+FREE_LABELS = {
+    "page_control": "PC",
+    "parameter_pointer": "PARAMETER POINTER",
+    "defect_list_format": "DEFECT LIST FORMAT",
 }
 
 TOKEN = re.compile(r"\s*(?:(0x[0-9A-Fa-f]+|0b[01]+|\d+)|([A-Za-z_][\w.]*)|(\[\]|\+\+|[∷(){}=;,]))")
@@ -173,12 +181,14 @@ def bits_of(place):
     raise ValueError(f"an unknown place, {place.name}")
 
 
-def fields_of(value):
+def fields_of(value, labels):
     """The fields of a record `field`: one, or the two of READ(6) and WRITE(6)."""
     profile, place = value["profile"].name.lower(), value["place"]
     if place.name == "short_extent":
-        return [Field("lba", profile, 1, 3, 4, 0), Field("blocks", profile, 4, 4, 7, 0)]
-    return [Field(name_of(value["value"]), profile, *bits_of(place))]
+        places = {"lba": (1, 3, 4, 0), "blocks": (4, 4, 7, 0)}
+    else:
+        places = {name_of(value["value"]): bits_of(place)}
+    return [Field(name, labels[at], profile, *at) for name, at in places.items()]
 
 
 def free_fields(names, places):
@@ -187,10 +197,11 @@ def free_fields(names, places):
     for place in places:
         first, last, high, low = bits_of(place)
         if (high, low) == (4, 0):
-            found.append(Field("group", "base", first, last, high, low))
+            found.append(Field("group", "GROUP NUMBER", "base", first, last, high, low))
         for (byte, top, bottom), name in names.items():
             if byte == first and high >= top and bottom >= low:
-                found.append(Field(name, "base", first, last, top, bottom))
+                label = FREE_LABELS.get(name, name.upper())
+                found.append(Field(name, label, "base", first, last, top, bottom))
     return found
 
 
@@ -219,6 +230,32 @@ def titles():
     return found
 
 
+def places_of(byte, more, mask):
+    """The place of `4`, `2-5` or `1:1F` in PROFILE; `1:1F and 2-3` is one place, too."""
+    first, last = int(byte), int(more or byte)
+    bits = int(mask or "FF", 16)
+    low = (bits & -bits).bit_length() - 1
+    return first, last, bits.bit_length() - 1, low
+
+
+def labels():
+    """The names of the fields of each command, by their places, as docs/PROFILE.md has them."""
+    found, text = {}, text_of("docs/PROFILE.md")
+    text = text.partition("| Command | Fields | Ignored bits |\n|---|---|---|\n")[2].partition("\n\n")[0]
+    table = [line.strip("| ").split(" | ") for line in text.split("\n")]
+    for commands, fields, _ in table:
+        here = {(1, 3, 4, 0): "LOGICAL BLOCK ADDRESS"} if commands.startswith("READ(6)") else {}
+        if commands == "PERSISTENT RESERVE OUT":
+            here[2, 2, 7, 0] = "SCOPE and TYPE"
+        for byte, more, mask, name in re.findall(
+                r"(?<![\w:])(\d+)(?:-(\d+))?(?::(\w\w))? ([A-Z][A-Z0-9_ -]*[A-Z0-9])", fields):
+            here[places_of(byte, more, mask)] = name
+        for command in commands.split(", "):
+            found[command] = here
+    found["MODE SENSE(10)"] = {**found["MODE SENSE(6)"], **found["MODE SENSE(10)"]}
+    return found
+
+
 def actions_of(definitions, value):
     """The service actions of a row, each with its word if there are several."""
     if value.name == "none":
@@ -232,15 +269,17 @@ def actions_of(definitions, value):
 def rows():
     """The rows of the table, in its order."""
     definitions = Definitions(["Layout", "CdbFields", "FreeBits", "ReservationAction"])
-    named, found = titles(), []
+    named, of_fields, found = titles(), labels(), []
     for pattern, body in definitions.equations["layout"]:
         variant = re.match(r"\(?command\.(\w+)", pattern)[1]
         value = Parser(definitions, body, {"c": Symbol("c", [])}).whole()
         free = value["free"]
         names = FREE_NAMES.get(free["bits"], {})
-        fields = [it for field in value["fields"] for it in fields_of(field)]
-        opcode = value["opcode"]
-        for action, word in actions_of(definitions, value["action"]):
+        opcode, actions = value["opcode"], actions_of(definitions, value["action"])
+        title = named[opcode, actions[0][0]][0]
+        here = of_fields[title if title in of_fields else title.split(", ")[0]]
+        fields = [it for field in value["fields"] for it in fields_of(field, here)]
+        for action, word in actions:
             found.append(Row(variant, snake(variant), *named[opcode, action],
                              value["profile"].name.lower(), opcode, action, word, length_of(opcode), fields,
                              used_fields(names, free["used"]),
@@ -249,7 +288,8 @@ def rows():
 
 
 def printed(fields):
-    return ", ".join(f"{it.name} {it.first}:{it.high}-{it.last}:{it.low}" for it in fields) or "none"
+    texts = (f"{it.name} ({it.label}) {it.first}:{it.high}-{it.last}:{it.low}" for it in fields)
+    return ", ".join(texts) or "none"
 
 
 def main():
