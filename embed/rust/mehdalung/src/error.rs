@@ -2,49 +2,74 @@
 use mehdalung_sys::{error, mdl_damage};
 use std::fmt;
 
-/// Why a call is refused. It has changed nothing then, except with `FileFailed`.
+/// Why a call is refused. It has changed nothing then, except with [`Error::FileFailed`].
 #[derive(Clone, Copy, Debug, PartialEq, Eq)]
 pub enum Error {
+    /// The number of blocks is not 1 to 2^40.
     Blocks,
+    /// The size of the pool is out of range: 1 to 65,536 blocks, or more on an extended disk.
     Pool,
+    /// A text of the identity has a byte outside 20h to 7Eh.
     IdentityText,
+    /// The local identifier, or the seed, has more than 60 bits.
     IdentityLocal,
+    /// Memory ran out.
     OutOfMemory,
+    /// The initiator is not 0 to 7, or a fault names no initiator.
     NoInitiator,
+    /// A byte of the words is not printable ASCII and no tab.
     BadByte,
+    /// There are more than 64 words.
     TooManyWords,
+    /// There is no word, or the first is not the name of a tool.
     UnknownTool,
+    /// The tool or the verb does not accept these words.
     Usage,
+    /// Two options exclude one another.
     Exclusive,
+    /// An option's text is no value, or its value is out of range.
     Number,
+    /// The number is none of the module `profile`.
     UnknownProfile,
+    /// No unit attention condition has the code.
     UnknownCondition,
+    /// The number is none of the module `fault_outcome`.
     UnknownFault,
+    /// The sense key of a fault is none of SPC-4.
     SenseKey,
+    /// A flag of a fault is not 0 or 1, or a fault without blocks is healed by writes.
     FaultFlag,
+    /// The number of a fault is not 0 to 7.
     FaultNumber,
     /// A fault is armed under each number.
     Faults,
+    /// There is no word, or the first is no verb of a happening.
     UnknownVerb,
     /// A call on the disk's file failed, now or earlier.
     FileFailed,
-    /// Another program has the file, or another disk of this one.
+    /// Another program has the file, or another disk of this program.
     FileBusy,
+    /// The file has something else, or it was not made to its end.
     NotADisk,
     /// The file has this version of the format.
     OtherVersion(u64),
-    /// Where the file is damaged.
+    /// A byte of the file is not what was written: where the file is damaged.
     DamagedFile(mdl_damage),
+    /// The file has more than 2^60 bytes.
     FileTooLong,
+    /// The file's disk has another profile than you asked for.
     OtherProfile,
+    /// The file's disk has another number of blocks.
     OtherBlocks,
+    /// The file's disk has a pool of another size.
     OtherPool,
+    /// The file's disk has another identity.
     OtherIdentity,
-    /// The system refuses to open or to read the file, by the number of its error.
+    /// The system refuses to open or to read the file, for this reason: a number of errno.
     CannotOpen(i32),
     /// The disk is not in a file.
     NoFile,
-    /// An error that these calls can't have.
+    /// Another number of `mdl_error`. The calls of this crate do not return it.
     Other(u32),
 }
 

@@ -1,7 +1,7 @@
 //! Tries the parts of the crate that the first minute does not use.
+use mehdalung::Wanted;
 use mehdalung::{decode, fault_outcome, identity_of_seed, kind, profile, version};
 use mehdalung::{Disk, Error, Fault, Identity, Reply, ALL_INITIATORS, BUSY, CHECK_CONDITION, GOOD};
-use mehdalung::Wanted;
 use std::fs;
 
 const TEST_UNIT_READY: [u8; 6] = [0; 6];
@@ -226,12 +226,15 @@ fn a_file_keeps_a_disk() -> Result<(), Error> {
 #[test]
 fn commands_share_a_flush() -> Result<(), Error> {
     let path = std::env::temp_dir().join(format!("mehdalung-group-{}", std::process::id()));
-    let wanted = Wanted { profile: Some(profile::BASE), blocks: Some(64), pool: Some(4), identity: None };
+    let wanted =
+        Wanted { profile: Some(profile::BASE), blocks: Some(64), pool: Some(4), identity: None };
     let mut write_through = WRITE_ONE;
     write_through[1] = 0x08;
     let mut disk = Disk::open(&path, &wanted)?;
     only_report(&mut disk, 0xFF, 0x29, 0x00)?;
-    for (cdb, byte, waits) in [(WRITE_ONE, 1, false), (write_through, 2, true), (WRITE_ONE, 3, false)] {
+    for (cdb, byte, waits) in
+        [(WRITE_ONE, 1, false), (write_through, 2, true), (WRITE_ONE, 3, false)]
+    {
         let reply = disk.execute_unflushed(0, &cdb, &[byte; 512])?;
         assert_eq!((reply.status(), reply.waits()), (GOOD, waits));
     }

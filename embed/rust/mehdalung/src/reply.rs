@@ -1,0 +1,112 @@
+//! Replies to commands.
+use crate::error::check;
+use crate::{decode, kind, sys, Sense};
+use crate::{BUSY, CHECK_CONDITION, GOOD, NO_REPLY, RESERVATION_CONFLICT, TASK_SET_FULL};
+use std::fmt;
+
+/// The reply to a command. It borrows the disk's data-in until the next command.
+///
+/// It prints as `sgrun` prints a reply, so that a failed assertion is readable:
+///
+/// ```
+/// # use mehdalung::{Disk, Error};
+/// # fn main() -> Result<(), Error> {
+/// let mut disk = Disk::new(4096, 4, None)?;
+/// let reply = disk.initiator(0).test_unit_ready()?;
+/// assert_eq!(reply.to_string(), "CHECK CONDITION\n  sense: UNIT ATTENTION, 29h/00h");
+/// # Ok(())
+/// # }
+/// ```
+pub struct Reply<'a> {
+    pub(crate) record: sys::mdl_reply,
+    /// Data-in.
+    pub data_in: &'a [u8],
+    /// How data-in is printed, a number of the module [`kind`]: [`kind::HEX`], unless a tool sent the
+    /// command.
+    pub kind: u32,
+    pub(crate) waits: bool,
+}
+
+impl Reply<'_> {
+    /// Returns the status, such as [`GOOD`].
+    pub fn status(&self) -> u8 {
+        self.record.status
+    }
+
+    /// Returns the name of the status, such as `CHECK CONDITION`.
+    pub fn status_name(&self) -> &'static str {
+        match self.status() {
+            GOOD => "GOOD",
+            CHECK_CONDITION => "CHECK CONDITION",
+            RESERVATION_CONFLICT => "RESERVATION CONFLICT",
+            BUSY => "BUSY",
+            TASK_SET_FULL => "TASK SET FULL",
+            NO_REPLY => "NO REPLY",
+            _ => "UNKNOWN STATUS",
+        }
+    }
+
+    /// Returns whether the status is [`GOOD`].
+    pub fn is_good(&self) -> bool {
+        self.status() == GOOD
+    }
+
+    /// Returns whether the reply has to wait until [`Disk::flush`](crate::Disk::flush) has returned
+    /// `Ok`. Only a reply of [`Disk::execute_unflushed`](crate::Disk::execute_unflushed) has to.
+    pub fn waits(&self) -> bool {
+        self.waits
+    }
+
+    /// Returns how many bytes of data-out the CDB asks for, executed or refused.
+    pub fn data_out_length(&self) -> u64 {
+        self.record.data_out_length
+    }
+
+    /// Returns the sense data. It is empty, unless the status is [`CHECK_CONDITION`].
+    pub fn sense(&self) -> &[u8] {
+        &self.record.sense[..usize::from(self.record.sense_length)]
+    }
+
+    /// Returns the fields of the sense data, if there is some.
+    pub fn fields(&self) -> Option<Sense> {
+        let (sense, mut fields) = (self.sense(), Sense::default());
+        // SAFETY: there are as many bytes, and the fields are a whole record.
+        check(unsafe { sys::mdl_read_sense(sense.as_ptr(), sense.len(), &mut fields) }).ok()?;
+        Some(fields)
+    }
+
+    /// Returns what `sgrun` prints of the reply after its status: data-in or sense data, in lines.
+    /// Returns `None` if memory runs out.
+    pub fn text(&self) -> Option<String> {
+        match self.status() {
+            GOOD => decode(self.kind, self.data_in),
+            _ if self.sense().is_empty() => Some(String::new()),
+            _ => decode(kind::SENSE, self.sense()),
+        }
+    }
+
+    /// Returns the exit status that the tools of sg3_utils have for the reply. `docs/SCRIPT.md` lists
+    /// the differences.
+    pub fn exit_status(&self) -> u8 {
+        // SAFETY: the pointer is to a whole record.
+        unsafe { sys::mdl_exit_status(&self.record) as u8 }
+    }
+}
+
+/// The name of the status, and then data-in or sense data in lines.
+impl fmt::Display for Reply<'_> {
+    fn fmt(&self, f: &mut fmt::Formatter<'_>) -> fmt::Result {
+        write!(f, "{}", self.status_name())?;
+        match self.text().as_deref() {
+            None | Some("") => Ok(()),
+            Some(text) => write!(f, "\n{}", text.trim_end()),
+        }
+    }
+}
+
+/// The same as `Display`.
+impl fmt::Debug for Reply<'_> {
+    fn fmt(&self, f: &mut fmt::Formatter<'_>) -> fmt::Result {
+        fmt::Display::fmt(self, f)
+    }
+}

@@ -1,0 +1,153 @@
+//! Each command with each field at its largest.
+// embed/rust/generate writes this file.
+use mehdalung::commands::*;
+
+#[rustfmt::skip]
+pub fn cdbs() -> Vec<Vec<u8>> {
+    vec![
+        test_unit_ready().to_vec(),
+        request_sense(true, u8::MAX).to_vec(),
+        inquiry(true, u8::MAX, u16::MAX).to_vec(),
+        mode_select6(true, true, u8::MAX).to_vec(),
+        mode_select10(true, true, u16::MAX).to_vec(),
+        ModeSense6 {
+            dbd: true,
+            page_control: 0x3,
+            page_code: 0x3F,
+            subpage_code: u8::MAX,
+            allocation_length: u8::MAX,
+        }
+        .cdb()
+        .to_vec(),
+        ModeSense10 {
+            llbaa: true,
+            dbd: true,
+            page_control: 0x3,
+            page_code: 0x3F,
+            subpage_code: u8::MAX,
+            allocation_length: u16::MAX,
+        }
+        .cdb()
+        .to_vec(),
+        LogSense {
+            page_code: 0x3F,
+            subpage_code: u8::MAX,
+            allocation_length: u16::MAX,
+            page_control: 0x3,
+        }
+        .cdb()
+        .to_vec(),
+        report_luns(u8::MAX, u32::MAX).to_vec(),
+        ReportSupportedOperationCodes {
+            timeouts: true,
+            options: 0x7,
+            opcode: u8::MAX,
+            action: u16::MAX,
+            allocation_length: u32::MAX,
+        }
+        .cdb()
+        .to_vec(),
+        report_supported_task_management_functions(true, u32::MAX).to_vec(),
+        send_diagnostic(0x7, true, u16::MAX).to_vec(),
+        CompareAndWrite { lba: u64::MAX, blocks: u8::MAX, dpo: true, fua: true }.cdb().to_vec(),
+        format_unit(true, true).to_vec(),
+        OrWrite16 { lba: u64::MAX, blocks: u32::MAX, dpo: true, fua: true }.cdb().to_vec(),
+        PreFetch10 { lba: u32::MAX, blocks: u16::MAX, immed: true }.cdb().to_vec(),
+        PreFetch16 { lba: u64::MAX, blocks: u32::MAX, immed: true }.cdb().to_vec(),
+        read6(0x1FFFFF, u8::MAX).to_vec(),
+        Read10 { lba: u32::MAX, blocks: u16::MAX, dpo: true, fua: true }.cdb().to_vec(),
+        Read12 { lba: u32::MAX, blocks: u32::MAX, dpo: true, fua: true }.cdb().to_vec(),
+        Read16 { lba: u64::MAX, blocks: u32::MAX, dpo: true, fua: true }.cdb().to_vec(),
+        write6(0x1FFFFF, u8::MAX).to_vec(),
+        Write10 { lba: u32::MAX, blocks: u16::MAX, dpo: true, fua: true }.cdb().to_vec(),
+        Write12 { lba: u32::MAX, blocks: u32::MAX, dpo: true, fua: true }.cdb().to_vec(),
+        Write16 { lba: u64::MAX, blocks: u32::MAX, dpo: true, fua: true }.cdb().to_vec(),
+        read_capacity10().to_vec(),
+        read_capacity16(u32::MAX).to_vec(),
+        read_defect_data10(true, true, 0x7, u16::MAX).to_vec(),
+        ReadDefectData12 {
+            plist: true,
+            glist: true,
+            format: 0x7,
+            index: u32::MAX,
+            allocation_length: u32::MAX,
+        }
+        .cdb()
+        .to_vec(),
+        SanitizeBlockErase { list_length: u16::MAX, immed: true }.cdb().to_vec(),
+        SanitizeCryptographicErase { list_length: u16::MAX, immed: true }.cdb().to_vec(),
+        SanitizeExitFailureMode { list_length: u16::MAX, immed: true }.cdb().to_vec(),
+        StartStopUnit {
+            power_condition_modifier: 0xF,
+            power_condition: 0xF,
+            loej: true,
+            start: true,
+            immed: true,
+            no_flush: true,
+        }
+        .cdb()
+        .to_vec(),
+        SynchronizeCache10 { lba: u32::MAX, blocks: u16::MAX, immed: true }.cdb().to_vec(),
+        SynchronizeCache16 { lba: u64::MAX, blocks: u32::MAX, immed: true }.cdb().to_vec(),
+        Verify10 { byte_check: 0x3, lba: u32::MAX, blocks: u16::MAX, dpo: true }.cdb().to_vec(),
+        Verify12 { byte_check: 0x3, lba: u32::MAX, blocks: u32::MAX, dpo: true }.cdb().to_vec(),
+        Verify16 { byte_check: 0x3, lba: u64::MAX, blocks: u32::MAX, dpo: true }.cdb().to_vec(),
+        WriteAndVerify10 {
+            byte_check: 0x3,
+            lba: u32::MAX,
+            blocks: u16::MAX,
+            dpo: true,
+        }
+        .cdb()
+        .to_vec(),
+        WriteAndVerify12 {
+            byte_check: 0x3,
+            lba: u32::MAX,
+            blocks: u32::MAX,
+            dpo: true,
+        }
+        .cdb()
+        .to_vec(),
+        WriteAndVerify16 {
+            byte_check: 0x3,
+            lba: u64::MAX,
+            blocks: u32::MAX,
+            dpo: true,
+        }
+        .cdb()
+        .to_vec(),
+        WriteAtomic16 {
+            lba: u64::MAX,
+            boundary: u16::MAX,
+            blocks: u16::MAX,
+            dpo: true,
+            fua: true,
+        }
+        .cdb()
+        .to_vec(),
+        write_long10(true, true, u32::MAX, u16::MAX).to_vec(),
+        write_same10(true, true, u32::MAX, u16::MAX).to_vec(),
+        WriteSame16 {
+            anchor: true,
+            unmap: true,
+            ndob: true,
+            lba: u64::MAX,
+            blocks: u32::MAX,
+        }
+        .cdb()
+        .to_vec(),
+        unmap(true, u16::MAX).to_vec(),
+        get_lba_status(u64::MAX, u32::MAX).to_vec(),
+        persistent_reserve_in(0, u16::MAX).to_vec(),
+        persistent_reserve_in(1, u16::MAX).to_vec(),
+        persistent_reserve_in(2, u16::MAX).to_vec(),
+        persistent_reserve_in(3, u16::MAX).to_vec(),
+        persistent_reserve_out(0, u8::MAX, u32::MAX).to_vec(),
+        persistent_reserve_out(1, u8::MAX, u32::MAX).to_vec(),
+        persistent_reserve_out(2, u8::MAX, u32::MAX).to_vec(),
+        persistent_reserve_out(3, u8::MAX, u32::MAX).to_vec(),
+        persistent_reserve_out(4, u8::MAX, u32::MAX).to_vec(),
+        persistent_reserve_out(5, u8::MAX, u32::MAX).to_vec(),
+        persistent_reserve_out(6, u8::MAX, u32::MAX).to_vec(),
+    ]
+}
