@@ -13,42 +13,40 @@ from collections import namedtuple
 TOP = os.path.dirname(os.path.dirname(os.path.realpath(__file__)))
 SPECS = os.path.join(TOP, "crates/sg_wire/specs")
 
-# A row. `variant` is the command in the table, `name` the same in lower case, as in `read10`. `title` and
-# `section` are those of docs/PROFILE.md, `READ(10)` and `SBC-3, 5.11`. `profile` is `base` or `extended`.
-# `action` is None, or the service action. `action_name` is its word, such as `read_keys`, if one command
-# has several. `fields` are those of the row. The last two are its free bits: the disk knows the used ones,
-# and does not look at the ignored ones.
-Row = namedtuple("Row", "variant name title section profile opcode action action_name length fields "
-                        "used ignored")
+# A row. `title` and `section` are those of docs/PROFILE.md, `READ(10)` and `SBC-3, 5.11`. `name` is the
+# title as a name, `read10`. `profile` is `base` or `extended`. `action` is None, or the service action.
+# `action_name` is its word, such as `read_keys`, if one command has several. `fields` are those of the
+# row. The last two are its free bits: the disk knows the used ones, and does not look at the ignored ones.
+Row = namedtuple("Row", "name title section profile opcode action action_name length fields used ignored")
 
 # A field, in the profile `base` or `extended`. It has the bits from bit `high` of byte `first` to bit
 # `low` of byte `last`, the most significant one first. `label` is its name in the standard, as
-# docs/PROFILE.md has it.
+# docs/PROFILE.md has it, and `name` the same as a name.
 Field = namedtuple("Field", "name label profile first last high low")
 
 # An expression of the table whose value does not matter: a name, and what it is applied to.
 Symbol = namedtuple("Symbol", "name arguments")
 
-# What the free bits of a name in FreeBits.antt are called, by byte, high bit and low bit. Obsolete bits
-# have no name there, and none here.
-FREE_NAMES = {
-    "cache_bits": {(1, 4, 4): "dpo", (1, 3, 3): "fua"},
-    "dpo_fua_bits": {(1, 4, 4): "dpo", (1, 3, 3): "fua"},
-    "dpo_bit": {(1, 4, 4): "dpo"},
-    "immed_bit": {(1, 1, 1): "immed"},
-    "immed_bits": {(1, 1, 1): "immed"},
-    "start_bits": {(1, 0, 0): "immed", (4, 2, 2): "no_flush"},
-    "diagnostic_bits": {(1, 4, 4): "pf", (1, 1, 1): "devoffl", (1, 0, 0): "unitoffl"},
-    "format_bits": {(1, 3, 3): "cmplst", (1, 2, 0): "defect_list_format"},
-    "sanitize_bits": {(1, 7, 7): "immed", (1, 5, 5): "ause"},
-    "log_bits": {(2, 7, 6): "page_control", (5, 7, 0): "parameter_pointer"},
+# What the standards call the free bits of a name in FreeBits.antt, by byte, high bit and low bit. Obsolete
+# bits have no name there, and none here.
+FREE_LABELS = {
+    "cache_bits": {(1, 4, 4): "DPO", (1, 3, 3): "FUA"},
+    "dpo_fua_bits": {(1, 4, 4): "DPO", (1, 3, 3): "FUA"},
+    "dpo_bit": {(1, 4, 4): "DPO"},
+    "immed_bit": {(1, 1, 1): "IMMED"},
+    "immed_bits": {(1, 1, 1): "IMMED"},
+    "start_bits": {(1, 0, 0): "IMMED", (4, 2, 2): "NO_FLUSH"},
+    "diagnostic_bits": {(1, 4, 4): "PF", (1, 1, 1): "DEVOFFL", (1, 0, 0): "UNITOFFL"},
+    "format_bits": {(1, 3, 3): "CMPLST", (1, 2, 0): "DEFECT LIST FORMAT"},
+    "sanitize_bits": {(1, 7, 7): "IMMED", (1, 5, 5): "AUSE"},
+    "log_bits": {(2, 7, 6): "PC", (5, 7, 0): "PARAMETER POINTER"},
 }
 
-# Their names in the standards, if these are not the same in capitals.
-FREE_LABELS = {
-    "page_control": "PC",
-    "parameter_pointer": "PARAMETER POINTER",
-    "defect_list_format": "DEFECT LIST FORMAT",
+# The names of fields with long labels. Any other one has its label in lower case.
+SHORT_NAMES = {
+    "LOGICAL BLOCK ADDRESS": "lba", "STARTING LOGICAL BLOCK ADDRESS": "lba",
+    "TRANSFER LENGTH": "blocks", "VERIFICATION LENGTH": "blocks", "PREFETCH LENGTH": "blocks",
+    "NUMBER OF LOGICAL BLOCKS": "blocks",
 }
 
 TOKEN = re.compile(r"\s*(?:(0x[0-9A-Fa-f]+|0b[01]+|\d+)|([A-Za-z_][\w.]*)|(\[\]|\+\+|[∷(){}=;,]))")
@@ -160,13 +158,9 @@ class Parser:
         return value
 
 
-def name_of(value):
-    """What a field's value is called: the last word of `byte_check_code c.byte_check`. A number of blocks
-    is `blocks`."""
-    while value.arguments:
-        value = value.arguments[-1]
-    name = value.name.rpartition(".")[2]
-    return "blocks" if name == "count" else name
+def name_of(label):
+    """A label or a title of a standard as a name."""
+    return SHORT_NAMES.get(label) or re.sub(r"\W+", "_", re.sub(r"\((\d+)\)", r"\1", label.lower()))
 
 
 def bits_of(place):
@@ -182,32 +176,35 @@ def bits_of(place):
 
 
 def fields_of(value, labels):
-    """The fields of a record `field`: one, or the two of READ(6) and WRITE(6)."""
+    """The fields of a record `field`. One place may be two fields of the standard."""
     profile, place = value["profile"].name.lower(), value["place"]
     if place.name == "short_extent":
-        places = {"lba": (1, 3, 4, 0), "blocks": (4, 4, 7, 0)}
+        places = [(1, 3, 4, 0), (4, 4, 7, 0)]
+    elif bits_of(place) in labels:
+        places = [bits_of(place)]
     else:
-        places = {name_of(value["value"]): bits_of(place)}
-    return [Field(name, labels[at], profile, *at) for name, at in places.items()]
+        first, last, high, low = bits_of(place)
+        places = [it for it in labels if it[:2] == (first, last) and high >= it[2] and it[3] >= low]
+    if not places:
+        raise ValueError(f"PROFILE names no field at {bits_of(place)}")
+    return [Field(name_of(labels[at]), labels[at], profile, *at) for at in places]
 
 
-def free_fields(names, places):
-    """The named fields in places of free bits. A place may have two names for its parts."""
+def free_fields(labels, places):
+    """The named fields in places of free bits. One place may be two fields."""
     found = []
     for place in places:
         first, last, high, low = bits_of(place)
-        if (high, low) == (4, 0):
-            found.append(Field("group", "GROUP NUMBER", "base", first, last, high, low))
-        for (byte, top, bottom), name in names.items():
+        here = {} if (high, low) != (4, 0) else {(first, high, low): "GROUP NUMBER"}
+        for (byte, top, bottom), label in {**labels, **here}.items():
             if byte == first and high >= top and bottom >= low:
-                label = FREE_LABELS.get(name, name.upper())
-                found.append(Field(name, label, "base", first, last, top, bottom))
+                found.append(Field(name_of(label), label, "base", first, last, top, bottom))
     return found
 
 
-def used_fields(names, places):
+def used_fields(labels, places):
     """The same for bits that the disk knows. Each has a name."""
-    found = free_fields(names, places)
+    found = free_fields(labels, places)
     if len(found) < len(places):
         raise ValueError(f"free bits without a name beside {found}")
     return found
@@ -245,8 +242,6 @@ def labels():
     table = [line.strip("| ").split(" | ") for line in text.split("\n")]
     for commands, fields, _ in table:
         here = {(1, 3, 4, 0): "LOGICAL BLOCK ADDRESS"} if commands.startswith("READ(6)") else {}
-        if commands == "PERSISTENT RESERVE OUT":
-            here[2, 2, 7, 0] = "SCOPE and TYPE"
         for byte, more, mask, name in re.findall(
                 r"(?<![\w:])(\d+)(?:-(\d+))?(?::(\w\w))? ([A-Z][A-Z0-9_ -]*[A-Z0-9])", fields):
             here[places_of(byte, more, mask)] = name
@@ -270,20 +265,18 @@ def rows():
     """The rows of the table, in its order."""
     definitions = Definitions(["Layout", "CdbFields", "FreeBits", "ReservationAction"])
     named, of_fields, found = titles(), labels(), []
-    for pattern, body in definitions.equations["layout"]:
-        variant = re.match(r"\(?command\.(\w+)", pattern)[1]
+    for _, body in definitions.equations["layout"]:
         value = Parser(definitions, body, {"c": Symbol("c", [])}).whole()
         free = value["free"]
-        names = FREE_NAMES.get(free["bits"], {})
+        bits = FREE_LABELS.get(free["bits"], {})
         opcode, actions = value["opcode"], actions_of(definitions, value["action"])
         title = named[opcode, actions[0][0]][0]
         here = of_fields[title if title in of_fields else title.split(", ")[0]]
         fields = [it for field in value["fields"] for it in fields_of(field, here)]
         for action, word in actions:
-            found.append(Row(variant, snake(variant), *named[opcode, action],
-                             value["profile"].name.lower(), opcode, action, word, length_of(opcode), fields,
-                             used_fields(names, free["used"]),
-                             free_fields(names, free["ignored"])))
+            found.append(Row(name_of(title), *named[opcode, action], value["profile"].name.lower(), opcode,
+                             action, word, length_of(opcode), fields, used_fields(bits, free["used"]),
+                             free_fields(bits, free["ignored"])))
     return found
 
 

@@ -1,18 +1,22 @@
 //! The commands of an initiator, by name.
 // embed/rust/generate writes this file.
+use crate::cdb::length_of;
 use crate::{commands, Error, Initiator, Reply};
 
 /// Commands by name. Each takes the arguments of its function in [`commands`], and then data-out if the
-/// command has some.
+/// command has some. It panics where that function does, and if a parameter list is too long for its
+/// length to fit.
 impl<'a> Initiator<'a> {
     /// Executes TEST UNIT READY by [`commands::test_unit_ready`].
     pub fn test_unit_ready(self) -> Result<Reply<'a>, Error> {
-        self.execute(&commands::test_unit_ready(), &[])
+        let cdb = commands::test_unit_ready();
+        self.execute(&cdb, &[])
     }
 
     /// Executes REQUEST SENSE by [`commands::request_sense`].
     pub fn request_sense(self, desc: bool, allocation_length: u8) -> Result<Reply<'a>, Error> {
-        self.execute(&commands::request_sense(desc, allocation_length), &[])
+        let cdb = commands::request_sense(desc, allocation_length);
+        self.execute(&cdb, &[])
     }
 
     /// Executes INQUIRY by [`commands::inquiry`].
@@ -22,39 +26,34 @@ impl<'a> Initiator<'a> {
         page_code: u8,
         allocation_length: u16,
     ) -> Result<Reply<'a>, Error> {
-        self.execute(&commands::inquiry(evpd, page_code, allocation_length), &[])
+        let cdb = commands::inquiry(evpd, page_code, allocation_length);
+        self.execute(&cdb, &[])
     }
 
-    /// Executes MODE SELECT(6) by [`commands::mode_select6`].
-    pub fn mode_select6(
-        self,
-        pf: bool,
-        sp: bool,
-        list_length: u8,
-        data_out: &[u8],
-    ) -> Result<Reply<'a>, Error> {
-        self.execute(&commands::mode_select6(pf, sp, list_length), data_out)
+    /// Executes MODE SELECT(6) by [`commands::mode_select6`]. PARAMETER LIST LENGTH is the length
+    /// of data-out.
+    pub fn mode_select6(self, pf: bool, sp: bool, data_out: &[u8]) -> Result<Reply<'a>, Error> {
+        let cdb = commands::mode_select6(pf, sp, length_of(data_out));
+        self.execute(&cdb, data_out)
     }
 
-    /// Executes MODE SELECT(10) by [`commands::mode_select10`].
-    pub fn mode_select10(
-        self,
-        pf: bool,
-        sp: bool,
-        list_length: u16,
-        data_out: &[u8],
-    ) -> Result<Reply<'a>, Error> {
-        self.execute(&commands::mode_select10(pf, sp, list_length), data_out)
+    /// Executes MODE SELECT(10) by [`commands::mode_select10`]. PARAMETER LIST LENGTH is the length
+    /// of data-out.
+    pub fn mode_select10(self, pf: bool, sp: bool, data_out: &[u8]) -> Result<Reply<'a>, Error> {
+        let cdb = commands::mode_select10(pf, sp, length_of(data_out));
+        self.execute(&cdb, data_out)
     }
 
     /// Executes MODE SENSE(6) by [`commands::mode_sense6`].
     pub fn mode_sense6(self, fields: commands::ModeSense6) -> Result<Reply<'a>, Error> {
-        self.execute(&commands::mode_sense6(fields), &[])
+        let cdb = commands::mode_sense6(fields);
+        self.execute(&cdb, &[])
     }
 
     /// Executes MODE SENSE(10) by [`commands::mode_sense10`].
     pub fn mode_sense10(self, fields: commands::ModeSense10) -> Result<Reply<'a>, Error> {
-        self.execute(&commands::mode_sense10(fields), &[])
+        let cdb = commands::mode_sense10(fields);
+        self.execute(&cdb, &[])
     }
 
     /// Executes LOG SENSE by [`commands::log_sense`].
@@ -64,12 +63,18 @@ impl<'a> Initiator<'a> {
         subpage_code: u8,
         allocation_length: u16,
     ) -> Result<Reply<'a>, Error> {
-        self.execute(&commands::log_sense(page_code, subpage_code, allocation_length), &[])
+        let cdb = commands::log_sense(page_code, subpage_code, allocation_length);
+        self.execute(&cdb, &[])
     }
 
     /// Executes REPORT LUNS by [`commands::report_luns`].
-    pub fn report_luns(self, select: u8, allocation_length: u32) -> Result<Reply<'a>, Error> {
-        self.execute(&commands::report_luns(select, allocation_length), &[])
+    pub fn report_luns(
+        self,
+        select_report: u8,
+        allocation_length: u32,
+    ) -> Result<Reply<'a>, Error> {
+        let cdb = commands::report_luns(select_report, allocation_length);
+        self.execute(&cdb, &[])
     }
 
     /// Executes REPORT SUPPORTED OPERATION CODES by [`commands::report_supported_operation_codes`].
@@ -77,30 +82,30 @@ impl<'a> Initiator<'a> {
         self,
         fields: commands::ReportSupportedOperationCodes,
     ) -> Result<Reply<'a>, Error> {
-        self.execute(&commands::report_supported_operation_codes(fields), &[])
+        let cdb = commands::report_supported_operation_codes(fields);
+        self.execute(&cdb, &[])
     }
 
     /// Executes REPORT SUPPORTED TASK MANAGEMENT FUNCTIONS by
     /// [`commands::report_supported_task_management_functions`].
     pub fn report_supported_task_management_functions(
         self,
-        timeouts: bool,
+        repd: bool,
         allocation_length: u32,
     ) -> Result<Reply<'a>, Error> {
-        self.execute(
-            &commands::report_supported_task_management_functions(timeouts, allocation_length),
-            &[],
-        )
+        let cdb = commands::report_supported_task_management_functions(repd, allocation_length);
+        self.execute(&cdb, &[])
     }
 
     /// Executes SEND DIAGNOSTIC by [`commands::send_diagnostic`].
     pub fn send_diagnostic(
         self,
-        code: u8,
-        self_test: bool,
-        list_length: u16,
+        self_test_code: u8,
+        selftest: bool,
+        parameter_list_length: u16,
     ) -> Result<Reply<'a>, Error> {
-        self.execute(&commands::send_diagnostic(code, self_test, list_length), &[])
+        let cdb = commands::send_diagnostic(self_test_code, selftest, parameter_list_length);
+        self.execute(&cdb, &[])
     }
 
     /// Executes COMPARE AND WRITE by [`commands::compare_and_write`].
@@ -110,93 +115,114 @@ impl<'a> Initiator<'a> {
         blocks: u8,
         data_out: &[u8],
     ) -> Result<Reply<'a>, Error> {
-        self.execute(&commands::compare_and_write(lba, blocks), data_out)
+        let cdb = commands::compare_and_write(lba, blocks);
+        self.execute(&cdb, data_out)
     }
 
     /// Executes FORMAT UNIT by [`commands::format_unit`].
     pub fn format_unit(
         self,
-        long_list: bool,
-        format_data: bool,
+        longlist: bool,
+        fmtdata: bool,
         data_out: &[u8],
     ) -> Result<Reply<'a>, Error> {
-        self.execute(&commands::format_unit(long_list, format_data), data_out)
+        let cdb = commands::format_unit(longlist, fmtdata);
+        self.execute(&cdb, data_out)
     }
 
-    /// Executes ORWRITE(16) by [`commands::or_write16`].
-    pub fn or_write16(self, lba: u64, blocks: u32, data_out: &[u8]) -> Result<Reply<'a>, Error> {
-        self.execute(&commands::or_write16(lba, blocks), data_out)
+    /// Executes ORWRITE(16) by [`commands::orwrite16`].
+    pub fn orwrite16(self, lba: u64, blocks: u32, data_out: &[u8]) -> Result<Reply<'a>, Error> {
+        let cdb = commands::orwrite16(lba, blocks);
+        self.execute(&cdb, data_out)
     }
 
     /// Executes PRE-FETCH(10) by [`commands::pre_fetch10`].
     pub fn pre_fetch10(self, lba: u32, blocks: u16) -> Result<Reply<'a>, Error> {
-        self.execute(&commands::pre_fetch10(lba, blocks), &[])
+        let cdb = commands::pre_fetch10(lba, blocks);
+        self.execute(&cdb, &[])
     }
 
     /// Executes PRE-FETCH(16) by [`commands::pre_fetch16`].
     pub fn pre_fetch16(self, lba: u64, blocks: u32) -> Result<Reply<'a>, Error> {
-        self.execute(&commands::pre_fetch16(lba, blocks), &[])
+        let cdb = commands::pre_fetch16(lba, blocks);
+        self.execute(&cdb, &[])
     }
 
     /// Executes READ(6) by [`commands::read6`].
     pub fn read6(self, lba: u32, blocks: u8) -> Result<Reply<'a>, Error> {
-        self.execute(&commands::read6(lba, blocks), &[])
+        let cdb = commands::read6(lba, blocks);
+        self.execute(&cdb, &[])
     }
 
     /// Executes READ(10) by [`commands::read10`].
     pub fn read10(self, lba: u32, blocks: u16) -> Result<Reply<'a>, Error> {
-        self.execute(&commands::read10(lba, blocks), &[])
+        let cdb = commands::read10(lba, blocks);
+        self.execute(&cdb, &[])
     }
 
     /// Executes READ(12) by [`commands::read12`].
     pub fn read12(self, lba: u32, blocks: u32) -> Result<Reply<'a>, Error> {
-        self.execute(&commands::read12(lba, blocks), &[])
+        let cdb = commands::read12(lba, blocks);
+        self.execute(&cdb, &[])
     }
 
     /// Executes READ(16) by [`commands::read16`].
     pub fn read16(self, lba: u64, blocks: u32) -> Result<Reply<'a>, Error> {
-        self.execute(&commands::read16(lba, blocks), &[])
+        let cdb = commands::read16(lba, blocks);
+        self.execute(&cdb, &[])
     }
 
     /// Executes WRITE(6) by [`commands::write6`].
     pub fn write6(self, lba: u32, blocks: u8, data_out: &[u8]) -> Result<Reply<'a>, Error> {
-        self.execute(&commands::write6(lba, blocks), data_out)
+        let cdb = commands::write6(lba, blocks);
+        self.execute(&cdb, data_out)
     }
 
     /// Executes WRITE(10) by [`commands::write10`].
     pub fn write10(self, lba: u32, blocks: u16, data_out: &[u8]) -> Result<Reply<'a>, Error> {
-        self.execute(&commands::write10(lba, blocks), data_out)
+        let cdb = commands::write10(lba, blocks);
+        self.execute(&cdb, data_out)
     }
 
     /// Executes WRITE(12) by [`commands::write12`].
     pub fn write12(self, lba: u32, blocks: u32, data_out: &[u8]) -> Result<Reply<'a>, Error> {
-        self.execute(&commands::write12(lba, blocks), data_out)
+        let cdb = commands::write12(lba, blocks);
+        self.execute(&cdb, data_out)
     }
 
     /// Executes WRITE(16) by [`commands::write16`].
     pub fn write16(self, lba: u64, blocks: u32, data_out: &[u8]) -> Result<Reply<'a>, Error> {
-        self.execute(&commands::write16(lba, blocks), data_out)
+        let cdb = commands::write16(lba, blocks);
+        self.execute(&cdb, data_out)
     }
 
     /// Executes READ CAPACITY(10) by [`commands::read_capacity10`].
     pub fn read_capacity10(self) -> Result<Reply<'a>, Error> {
-        self.execute(&commands::read_capacity10(), &[])
+        let cdb = commands::read_capacity10();
+        self.execute(&cdb, &[])
     }
 
     /// Executes READ CAPACITY(16) by [`commands::read_capacity16`].
     pub fn read_capacity16(self, allocation_length: u32) -> Result<Reply<'a>, Error> {
-        self.execute(&commands::read_capacity16(allocation_length), &[])
+        let cdb = commands::read_capacity16(allocation_length);
+        self.execute(&cdb, &[])
     }
 
     /// Executes READ DEFECT DATA(10) by [`commands::read_defect_data10`].
     pub fn read_defect_data10(
         self,
-        plist: bool,
-        glist: bool,
-        format: u8,
+        req_plist: bool,
+        req_glist: bool,
+        defect_list_format: u8,
         allocation_length: u16,
     ) -> Result<Reply<'a>, Error> {
-        self.execute(&commands::read_defect_data10(plist, glist, format, allocation_length), &[])
+        let cdb = commands::read_defect_data10(
+            req_plist,
+            req_glist,
+            defect_list_format,
+            allocation_length,
+        );
+        self.execute(&cdb, &[])
     }
 
     /// Executes READ DEFECT DATA(12) by [`commands::read_defect_data12`].
@@ -204,22 +230,32 @@ impl<'a> Initiator<'a> {
         self,
         fields: commands::ReadDefectData12,
     ) -> Result<Reply<'a>, Error> {
-        self.execute(&commands::read_defect_data12(fields), &[])
+        let cdb = commands::read_defect_data12(fields);
+        self.execute(&cdb, &[])
     }
 
     /// Executes SANITIZE, BLOCK ERASE by [`commands::sanitize_block_erase`].
-    pub fn sanitize_block_erase(self, list_length: u16) -> Result<Reply<'a>, Error> {
-        self.execute(&commands::sanitize_block_erase(list_length), &[])
+    pub fn sanitize_block_erase(self, parameter_list_length: u16) -> Result<Reply<'a>, Error> {
+        let cdb = commands::sanitize_block_erase(parameter_list_length);
+        self.execute(&cdb, &[])
     }
 
     /// Executes SANITIZE, CRYPTOGRAPHIC ERASE by [`commands::sanitize_cryptographic_erase`].
-    pub fn sanitize_cryptographic_erase(self, list_length: u16) -> Result<Reply<'a>, Error> {
-        self.execute(&commands::sanitize_cryptographic_erase(list_length), &[])
+    pub fn sanitize_cryptographic_erase(
+        self,
+        parameter_list_length: u16,
+    ) -> Result<Reply<'a>, Error> {
+        let cdb = commands::sanitize_cryptographic_erase(parameter_list_length);
+        self.execute(&cdb, &[])
     }
 
     /// Executes SANITIZE, EXIT FAILURE MODE by [`commands::sanitize_exit_failure_mode`].
-    pub fn sanitize_exit_failure_mode(self, list_length: u16) -> Result<Reply<'a>, Error> {
-        self.execute(&commands::sanitize_exit_failure_mode(list_length), &[])
+    pub fn sanitize_exit_failure_mode(
+        self,
+        parameter_list_length: u16,
+    ) -> Result<Reply<'a>, Error> {
+        let cdb = commands::sanitize_exit_failure_mode(parameter_list_length);
+        self.execute(&cdb, &[])
     }
 
     /// Executes START STOP UNIT by [`commands::start_stop_unit`].
@@ -230,120 +266,129 @@ impl<'a> Initiator<'a> {
         loej: bool,
         start: bool,
     ) -> Result<Reply<'a>, Error> {
-        self.execute(
-            &commands::start_stop_unit(power_condition_modifier, power_condition, loej, start),
-            &[],
-        )
+        let cdb = commands::start_stop_unit(power_condition_modifier, power_condition, loej, start);
+        self.execute(&cdb, &[])
     }
 
     /// Executes SYNCHRONIZE CACHE(10) by [`commands::synchronize_cache10`].
     pub fn synchronize_cache10(self, lba: u32, blocks: u16) -> Result<Reply<'a>, Error> {
-        self.execute(&commands::synchronize_cache10(lba, blocks), &[])
+        let cdb = commands::synchronize_cache10(lba, blocks);
+        self.execute(&cdb, &[])
     }
 
     /// Executes SYNCHRONIZE CACHE(16) by [`commands::synchronize_cache16`].
     pub fn synchronize_cache16(self, lba: u64, blocks: u32) -> Result<Reply<'a>, Error> {
-        self.execute(&commands::synchronize_cache16(lba, blocks), &[])
+        let cdb = commands::synchronize_cache16(lba, blocks);
+        self.execute(&cdb, &[])
     }
 
     /// Executes VERIFY(10) by [`commands::verify10`].
     pub fn verify10(
         self,
-        byte_check: u8,
         lba: u32,
         blocks: u16,
+        bytchk: u8,
         data_out: &[u8],
     ) -> Result<Reply<'a>, Error> {
-        self.execute(&commands::verify10(byte_check, lba, blocks), data_out)
+        let cdb = commands::verify10(lba, blocks, bytchk);
+        self.execute(&cdb, data_out)
     }
 
     /// Executes VERIFY(12) by [`commands::verify12`].
     pub fn verify12(
         self,
-        byte_check: u8,
         lba: u32,
         blocks: u32,
+        bytchk: u8,
         data_out: &[u8],
     ) -> Result<Reply<'a>, Error> {
-        self.execute(&commands::verify12(byte_check, lba, blocks), data_out)
+        let cdb = commands::verify12(lba, blocks, bytchk);
+        self.execute(&cdb, data_out)
     }
 
     /// Executes VERIFY(16) by [`commands::verify16`].
     pub fn verify16(
         self,
-        byte_check: u8,
         lba: u64,
         blocks: u32,
+        bytchk: u8,
         data_out: &[u8],
     ) -> Result<Reply<'a>, Error> {
-        self.execute(&commands::verify16(byte_check, lba, blocks), data_out)
+        let cdb = commands::verify16(lba, blocks, bytchk);
+        self.execute(&cdb, data_out)
     }
 
     /// Executes WRITE AND VERIFY(10) by [`commands::write_and_verify10`].
     pub fn write_and_verify10(
         self,
-        byte_check: u8,
         lba: u32,
         blocks: u16,
+        bytchk: u8,
         data_out: &[u8],
     ) -> Result<Reply<'a>, Error> {
-        self.execute(&commands::write_and_verify10(byte_check, lba, blocks), data_out)
+        let cdb = commands::write_and_verify10(lba, blocks, bytchk);
+        self.execute(&cdb, data_out)
     }
 
     /// Executes WRITE AND VERIFY(12) by [`commands::write_and_verify12`].
     pub fn write_and_verify12(
         self,
-        byte_check: u8,
         lba: u32,
         blocks: u32,
+        bytchk: u8,
         data_out: &[u8],
     ) -> Result<Reply<'a>, Error> {
-        self.execute(&commands::write_and_verify12(byte_check, lba, blocks), data_out)
+        let cdb = commands::write_and_verify12(lba, blocks, bytchk);
+        self.execute(&cdb, data_out)
     }
 
     /// Executes WRITE AND VERIFY(16) by [`commands::write_and_verify16`].
     pub fn write_and_verify16(
         self,
-        byte_check: u8,
         lba: u64,
         blocks: u32,
+        bytchk: u8,
         data_out: &[u8],
     ) -> Result<Reply<'a>, Error> {
-        self.execute(&commands::write_and_verify16(byte_check, lba, blocks), data_out)
+        let cdb = commands::write_and_verify16(lba, blocks, bytchk);
+        self.execute(&cdb, data_out)
     }
 
     /// Executes WRITE ATOMIC(16) by [`commands::write_atomic16`].
     pub fn write_atomic16(
         self,
         lba: u64,
-        boundary: u16,
         blocks: u16,
+        atomic_boundary: u16,
         data_out: &[u8],
     ) -> Result<Reply<'a>, Error> {
-        self.execute(&commands::write_atomic16(lba, boundary, blocks), data_out)
+        let cdb = commands::write_atomic16(lba, blocks, atomic_boundary);
+        self.execute(&cdb, data_out)
     }
 
     /// Executes WRITE LONG(10) by [`commands::write_long10`].
     pub fn write_long10(
         self,
+        lba: u32,
         cor_dis: bool,
         wr_uncor: bool,
-        lba: u32,
-        length: u16,
+        byte_transfer_length: u16,
     ) -> Result<Reply<'a>, Error> {
-        self.execute(&commands::write_long10(cor_dis, wr_uncor, lba, length), &[])
+        let cdb = commands::write_long10(lba, cor_dis, wr_uncor, byte_transfer_length);
+        self.execute(&cdb, &[])
     }
 
     /// Executes WRITE SAME(10) by [`commands::write_same10`].
     pub fn write_same10(
         self,
-        anchor: bool,
-        unmap: bool,
         lba: u32,
         blocks: u16,
+        anchor: bool,
+        unmap: bool,
         data_out: &[u8],
     ) -> Result<Reply<'a>, Error> {
-        self.execute(&commands::write_same10(anchor, unmap, lba, blocks), data_out)
+        let cdb = commands::write_same10(lba, blocks, anchor, unmap);
+        self.execute(&cdb, data_out)
     }
 
     /// Executes WRITE SAME(16) by [`commands::write_same16`].
@@ -352,41 +397,43 @@ impl<'a> Initiator<'a> {
         fields: commands::WriteSame16,
         data_out: &[u8],
     ) -> Result<Reply<'a>, Error> {
-        self.execute(&commands::write_same16(fields), data_out)
+        let cdb = commands::write_same16(fields);
+        self.execute(&cdb, data_out)
     }
 
-    /// Executes UNMAP by [`commands::unmap`].
-    pub fn unmap(
-        self,
-        anchor: bool,
-        list_length: u16,
-        data_out: &[u8],
-    ) -> Result<Reply<'a>, Error> {
-        self.execute(&commands::unmap(anchor, list_length), data_out)
+    /// Executes UNMAP by [`commands::unmap`]. PARAMETER LIST LENGTH is the length of data-out.
+    pub fn unmap(self, anchor: bool, data_out: &[u8]) -> Result<Reply<'a>, Error> {
+        let cdb = commands::unmap(anchor, length_of(data_out));
+        self.execute(&cdb, data_out)
     }
 
     /// Executes GET LBA STATUS by [`commands::get_lba_status`].
-    pub fn get_lba_status(self, start: u64, allocation_length: u32) -> Result<Reply<'a>, Error> {
-        self.execute(&commands::get_lba_status(start, allocation_length), &[])
+    pub fn get_lba_status(self, lba: u64, allocation_length: u32) -> Result<Reply<'a>, Error> {
+        let cdb = commands::get_lba_status(lba, allocation_length);
+        self.execute(&cdb, &[])
     }
 
     /// Executes PERSISTENT RESERVE IN by [`commands::persistent_reserve_in`].
     pub fn persistent_reserve_in(
         self,
-        action: u8,
+        service_action: u8,
         allocation_length: u16,
     ) -> Result<Reply<'a>, Error> {
-        self.execute(&commands::persistent_reserve_in(action, allocation_length), &[])
+        let cdb = commands::persistent_reserve_in(service_action, allocation_length);
+        self.execute(&cdb, &[])
     }
 
-    /// Executes PERSISTENT RESERVE OUT by [`commands::persistent_reserve_out`].
+    /// Executes PERSISTENT RESERVE OUT by [`commands::persistent_reserve_out`]. PARAMETER LIST
+    /// LENGTH is the length of data-out.
     pub fn persistent_reserve_out(
         self,
-        action: u8,
-        scope_type: u8,
-        list_length: u32,
+        service_action: u8,
+        scope: u8,
+        type_: u8,
         data_out: &[u8],
     ) -> Result<Reply<'a>, Error> {
-        self.execute(&commands::persistent_reserve_out(action, scope_type, list_length), data_out)
+        let cdb =
+            commands::persistent_reserve_out(service_action, scope, type_, length_of(data_out));
+        self.execute(&cdb, data_out)
     }
 }

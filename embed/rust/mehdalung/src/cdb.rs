@@ -43,3 +43,11 @@ impl<const N: usize> Cdb<N> {
         self.0
     }
 }
+
+/// The length of a parameter list, as the type of its field.
+pub(crate) fn length_of<T: TryFrom<usize>>(list: &[u8]) -> T {
+    match T::try_from(list.len()) {
+        Ok(length) => length,
+        Err(_) => panic!("the parameter list is too long"),
+    }
+}

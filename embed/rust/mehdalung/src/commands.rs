@@ -45,18 +45,18 @@ pub const fn inquiry(evpd: bool, page_code: u8, allocation_length: u16) -> [u8; 
 ///
 /// - `pf`: PF, bit 4 of byte 1
 /// - `sp`: SP, bit 0 of byte 1
-/// - `list_length`: PARAMETER LIST LENGTH, byte 4
-pub const fn mode_select6(pf: bool, sp: bool, list_length: u8) -> [u8; 6] {
-    Cdb::of(0x15).bit(1, 4, pf).bit(1, 0, sp).number(4, 4, list_length as u64).end()
+/// - `parameter_list_length`: PARAMETER LIST LENGTH, byte 4
+pub const fn mode_select6(pf: bool, sp: bool, parameter_list_length: u8) -> [u8; 6] {
+    Cdb::of(0x15).bit(1, 4, pf).bit(1, 0, sp).number(4, 4, parameter_list_length as u64).end()
 }
 
 /// MODE SELECT(10), operation code 55h (SPC-4, 6.12).
 ///
 /// - `pf`: PF, bit 4 of byte 1
 /// - `sp`: SP, bit 0 of byte 1
-/// - `list_length`: PARAMETER LIST LENGTH, bytes 7 to 8
-pub const fn mode_select10(pf: bool, sp: bool, list_length: u16) -> [u8; 10] {
-    Cdb::of(0x55).bit(1, 4, pf).bit(1, 0, sp).number(7, 8, list_length as u64).end()
+/// - `parameter_list_length`: PARAMETER LIST LENGTH, bytes 7 to 8
+pub const fn mode_select10(pf: bool, sp: bool, parameter_list_length: u16) -> [u8; 10] {
+    Cdb::of(0x55).bit(1, 4, pf).bit(1, 0, sp).number(7, 8, parameter_list_length as u64).end()
 }
 
 /// The fields of MODE SENSE(6), operation code 1Ah (SPC-4, 6.13).
@@ -67,7 +67,7 @@ pub struct ModeSense6 {
     /// DBD, bit 3 of byte 1.
     pub dbd: bool,
     /// PC, bits 7 to 6 of byte 2.
-    pub page_control: u8,
+    pub pc: u8,
     /// PAGE CODE, bits 5 to 0 of byte 2.
     pub page_code: u8,
     /// SUBPAGE CODE, byte 3.
@@ -81,11 +81,11 @@ impl ModeSense6 {
     ///
     /// # Panics
     ///
-    /// If `page_control` has more than 2 bits, or `page_code` has more than 6 bits.
+    /// If `pc` has more than 2 bits, or `page_code` has more than 6 bits.
     pub const fn cdb(self) -> [u8; 6] {
         Cdb::of(0x1A)
             .bit(1, 3, self.dbd)
-            .bits(2, 7, 6, self.page_control)
+            .bits(2, 7, 6, self.pc)
             .bits(2, 5, 0, self.page_code)
             .number(3, 3, self.subpage_code as u64)
             .number(4, 4, self.allocation_length as u64)
@@ -95,13 +95,7 @@ impl ModeSense6 {
 
 impl Default for ModeSense6 {
     fn default() -> Self {
-        ModeSense6 {
-            dbd: false,
-            page_control: 0,
-            page_code: 0,
-            subpage_code: 0,
-            allocation_length: u8::MAX,
-        }
+        ModeSense6 { dbd: false, pc: 0, page_code: 0, subpage_code: 0, allocation_length: u8::MAX }
     }
 }
 
@@ -111,7 +105,7 @@ impl Default for ModeSense6 {
 ///
 /// # Panics
 ///
-/// If `page_control` has more than 2 bits, or `page_code` has more than 6 bits.
+/// If `pc` has more than 2 bits, or `page_code` has more than 6 bits.
 pub const fn mode_sense6(fields: ModeSense6) -> [u8; 6] {
     fields.cdb()
 }
@@ -126,7 +120,7 @@ pub struct ModeSense10 {
     /// DBD, bit 3 of byte 1.
     pub dbd: bool,
     /// PC, bits 7 to 6 of byte 2.
-    pub page_control: u8,
+    pub pc: u8,
     /// PAGE CODE, bits 5 to 0 of byte 2.
     pub page_code: u8,
     /// SUBPAGE CODE, byte 3.
@@ -140,12 +134,12 @@ impl ModeSense10 {
     ///
     /// # Panics
     ///
-    /// If `page_control` has more than 2 bits, or `page_code` has more than 6 bits.
+    /// If `pc` has more than 2 bits, or `page_code` has more than 6 bits.
     pub const fn cdb(self) -> [u8; 10] {
         Cdb::of(0x5A)
             .bit(1, 4, self.llbaa)
             .bit(1, 3, self.dbd)
-            .bits(2, 7, 6, self.page_control)
+            .bits(2, 7, 6, self.pc)
             .bits(2, 5, 0, self.page_code)
             .number(3, 3, self.subpage_code as u64)
             .number(7, 8, self.allocation_length as u64)
@@ -158,7 +152,7 @@ impl Default for ModeSense10 {
         ModeSense10 {
             llbaa: false,
             dbd: false,
-            page_control: 0,
+            pc: 0,
             page_code: 0,
             subpage_code: 0,
             allocation_length: u16::MAX,
@@ -172,7 +166,7 @@ impl Default for ModeSense10 {
 ///
 /// # Panics
 ///
-/// If `page_control` has more than 2 bits, or `page_code` has more than 6 bits.
+/// If `pc` has more than 2 bits, or `page_code` has more than 6 bits.
 pub const fn mode_sense10(fields: ModeSense10) -> [u8; 10] {
     fields.cdb()
 }
@@ -189,7 +183,7 @@ pub struct LogSense {
     /// ALLOCATION LENGTH, bytes 7 to 8.
     pub allocation_length: u16,
     /// PC, bits 7 to 6 of byte 2.
-    pub page_control: u8,
+    pub pc: u8,
 }
 
 impl LogSense {
@@ -197,20 +191,20 @@ impl LogSense {
     ///
     /// # Panics
     ///
-    /// If `page_code` has more than 6 bits, or `page_control` has more than 2 bits.
+    /// If `page_code` has more than 6 bits, or `pc` has more than 2 bits.
     pub const fn cdb(self) -> [u8; 10] {
         Cdb::of(0x4D)
             .bits(2, 5, 0, self.page_code)
             .number(3, 3, self.subpage_code as u64)
             .number(7, 8, self.allocation_length as u64)
-            .bits(2, 7, 6, self.page_control)
+            .bits(2, 7, 6, self.pc)
             .end()
     }
 }
 
 impl Default for LogSense {
     fn default() -> Self {
-        LogSense { page_code: 0, subpage_code: 0, allocation_length: u16::MAX, page_control: 0 }
+        LogSense { page_code: 0, subpage_code: 0, allocation_length: u16::MAX, pc: 0 }
     }
 }
 
@@ -225,15 +219,15 @@ impl Default for LogSense {
 ///
 /// If `page_code` has more than 6 bits.
 pub const fn log_sense(page_code: u8, subpage_code: u8, allocation_length: u16) -> [u8; 10] {
-    LogSense { page_code, subpage_code, allocation_length, page_control: 0 }.cdb()
+    LogSense { page_code, subpage_code, allocation_length, pc: 0 }.cdb()
 }
 
 /// REPORT LUNS, operation code A0h (SPC-4, 6.33). Only an extended disk has it.
 ///
-/// - `select`: SELECT REPORT, byte 2
+/// - `select_report`: SELECT REPORT, byte 2
 /// - `allocation_length`: ALLOCATION LENGTH, bytes 6 to 9
-pub const fn report_luns(select: u8, allocation_length: u32) -> [u8; 12] {
-    Cdb::of(0xA0).number(2, 2, select as u64).number(6, 9, allocation_length as u64).end()
+pub const fn report_luns(select_report: u8, allocation_length: u32) -> [u8; 12] {
+    Cdb::of(0xA0).number(2, 2, select_report as u64).number(6, 9, allocation_length as u64).end()
 }
 
 /// The fields of REPORT SUPPORTED OPERATION CODES, operation code A3h, service action 0Ch (SPC-4,
@@ -243,13 +237,13 @@ pub const fn report_luns(select: u8, allocation_length: u32) -> [u8; 12] {
 #[derive(Clone, Copy, Debug, PartialEq, Eq)]
 pub struct ReportSupportedOperationCodes {
     /// RCTD, bit 7 of byte 2.
-    pub timeouts: bool,
+    pub rctd: bool,
     /// REPORTING OPTIONS, bits 2 to 0 of byte 2.
-    pub options: u8,
+    pub reporting_options: u8,
     /// REQUESTED OPERATION CODE, byte 3.
-    pub opcode: u8,
+    pub requested_operation_code: u8,
     /// REQUESTED SERVICE ACTION, bytes 4 to 5.
-    pub action: u16,
+    pub requested_service_action: u16,
     /// ALLOCATION LENGTH, bytes 6 to 9.
     pub allocation_length: u32,
 }
@@ -259,14 +253,14 @@ impl ReportSupportedOperationCodes {
     ///
     /// # Panics
     ///
-    /// If `options` has more than 3 bits.
+    /// If `reporting_options` has more than 3 bits.
     pub const fn cdb(self) -> [u8; 12] {
         Cdb::of(0xA3)
             .bits(1, 4, 0, 0x0C)
-            .bit(2, 7, self.timeouts)
-            .bits(2, 2, 0, self.options)
-            .number(3, 3, self.opcode as u64)
-            .number(4, 5, self.action as u64)
+            .bit(2, 7, self.rctd)
+            .bits(2, 2, 0, self.reporting_options)
+            .number(3, 3, self.requested_operation_code as u64)
+            .number(4, 5, self.requested_service_action as u64)
             .number(6, 9, self.allocation_length as u64)
             .end()
     }
@@ -275,10 +269,10 @@ impl ReportSupportedOperationCodes {
 impl Default for ReportSupportedOperationCodes {
     fn default() -> Self {
         ReportSupportedOperationCodes {
-            timeouts: false,
-            options: 0,
-            opcode: 0,
-            action: 0,
+            rctd: false,
+            reporting_options: 0,
+            requested_operation_code: 0,
+            requested_service_action: 0,
             allocation_length: u32::MAX,
         }
     }
@@ -291,7 +285,7 @@ impl Default for ReportSupportedOperationCodes {
 ///
 /// # Panics
 ///
-/// If `options` has more than 3 bits.
+/// If `reporting_options` has more than 3 bits.
 pub const fn report_supported_operation_codes(fields: ReportSupportedOperationCodes) -> [u8; 12] {
     fields.cdb()
 }
@@ -299,30 +293,34 @@ pub const fn report_supported_operation_codes(fields: ReportSupportedOperationCo
 /// REPORT SUPPORTED TASK MANAGEMENT FUNCTIONS, operation code A3h, service action 0Dh (SPC-4,
 /// 6.36). Only an extended disk has it.
 ///
-/// - `timeouts`: REPD, bit 7 of byte 2
+/// - `repd`: REPD, bit 7 of byte 2
 /// - `allocation_length`: ALLOCATION LENGTH, bytes 6 to 9
 pub const fn report_supported_task_management_functions(
-    timeouts: bool,
+    repd: bool,
     allocation_length: u32,
 ) -> [u8; 12] {
-    Cdb::of(0xA3)
-        .bits(1, 4, 0, 0x0D)
-        .bit(2, 7, timeouts)
-        .number(6, 9, allocation_length as u64)
-        .end()
+    Cdb::of(0xA3).bits(1, 4, 0, 0x0D).bit(2, 7, repd).number(6, 9, allocation_length as u64).end()
 }
 
 /// SEND DIAGNOSTIC, operation code 1Dh (SPC-4, 6.42). Only an extended disk has it.
 ///
-/// - `code`: SELF-TEST CODE, bits 7 to 5 of byte 1
-/// - `self_test`: SELFTEST, bit 2 of byte 1
-/// - `list_length`: PARAMETER LIST LENGTH, bytes 3 to 4
+/// - `self_test_code`: SELF-TEST CODE, bits 7 to 5 of byte 1
+/// - `selftest`: SELFTEST, bit 2 of byte 1
+/// - `parameter_list_length`: PARAMETER LIST LENGTH, bytes 3 to 4
 ///
 /// # Panics
 ///
-/// If `code` has more than 3 bits.
-pub const fn send_diagnostic(code: u8, self_test: bool, list_length: u16) -> [u8; 6] {
-    Cdb::of(0x1D).bits(1, 7, 5, code).bit(1, 2, self_test).number(3, 4, list_length as u64).end()
+/// If `self_test_code` has more than 3 bits.
+pub const fn send_diagnostic(
+    self_test_code: u8,
+    selftest: bool,
+    parameter_list_length: u16,
+) -> [u8; 6] {
+    Cdb::of(0x1D)
+        .bits(1, 7, 5, self_test_code)
+        .bit(1, 2, selftest)
+        .number(3, 4, parameter_list_length as u64)
+        .end()
 }
 
 /// The fields of COMPARE AND WRITE, operation code 89h (SBC-3, 5.2). Only an extended disk has it.
@@ -361,15 +359,15 @@ pub const fn compare_and_write(lba: u64, blocks: u8) -> [u8; 16] {
 
 /// FORMAT UNIT, operation code 04h (SBC-3, 5.3). Only an extended disk has it.
 ///
-/// - `long_list`: LONGLIST, bit 5 of byte 1
-/// - `format_data`: FMTDATA, bit 4 of byte 1
-pub const fn format_unit(long_list: bool, format_data: bool) -> [u8; 6] {
-    Cdb::of(0x04).bit(1, 5, long_list).bit(1, 4, format_data).end()
+/// - `longlist`: LONGLIST, bit 5 of byte 1
+/// - `fmtdata`: FMTDATA, bit 4 of byte 1
+pub const fn format_unit(longlist: bool, fmtdata: bool) -> [u8; 6] {
+    Cdb::of(0x04).bit(1, 5, longlist).bit(1, 4, fmtdata).end()
 }
 
 /// The fields of ORWRITE(16), operation code 8Bh (SBC-3, 5.5). Only an extended disk has it.
 #[derive(Clone, Copy, Debug, Default, PartialEq, Eq)]
-pub struct OrWrite16 {
+pub struct Orwrite16 {
     /// LOGICAL BLOCK ADDRESS, bytes 2 to 9.
     pub lba: u64,
     /// TRANSFER LENGTH, bytes 10 to 13.
@@ -380,7 +378,7 @@ pub struct OrWrite16 {
     pub fua: bool,
 }
 
-impl OrWrite16 {
+impl Orwrite16 {
     /// Returns the CDB.
     pub const fn cdb(self) -> [u8; 16] {
         Cdb::of(0x8B)
@@ -392,13 +390,13 @@ impl OrWrite16 {
     }
 }
 
-/// ORWRITE(16), operation code 8Bh (SBC-3, 5.5). Only an extended disk has it. [`OrWrite16`] has
+/// ORWRITE(16), operation code 8Bh (SBC-3, 5.5). Only an extended disk has it. [`Orwrite16`] has
 /// DPO and FUA, too.
 ///
 /// - `lba`: LOGICAL BLOCK ADDRESS, bytes 2 to 9
 /// - `blocks`: TRANSFER LENGTH, bytes 10 to 13
-pub const fn or_write16(lba: u64, blocks: u32) -> [u8; 16] {
-    OrWrite16 { lba, blocks, dpo: false, fua: false }.cdb()
+pub const fn orwrite16(lba: u64, blocks: u32) -> [u8; 16] {
+    Orwrite16 { lba, blocks, dpo: false, fua: false }.cdb()
 }
 
 /// The fields of PRE-FETCH(10), operation code 34h (SBC-3, 5.8). Only an extended disk has it.
@@ -701,24 +699,24 @@ pub const fn read_capacity16(allocation_length: u32) -> [u8; 16] {
 
 /// READ DEFECT DATA(10), operation code 37h (SBC-3, 5.17). Only an extended disk has it.
 ///
-/// - `plist`: REQ_PLIST, bit 4 of byte 2
-/// - `glist`: REQ_GLIST, bit 3 of byte 2
-/// - `format`: DEFECT LIST FORMAT, bits 2 to 0 of byte 2
+/// - `req_plist`: REQ_PLIST, bit 4 of byte 2
+/// - `req_glist`: REQ_GLIST, bit 3 of byte 2
+/// - `defect_list_format`: DEFECT LIST FORMAT, bits 2 to 0 of byte 2
 /// - `allocation_length`: ALLOCATION LENGTH, bytes 7 to 8
 ///
 /// # Panics
 ///
-/// If `format` has more than 3 bits.
+/// If `defect_list_format` has more than 3 bits.
 pub const fn read_defect_data10(
-    plist: bool,
-    glist: bool,
-    format: u8,
+    req_plist: bool,
+    req_glist: bool,
+    defect_list_format: u8,
     allocation_length: u16,
 ) -> [u8; 10] {
     Cdb::of(0x37)
-        .bit(2, 4, plist)
-        .bit(2, 3, glist)
-        .bits(2, 2, 0, format)
+        .bit(2, 4, req_plist)
+        .bit(2, 3, req_glist)
+        .bits(2, 2, 0, defect_list_format)
         .number(7, 8, allocation_length as u64)
         .end()
 }
@@ -730,13 +728,13 @@ pub const fn read_defect_data10(
 #[derive(Clone, Copy, Debug, PartialEq, Eq)]
 pub struct ReadDefectData12 {
     /// REQ_PLIST, bit 4 of byte 1.
-    pub plist: bool,
+    pub req_plist: bool,
     /// REQ_GLIST, bit 3 of byte 1.
-    pub glist: bool,
+    pub req_glist: bool,
     /// DEFECT LIST FORMAT, bits 2 to 0 of byte 1.
-    pub format: u8,
+    pub defect_list_format: u8,
     /// ADDRESS DESCRIPTOR INDEX, bytes 2 to 5.
-    pub index: u32,
+    pub address_descriptor_index: u32,
     /// ALLOCATION LENGTH, bytes 6 to 9.
     pub allocation_length: u32,
 }
@@ -746,13 +744,13 @@ impl ReadDefectData12 {
     ///
     /// # Panics
     ///
-    /// If `format` has more than 3 bits.
+    /// If `defect_list_format` has more than 3 bits.
     pub const fn cdb(self) -> [u8; 12] {
         Cdb::of(0xB7)
-            .bit(1, 4, self.plist)
-            .bit(1, 3, self.glist)
-            .bits(1, 2, 0, self.format)
-            .number(2, 5, self.index as u64)
+            .bit(1, 4, self.req_plist)
+            .bit(1, 3, self.req_glist)
+            .bits(1, 2, 0, self.defect_list_format)
+            .number(2, 5, self.address_descriptor_index as u64)
             .number(6, 9, self.allocation_length as u64)
             .end()
     }
@@ -761,10 +759,10 @@ impl ReadDefectData12 {
 impl Default for ReadDefectData12 {
     fn default() -> Self {
         ReadDefectData12 {
-            plist: false,
-            glist: false,
-            format: 0,
-            index: 0,
+            req_plist: false,
+            req_glist: false,
+            defect_list_format: 0,
+            address_descriptor_index: 0,
             allocation_length: u32::MAX,
         }
     }
@@ -776,7 +774,7 @@ impl Default for ReadDefectData12 {
 ///
 /// # Panics
 ///
-/// If `format` has more than 3 bits.
+/// If `defect_list_format` has more than 3 bits.
 pub const fn read_defect_data12(fields: ReadDefectData12) -> [u8; 12] {
     fields.cdb()
 }
@@ -786,7 +784,7 @@ pub const fn read_defect_data12(fields: ReadDefectData12) -> [u8; 12] {
 #[derive(Clone, Copy, Debug, Default, PartialEq, Eq)]
 pub struct SanitizeBlockErase {
     /// PARAMETER LIST LENGTH, bytes 7 to 8.
-    pub list_length: u16,
+    pub parameter_list_length: u16,
     /// IMMED, bit 7 of byte 1.
     pub immed: bool,
 }
@@ -796,7 +794,7 @@ impl SanitizeBlockErase {
     pub const fn cdb(self) -> [u8; 10] {
         Cdb::of(0x48)
             .bits(1, 4, 0, 0x02)
-            .number(7, 8, self.list_length as u64)
+            .number(7, 8, self.parameter_list_length as u64)
             .bit(1, 7, self.immed)
             .end()
     }
@@ -805,9 +803,9 @@ impl SanitizeBlockErase {
 /// SANITIZE, BLOCK ERASE, operation code 48h, service action 02h (SBC-3, 5.24). Only an extended
 /// disk has it. [`SanitizeBlockErase`] has IMMED, too.
 ///
-/// - `list_length`: PARAMETER LIST LENGTH, bytes 7 to 8
-pub const fn sanitize_block_erase(list_length: u16) -> [u8; 10] {
-    SanitizeBlockErase { list_length, immed: false }.cdb()
+/// - `parameter_list_length`: PARAMETER LIST LENGTH, bytes 7 to 8
+pub const fn sanitize_block_erase(parameter_list_length: u16) -> [u8; 10] {
+    SanitizeBlockErase { parameter_list_length, immed: false }.cdb()
 }
 
 /// The fields of SANITIZE, CRYPTOGRAPHIC ERASE, operation code 48h, service action 03h (SBC-3,
@@ -815,7 +813,7 @@ pub const fn sanitize_block_erase(list_length: u16) -> [u8; 10] {
 #[derive(Clone, Copy, Debug, Default, PartialEq, Eq)]
 pub struct SanitizeCryptographicErase {
     /// PARAMETER LIST LENGTH, bytes 7 to 8.
-    pub list_length: u16,
+    pub parameter_list_length: u16,
     /// IMMED, bit 7 of byte 1.
     pub immed: bool,
 }
@@ -825,7 +823,7 @@ impl SanitizeCryptographicErase {
     pub const fn cdb(self) -> [u8; 10] {
         Cdb::of(0x48)
             .bits(1, 4, 0, 0x03)
-            .number(7, 8, self.list_length as u64)
+            .number(7, 8, self.parameter_list_length as u64)
             .bit(1, 7, self.immed)
             .end()
     }
@@ -834,9 +832,9 @@ impl SanitizeCryptographicErase {
 /// SANITIZE, CRYPTOGRAPHIC ERASE, operation code 48h, service action 03h (SBC-3, 5.24). Only an
 /// extended disk has it. [`SanitizeCryptographicErase`] has IMMED, too.
 ///
-/// - `list_length`: PARAMETER LIST LENGTH, bytes 7 to 8
-pub const fn sanitize_cryptographic_erase(list_length: u16) -> [u8; 10] {
-    SanitizeCryptographicErase { list_length, immed: false }.cdb()
+/// - `parameter_list_length`: PARAMETER LIST LENGTH, bytes 7 to 8
+pub const fn sanitize_cryptographic_erase(parameter_list_length: u16) -> [u8; 10] {
+    SanitizeCryptographicErase { parameter_list_length, immed: false }.cdb()
 }
 
 /// The fields of SANITIZE, EXIT FAILURE MODE, operation code 48h, service action 1Fh (SBC-3, 5.24).
@@ -844,7 +842,7 @@ pub const fn sanitize_cryptographic_erase(list_length: u16) -> [u8; 10] {
 #[derive(Clone, Copy, Debug, Default, PartialEq, Eq)]
 pub struct SanitizeExitFailureMode {
     /// PARAMETER LIST LENGTH, bytes 7 to 8.
-    pub list_length: u16,
+    pub parameter_list_length: u16,
     /// IMMED, bit 7 of byte 1.
     pub immed: bool,
 }
@@ -854,7 +852,7 @@ impl SanitizeExitFailureMode {
     pub const fn cdb(self) -> [u8; 10] {
         Cdb::of(0x48)
             .bits(1, 4, 0, 0x1F)
-            .number(7, 8, self.list_length as u64)
+            .number(7, 8, self.parameter_list_length as u64)
             .bit(1, 7, self.immed)
             .end()
     }
@@ -863,9 +861,9 @@ impl SanitizeExitFailureMode {
 /// SANITIZE, EXIT FAILURE MODE, operation code 48h, service action 1Fh (SBC-3, 5.24). Only an
 /// extended disk has it. [`SanitizeExitFailureMode`] has IMMED, too.
 ///
-/// - `list_length`: PARAMETER LIST LENGTH, bytes 7 to 8
-pub const fn sanitize_exit_failure_mode(list_length: u16) -> [u8; 10] {
-    SanitizeExitFailureMode { list_length, immed: false }.cdb()
+/// - `parameter_list_length`: PARAMETER LIST LENGTH, bytes 7 to 8
+pub const fn sanitize_exit_failure_mode(parameter_list_length: u16) -> [u8; 10] {
+    SanitizeExitFailureMode { parameter_list_length, immed: false }.cdb()
 }
 
 /// The fields of START STOP UNIT, operation code 1Bh (SBC-3, 5.25). Only an extended disk has it.
@@ -997,12 +995,12 @@ pub const fn synchronize_cache16(lba: u64, blocks: u32) -> [u8; 16] {
 /// The fields of VERIFY(10), operation code 2Fh (SBC-3, 5.29). Only an extended disk has it.
 #[derive(Clone, Copy, Debug, Default, PartialEq, Eq)]
 pub struct Verify10 {
-    /// BYTCHK, bits 2 to 1 of byte 1.
-    pub byte_check: u8,
     /// LOGICAL BLOCK ADDRESS, bytes 2 to 5.
     pub lba: u32,
     /// VERIFICATION LENGTH, bytes 7 to 8.
     pub blocks: u16,
+    /// BYTCHK, bits 2 to 1 of byte 1.
+    pub bytchk: u8,
     /// DPO, bit 4 of byte 1.
     pub dpo: bool,
 }
@@ -1012,12 +1010,12 @@ impl Verify10 {
     ///
     /// # Panics
     ///
-    /// If `byte_check` has more than 2 bits.
+    /// If `bytchk` has more than 2 bits.
     pub const fn cdb(self) -> [u8; 10] {
         Cdb::of(0x2F)
-            .bits(1, 2, 1, self.byte_check)
             .number(2, 5, self.lba as u64)
             .number(7, 8, self.blocks as u64)
+            .bits(1, 2, 1, self.bytchk)
             .bit(1, 4, self.dpo)
             .end()
     }
@@ -1026,26 +1024,26 @@ impl Verify10 {
 /// VERIFY(10), operation code 2Fh (SBC-3, 5.29). Only an extended disk has it. [`Verify10`] has
 /// DPO, too.
 ///
-/// - `byte_check`: BYTCHK, bits 2 to 1 of byte 1
 /// - `lba`: LOGICAL BLOCK ADDRESS, bytes 2 to 5
 /// - `blocks`: VERIFICATION LENGTH, bytes 7 to 8
+/// - `bytchk`: BYTCHK, bits 2 to 1 of byte 1
 ///
 /// # Panics
 ///
-/// If `byte_check` has more than 2 bits.
-pub const fn verify10(byte_check: u8, lba: u32, blocks: u16) -> [u8; 10] {
-    Verify10 { byte_check, lba, blocks, dpo: false }.cdb()
+/// If `bytchk` has more than 2 bits.
+pub const fn verify10(lba: u32, blocks: u16, bytchk: u8) -> [u8; 10] {
+    Verify10 { lba, blocks, bytchk, dpo: false }.cdb()
 }
 
 /// The fields of VERIFY(12), operation code AFh (SBC-3, 5.30). Only an extended disk has it.
 #[derive(Clone, Copy, Debug, Default, PartialEq, Eq)]
 pub struct Verify12 {
-    /// BYTCHK, bits 2 to 1 of byte 1.
-    pub byte_check: u8,
     /// LOGICAL BLOCK ADDRESS, bytes 2 to 5.
     pub lba: u32,
     /// VERIFICATION LENGTH, bytes 6 to 9.
     pub blocks: u32,
+    /// BYTCHK, bits 2 to 1 of byte 1.
+    pub bytchk: u8,
     /// DPO, bit 4 of byte 1.
     pub dpo: bool,
 }
@@ -1055,12 +1053,12 @@ impl Verify12 {
     ///
     /// # Panics
     ///
-    /// If `byte_check` has more than 2 bits.
+    /// If `bytchk` has more than 2 bits.
     pub const fn cdb(self) -> [u8; 12] {
         Cdb::of(0xAF)
-            .bits(1, 2, 1, self.byte_check)
             .number(2, 5, self.lba as u64)
             .number(6, 9, self.blocks as u64)
+            .bits(1, 2, 1, self.bytchk)
             .bit(1, 4, self.dpo)
             .end()
     }
@@ -1069,26 +1067,26 @@ impl Verify12 {
 /// VERIFY(12), operation code AFh (SBC-3, 5.30). Only an extended disk has it. [`Verify12`] has
 /// DPO, too.
 ///
-/// - `byte_check`: BYTCHK, bits 2 to 1 of byte 1
 /// - `lba`: LOGICAL BLOCK ADDRESS, bytes 2 to 5
 /// - `blocks`: VERIFICATION LENGTH, bytes 6 to 9
+/// - `bytchk`: BYTCHK, bits 2 to 1 of byte 1
 ///
 /// # Panics
 ///
-/// If `byte_check` has more than 2 bits.
-pub const fn verify12(byte_check: u8, lba: u32, blocks: u32) -> [u8; 12] {
-    Verify12 { byte_check, lba, blocks, dpo: false }.cdb()
+/// If `bytchk` has more than 2 bits.
+pub const fn verify12(lba: u32, blocks: u32, bytchk: u8) -> [u8; 12] {
+    Verify12 { lba, blocks, bytchk, dpo: false }.cdb()
 }
 
 /// The fields of VERIFY(16), operation code 8Fh (SBC-3, 5.31). Only an extended disk has it.
 #[derive(Clone, Copy, Debug, Default, PartialEq, Eq)]
 pub struct Verify16 {
-    /// BYTCHK, bits 2 to 1 of byte 1.
-    pub byte_check: u8,
     /// LOGICAL BLOCK ADDRESS, bytes 2 to 9.
     pub lba: u64,
     /// VERIFICATION LENGTH, bytes 10 to 13.
     pub blocks: u32,
+    /// BYTCHK, bits 2 to 1 of byte 1.
+    pub bytchk: u8,
     /// DPO, bit 4 of byte 1.
     pub dpo: bool,
 }
@@ -1098,12 +1096,12 @@ impl Verify16 {
     ///
     /// # Panics
     ///
-    /// If `byte_check` has more than 2 bits.
+    /// If `bytchk` has more than 2 bits.
     pub const fn cdb(self) -> [u8; 16] {
         Cdb::of(0x8F)
-            .bits(1, 2, 1, self.byte_check)
             .number(2, 9, self.lba)
             .number(10, 13, self.blocks as u64)
+            .bits(1, 2, 1, self.bytchk)
             .bit(1, 4, self.dpo)
             .end()
     }
@@ -1112,27 +1110,27 @@ impl Verify16 {
 /// VERIFY(16), operation code 8Fh (SBC-3, 5.31). Only an extended disk has it. [`Verify16`] has
 /// DPO, too.
 ///
-/// - `byte_check`: BYTCHK, bits 2 to 1 of byte 1
 /// - `lba`: LOGICAL BLOCK ADDRESS, bytes 2 to 9
 /// - `blocks`: VERIFICATION LENGTH, bytes 10 to 13
+/// - `bytchk`: BYTCHK, bits 2 to 1 of byte 1
 ///
 /// # Panics
 ///
-/// If `byte_check` has more than 2 bits.
-pub const fn verify16(byte_check: u8, lba: u64, blocks: u32) -> [u8; 16] {
-    Verify16 { byte_check, lba, blocks, dpo: false }.cdb()
+/// If `bytchk` has more than 2 bits.
+pub const fn verify16(lba: u64, blocks: u32, bytchk: u8) -> [u8; 16] {
+    Verify16 { lba, blocks, bytchk, dpo: false }.cdb()
 }
 
 /// The fields of WRITE AND VERIFY(10), operation code 2Eh (SBC-3, 5.37). Only an extended disk has
 /// it.
 #[derive(Clone, Copy, Debug, Default, PartialEq, Eq)]
 pub struct WriteAndVerify10 {
-    /// BYTCHK, bits 2 to 1 of byte 1.
-    pub byte_check: u8,
     /// LOGICAL BLOCK ADDRESS, bytes 2 to 5.
     pub lba: u32,
     /// TRANSFER LENGTH, bytes 7 to 8.
     pub blocks: u16,
+    /// BYTCHK, bits 2 to 1 of byte 1.
+    pub bytchk: u8,
     /// DPO, bit 4 of byte 1.
     pub dpo: bool,
 }
@@ -1142,12 +1140,12 @@ impl WriteAndVerify10 {
     ///
     /// # Panics
     ///
-    /// If `byte_check` has more than 2 bits.
+    /// If `bytchk` has more than 2 bits.
     pub const fn cdb(self) -> [u8; 10] {
         Cdb::of(0x2E)
-            .bits(1, 2, 1, self.byte_check)
             .number(2, 5, self.lba as u64)
             .number(7, 8, self.blocks as u64)
+            .bits(1, 2, 1, self.bytchk)
             .bit(1, 4, self.dpo)
             .end()
     }
@@ -1156,27 +1154,27 @@ impl WriteAndVerify10 {
 /// WRITE AND VERIFY(10), operation code 2Eh (SBC-3, 5.37). Only an extended disk has it.
 /// [`WriteAndVerify10`] has DPO, too.
 ///
-/// - `byte_check`: BYTCHK, bits 2 to 1 of byte 1
 /// - `lba`: LOGICAL BLOCK ADDRESS, bytes 2 to 5
 /// - `blocks`: TRANSFER LENGTH, bytes 7 to 8
+/// - `bytchk`: BYTCHK, bits 2 to 1 of byte 1
 ///
 /// # Panics
 ///
-/// If `byte_check` has more than 2 bits.
-pub const fn write_and_verify10(byte_check: u8, lba: u32, blocks: u16) -> [u8; 10] {
-    WriteAndVerify10 { byte_check, lba, blocks, dpo: false }.cdb()
+/// If `bytchk` has more than 2 bits.
+pub const fn write_and_verify10(lba: u32, blocks: u16, bytchk: u8) -> [u8; 10] {
+    WriteAndVerify10 { lba, blocks, bytchk, dpo: false }.cdb()
 }
 
 /// The fields of WRITE AND VERIFY(12), operation code AEh (SBC-3, 5.38). Only an extended disk has
 /// it.
 #[derive(Clone, Copy, Debug, Default, PartialEq, Eq)]
 pub struct WriteAndVerify12 {
-    /// BYTCHK, bits 2 to 1 of byte 1.
-    pub byte_check: u8,
     /// LOGICAL BLOCK ADDRESS, bytes 2 to 5.
     pub lba: u32,
     /// TRANSFER LENGTH, bytes 6 to 9.
     pub blocks: u32,
+    /// BYTCHK, bits 2 to 1 of byte 1.
+    pub bytchk: u8,
     /// DPO, bit 4 of byte 1.
     pub dpo: bool,
 }
@@ -1186,12 +1184,12 @@ impl WriteAndVerify12 {
     ///
     /// # Panics
     ///
-    /// If `byte_check` has more than 2 bits.
+    /// If `bytchk` has more than 2 bits.
     pub const fn cdb(self) -> [u8; 12] {
         Cdb::of(0xAE)
-            .bits(1, 2, 1, self.byte_check)
             .number(2, 5, self.lba as u64)
             .number(6, 9, self.blocks as u64)
+            .bits(1, 2, 1, self.bytchk)
             .bit(1, 4, self.dpo)
             .end()
     }
@@ -1200,27 +1198,27 @@ impl WriteAndVerify12 {
 /// WRITE AND VERIFY(12), operation code AEh (SBC-3, 5.38). Only an extended disk has it.
 /// [`WriteAndVerify12`] has DPO, too.
 ///
-/// - `byte_check`: BYTCHK, bits 2 to 1 of byte 1
 /// - `lba`: LOGICAL BLOCK ADDRESS, bytes 2 to 5
 /// - `blocks`: TRANSFER LENGTH, bytes 6 to 9
+/// - `bytchk`: BYTCHK, bits 2 to 1 of byte 1
 ///
 /// # Panics
 ///
-/// If `byte_check` has more than 2 bits.
-pub const fn write_and_verify12(byte_check: u8, lba: u32, blocks: u32) -> [u8; 12] {
-    WriteAndVerify12 { byte_check, lba, blocks, dpo: false }.cdb()
+/// If `bytchk` has more than 2 bits.
+pub const fn write_and_verify12(lba: u32, blocks: u32, bytchk: u8) -> [u8; 12] {
+    WriteAndVerify12 { lba, blocks, bytchk, dpo: false }.cdb()
 }
 
 /// The fields of WRITE AND VERIFY(16), operation code 8Eh (SBC-3, 5.39). Only an extended disk has
 /// it.
 #[derive(Clone, Copy, Debug, Default, PartialEq, Eq)]
 pub struct WriteAndVerify16 {
-    /// BYTCHK, bits 2 to 1 of byte 1.
-    pub byte_check: u8,
     /// LOGICAL BLOCK ADDRESS, bytes 2 to 9.
     pub lba: u64,
     /// TRANSFER LENGTH, bytes 10 to 13.
     pub blocks: u32,
+    /// BYTCHK, bits 2 to 1 of byte 1.
+    pub bytchk: u8,
     /// DPO, bit 4 of byte 1.
     pub dpo: bool,
 }
@@ -1230,12 +1228,12 @@ impl WriteAndVerify16 {
     ///
     /// # Panics
     ///
-    /// If `byte_check` has more than 2 bits.
+    /// If `bytchk` has more than 2 bits.
     pub const fn cdb(self) -> [u8; 16] {
         Cdb::of(0x8E)
-            .bits(1, 2, 1, self.byte_check)
             .number(2, 9, self.lba)
             .number(10, 13, self.blocks as u64)
+            .bits(1, 2, 1, self.bytchk)
             .bit(1, 4, self.dpo)
             .end()
     }
@@ -1244,15 +1242,15 @@ impl WriteAndVerify16 {
 /// WRITE AND VERIFY(16), operation code 8Eh (SBC-3, 5.39). Only an extended disk has it.
 /// [`WriteAndVerify16`] has DPO, too.
 ///
-/// - `byte_check`: BYTCHK, bits 2 to 1 of byte 1
 /// - `lba`: LOGICAL BLOCK ADDRESS, bytes 2 to 9
 /// - `blocks`: TRANSFER LENGTH, bytes 10 to 13
+/// - `bytchk`: BYTCHK, bits 2 to 1 of byte 1
 ///
 /// # Panics
 ///
-/// If `byte_check` has more than 2 bits.
-pub const fn write_and_verify16(byte_check: u8, lba: u64, blocks: u32) -> [u8; 16] {
-    WriteAndVerify16 { byte_check, lba, blocks, dpo: false }.cdb()
+/// If `bytchk` has more than 2 bits.
+pub const fn write_and_verify16(lba: u64, blocks: u32, bytchk: u8) -> [u8; 16] {
+    WriteAndVerify16 { lba, blocks, bytchk, dpo: false }.cdb()
 }
 
 /// The fields of WRITE ATOMIC(16), operation code 9Ch (SBC-4). Only an extended disk has it.
@@ -1260,10 +1258,10 @@ pub const fn write_and_verify16(byte_check: u8, lba: u64, blocks: u32) -> [u8; 1
 pub struct WriteAtomic16 {
     /// LOGICAL BLOCK ADDRESS, bytes 2 to 9.
     pub lba: u64,
-    /// ATOMIC BOUNDARY, bytes 10 to 11.
-    pub boundary: u16,
     /// TRANSFER LENGTH, bytes 12 to 13.
     pub blocks: u16,
+    /// ATOMIC BOUNDARY, bytes 10 to 11.
+    pub atomic_boundary: u16,
     /// DPO, bit 4 of byte 1.
     pub dpo: bool,
     /// FUA, bit 3 of byte 1.
@@ -1275,8 +1273,8 @@ impl WriteAtomic16 {
     pub const fn cdb(self) -> [u8; 16] {
         Cdb::of(0x9C)
             .number(2, 9, self.lba)
-            .number(10, 11, self.boundary as u64)
             .number(12, 13, self.blocks as u64)
+            .number(10, 11, self.atomic_boundary as u64)
             .bit(1, 4, self.dpo)
             .bit(1, 3, self.fua)
             .end()
@@ -1287,66 +1285,71 @@ impl WriteAtomic16 {
 /// has DPO and FUA, too.
 ///
 /// - `lba`: LOGICAL BLOCK ADDRESS, bytes 2 to 9
-/// - `boundary`: ATOMIC BOUNDARY, bytes 10 to 11
 /// - `blocks`: TRANSFER LENGTH, bytes 12 to 13
-pub const fn write_atomic16(lba: u64, boundary: u16, blocks: u16) -> [u8; 16] {
-    WriteAtomic16 { lba, boundary, blocks, dpo: false, fua: false }.cdb()
+/// - `atomic_boundary`: ATOMIC BOUNDARY, bytes 10 to 11
+pub const fn write_atomic16(lba: u64, blocks: u16, atomic_boundary: u16) -> [u8; 16] {
+    WriteAtomic16 { lba, blocks, atomic_boundary, dpo: false, fua: false }.cdb()
 }
 
 /// WRITE LONG(10), operation code 3Fh (SBC-3, 5.41). Only an extended disk has it.
 ///
+/// - `lba`: LOGICAL BLOCK ADDRESS, bytes 2 to 5
 /// - `cor_dis`: COR_DIS, bit 7 of byte 1
 /// - `wr_uncor`: WR_UNCOR, bit 6 of byte 1
-/// - `lba`: LOGICAL BLOCK ADDRESS, bytes 2 to 5
-/// - `length`: BYTE TRANSFER LENGTH, bytes 7 to 8
-pub const fn write_long10(cor_dis: bool, wr_uncor: bool, lba: u32, length: u16) -> [u8; 10] {
+/// - `byte_transfer_length`: BYTE TRANSFER LENGTH, bytes 7 to 8
+pub const fn write_long10(
+    lba: u32,
+    cor_dis: bool,
+    wr_uncor: bool,
+    byte_transfer_length: u16,
+) -> [u8; 10] {
     Cdb::of(0x3F)
+        .number(2, 5, lba as u64)
         .bit(1, 7, cor_dis)
         .bit(1, 6, wr_uncor)
-        .number(2, 5, lba as u64)
-        .number(7, 8, length as u64)
+        .number(7, 8, byte_transfer_length as u64)
         .end()
 }
 
 /// WRITE SAME(10), operation code 41h (SBC-3, 5.43).
 ///
-/// - `anchor`: ANCHOR, bit 4 of byte 1
-/// - `unmap`: UNMAP, bit 3 of byte 1
 /// - `lba`: LOGICAL BLOCK ADDRESS, bytes 2 to 5
 /// - `blocks`: NUMBER OF LOGICAL BLOCKS, bytes 7 to 8
-pub const fn write_same10(anchor: bool, unmap: bool, lba: u32, blocks: u16) -> [u8; 10] {
+/// - `anchor`: ANCHOR, bit 4 of byte 1
+/// - `unmap`: UNMAP, bit 3 of byte 1
+pub const fn write_same10(lba: u32, blocks: u16, anchor: bool, unmap: bool) -> [u8; 10] {
     Cdb::of(0x41)
-        .bit(1, 4, anchor)
-        .bit(1, 3, unmap)
         .number(2, 5, lba as u64)
         .number(7, 8, blocks as u64)
+        .bit(1, 4, anchor)
+        .bit(1, 3, unmap)
         .end()
 }
 
 /// The fields of WRITE SAME(16), operation code 93h (SBC-3, 5.44).
 #[derive(Clone, Copy, Debug, Default, PartialEq, Eq)]
 pub struct WriteSame16 {
+    /// LOGICAL BLOCK ADDRESS, bytes 2 to 9.
+    pub lba: u64,
+    /// NUMBER OF LOGICAL BLOCKS, bytes 10 to 13.
+    pub blocks: u32,
     /// ANCHOR, bit 4 of byte 1.
     pub anchor: bool,
     /// UNMAP, bit 3 of byte 1.
     pub unmap: bool,
     /// NDOB, bit 0 of byte 1.
     pub ndob: bool,
-    /// LOGICAL BLOCK ADDRESS, bytes 2 to 9.
-    pub lba: u64,
-    /// NUMBER OF LOGICAL BLOCKS, bytes 10 to 13.
-    pub blocks: u32,
 }
 
 impl WriteSame16 {
     /// Returns the CDB.
     pub const fn cdb(self) -> [u8; 16] {
         Cdb::of(0x93)
+            .number(2, 9, self.lba)
+            .number(10, 13, self.blocks as u64)
             .bit(1, 4, self.anchor)
             .bit(1, 3, self.unmap)
             .bit(1, 0, self.ndob)
-            .number(2, 9, self.lba)
-            .number(10, 13, self.blocks as u64)
             .end()
     }
 }
@@ -1361,25 +1364,25 @@ pub const fn write_same16(fields: WriteSame16) -> [u8; 16] {
 /// UNMAP, operation code 42h (SBC-3, 5.28).
 ///
 /// - `anchor`: ANCHOR, bit 0 of byte 1
-/// - `list_length`: PARAMETER LIST LENGTH, bytes 7 to 8
-pub const fn unmap(anchor: bool, list_length: u16) -> [u8; 10] {
-    Cdb::of(0x42).bit(1, 0, anchor).number(7, 8, list_length as u64).end()
+/// - `parameter_list_length`: PARAMETER LIST LENGTH, bytes 7 to 8
+pub const fn unmap(anchor: bool, parameter_list_length: u16) -> [u8; 10] {
+    Cdb::of(0x42).bit(1, 0, anchor).number(7, 8, parameter_list_length as u64).end()
 }
 
 /// GET LBA STATUS, operation code 9Eh, service action 12h (SBC-3, 5.4).
 ///
-/// - `start`: STARTING LOGICAL BLOCK ADDRESS, bytes 2 to 9
+/// - `lba`: STARTING LOGICAL BLOCK ADDRESS, bytes 2 to 9
 /// - `allocation_length`: ALLOCATION LENGTH, bytes 10 to 13
-pub const fn get_lba_status(start: u64, allocation_length: u32) -> [u8; 16] {
+pub const fn get_lba_status(lba: u64, allocation_length: u32) -> [u8; 16] {
     Cdb::of(0x9E)
         .bits(1, 4, 0, 0x12)
-        .number(2, 9, start)
+        .number(2, 9, lba)
         .number(10, 13, allocation_length as u64)
         .end()
 }
 
 /// The service actions of PERSISTENT RESERVE IN (SPC-4, 6.15).
-pub mod in_action {
+pub mod reserve_in {
     /// READ KEYS.
     pub const READ_KEYS: u8 = 0x00;
     /// READ RESERVATION.
@@ -1392,18 +1395,18 @@ pub mod in_action {
 
 /// PERSISTENT RESERVE IN, operation code 5Eh (SPC-4, 6.15).
 ///
-/// - `action`: SERVICE ACTION, a number of [`in_action`]
+/// - `service_action`: SERVICE ACTION, a number of [`reserve_in`]
 /// - `allocation_length`: ALLOCATION LENGTH, bytes 7 to 8
 ///
 /// # Panics
 ///
-/// If `action` has more than 5 bits.
-pub const fn persistent_reserve_in(action: u8, allocation_length: u16) -> [u8; 10] {
-    Cdb::of(0x5E).bits(1, 4, 0, action).number(7, 8, allocation_length as u64).end()
+/// If `service_action` has more than 5 bits.
+pub const fn persistent_reserve_in(service_action: u8, allocation_length: u16) -> [u8; 10] {
+    Cdb::of(0x5E).bits(1, 4, 0, service_action).number(7, 8, allocation_length as u64).end()
 }
 
 /// The service actions of PERSISTENT RESERVE OUT (SPC-4, 6.16).
-pub mod out_action {
+pub mod reserve_out {
     /// REGISTER.
     pub const REGISTER: u8 = 0x00;
     /// RESERVE.
@@ -1422,17 +1425,25 @@ pub mod out_action {
 
 /// PERSISTENT RESERVE OUT, operation code 5Fh (SPC-4, 6.16).
 ///
-/// - `action`: SERVICE ACTION, a number of [`out_action`]
-/// - `scope_type`: SCOPE and TYPE, byte 2
-/// - `list_length`: PARAMETER LIST LENGTH, bytes 5 to 8
+/// - `service_action`: SERVICE ACTION, a number of [`reserve_out`]
+/// - `scope`: SCOPE, bits 7 to 4 of byte 2
+/// - `type_`: TYPE, bits 3 to 0 of byte 2
+/// - `parameter_list_length`: PARAMETER LIST LENGTH, bytes 5 to 8
 ///
 /// # Panics
 ///
-/// If `action` has more than 5 bits.
-pub const fn persistent_reserve_out(action: u8, scope_type: u8, list_length: u32) -> [u8; 10] {
+/// If `service_action` has more than 5 bits, or `scope` has more than 4 bits, or `type_` has more
+/// than 4 bits.
+pub const fn persistent_reserve_out(
+    service_action: u8,
+    scope: u8,
+    type_: u8,
+    parameter_list_length: u32,
+) -> [u8; 10] {
     Cdb::of(0x5F)
-        .bits(1, 4, 0, action)
-        .number(2, 2, scope_type as u64)
-        .number(5, 8, list_length as u64)
+        .bits(1, 4, 0, service_action)
+        .bits(2, 7, 4, scope)
+        .bits(2, 3, 0, type_)
+        .number(5, 8, parameter_list_length as u64)
         .end()
 }

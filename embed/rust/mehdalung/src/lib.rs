@@ -6,6 +6,7 @@ pub mod commands;
 mod disk;
 mod error;
 mod initiator;
+pub mod lists;
 mod reply;
 
 use error::check;

@@ -3,6 +3,7 @@
 mod largest;
 
 use mehdalung::commands::*;
+use mehdalung::lists::{reserve_out_list, unmap_list};
 use mehdalung::{profile, Disk, Error, GOOD};
 
 /// What REPORT SUPPORTED OPERATION CODES of an extended disk returns with a header of 4 bytes.
@@ -19,9 +20,9 @@ fn usage_data(disk: &mut Disk) -> Result<Vec<Vec<u8>>, Error> {
     for descriptor in all[4..].chunks(8) {
         let has_action = descriptor[5] & 1 == 1;
         let one = ReportSupportedOperationCodes {
-            options: if has_action { 0b010 } else { 0b001 },
-            opcode: descriptor[0],
-            action: u16::from_be_bytes([descriptor[2], descriptor[3]]),
+            reporting_options: if has_action { 0b010 } else { 0b001 },
+            requested_operation_code: descriptor[0],
+            requested_service_action: u16::from_be_bytes([descriptor[2], descriptor[3]]),
             ..Default::default()
         };
         let data = reported(disk, one)?;
@@ -56,8 +57,9 @@ macro_rules! compare {
 
 #[test]
 fn primary_commands_are_as_by_hand() {
-    let page = ModeSense10 { llbaa: true, page_control: 1, page_code: 8, ..Default::default() };
-    let codes = ReportSupportedOperationCodes { timeouts: true, options: 1, ..Default::default() };
+    let page = ModeSense10 { llbaa: true, pc: 1, page_code: 8, ..Default::default() };
+    let codes =
+        ReportSupportedOperationCodes { rctd: true, reporting_options: 1, ..Default::default() };
     compare! {
         "00 00 00 00 00 00" test_unit_ready();
         "03 01 00 00 FC 00" request_sense(true, 252);
@@ -65,28 +67,28 @@ fn primary_commands_are_as_by_hand() {
         "15 11 00 00 18 00" mode_select6(true, true, 0x18);
         "55 10 00 00 00 00 00 01 02 00" mode_select10(true, false, 0x0102);
         "1A 08 BF FF C0 00" mode_sense6(ModeSense6 {
-            dbd: true, page_control: 2, page_code: 0x3F, subpage_code: 0xFF, allocation_length: 0xC0,
+            dbd: true, pc: 2, page_code: 0x3F, subpage_code: 0xFF, allocation_length: 0xC0,
         });
         "1A 00 00 00 FF 00" mode_sense6(ModeSense6::default());
         "5A 10 48 01 00 00 00 01 02 00"
             mode_sense10(ModeSense10 { subpage_code: 1, allocation_length: 0x0102, ..page });
         "4D 00 4C 01 00 00 00 02 03 00" LogSense {
-            page_control: 1, page_code: 0x0C, subpage_code: 1, allocation_length: 0x0203,
+            pc: 1, page_code: 0x0C, subpage_code: 1, allocation_length: 0x0203,
         }.cdb();
         "4D 00 0C 01 00 00 00 02 03 00" log_sense(0x0C, 1, 0x0203);
         "A0 00 02 00 00 00 01 02 03 04 00 00" report_luns(2, 0x0102_0304);
         "A3 0C 81 2A 01 02 03 04 05 06 00 00" ReportSupportedOperationCodes {
-            opcode: 0x2A, action: 0x0102, allocation_length: 0x0304_0506, ..codes
+            requested_operation_code: 0x2A, requested_service_action: 0x0102, allocation_length: 0x0304_0506, ..codes
         }.cdb();
         "A3 0D 80 00 00 00 01 02 03 04 00 00"
             report_supported_task_management_functions(true, 0x0102_0304);
         "1D 24 00 01 02 00" send_diagnostic(1, true, 0x0102);
-        "5E 03 00 00 00 00 00 01 02 00" persistent_reserve_in(in_action::READ_FULL_STATUS, 0x0102);
-        "5E 00 00 00 00 00 00 00 08 00" persistent_reserve_in(in_action::READ_KEYS, 8);
-        "5F 04 05 00 00 01 02 03 18 00"
-            persistent_reserve_out(out_action::PREEMPT, 5, 0x0102_0318);
+        "5E 03 00 00 00 00 00 01 02 00" persistent_reserve_in(reserve_in::READ_FULL_STATUS, 0x0102);
+        "5E 00 00 00 00 00 00 00 08 00" persistent_reserve_in(reserve_in::READ_KEYS, 8);
+        "5F 04 95 00 00 01 02 03 18 00"
+            persistent_reserve_out(reserve_out::PREEMPT, 9, 5, 0x0102_0318);
         "5F 06 00 00 00 00 00 00 18 00"
-            persistent_reserve_out(out_action::REGISTER_AND_IGNORE_EXISTING_KEY, 0, 24);
+            persistent_reserve_out(reserve_out::REGISTER_AND_IGNORE_EXISTING_KEY, 0, 0, 24);
     }
 }
 
@@ -106,19 +108,19 @@ fn commands_that_move_blocks_are_as_by_hand() {
         "AA 00 01 02 03 04 05 06 07 08 00 00" write12(0x0102_0304, 0x0506_0708);
         "88 00 01 02 03 04 05 06 07 08 09 0A 0B 0C 00 00" read16(LBA, 0x090A_0B0C);
         "8A 00 01 02 03 04 05 06 07 08 09 0A 0B 0C 00 00" write16(LBA, 0x090A_0B0C);
-        "8B 00 01 02 03 04 05 06 07 08 09 0A 0B 0C 00 00" or_write16(LBA, 0x090A_0B0C);
+        "8B 00 01 02 03 04 05 06 07 08 09 0A 0B 0C 00 00" orwrite16(LBA, 0x090A_0B0C);
         "89 00 01 02 03 04 05 06 07 08 00 00 00 09 00 00" compare_and_write(LBA, 9);
         "9C 18 01 02 03 04 05 06 07 08 09 0A 0B 0C 00 00" WriteAtomic16 {
-            lba: LBA, boundary: 0x090A, blocks: 0x0B0C, dpo: true, fua: true,
+            lba: LBA, blocks: 0x0B0C, atomic_boundary: 0x090A, dpo: true, fua: true,
         }.cdb();
-        "2F 02 01 02 03 04 00 05 06 00" verify10(1, 0x0102_0304, 0x0506);
-        "AF 06 01 02 03 04 05 06 07 08 00 00" verify12(3, 0x0102_0304, 0x0506_0708);
-        "8F 06 01 02 03 04 05 06 07 08 09 0A 0B 0C 00 00" verify16(3, LBA, 0x090A_0B0C);
+        "2F 02 01 02 03 04 00 05 06 00" verify10(0x0102_0304, 0x0506, 1);
+        "AF 06 01 02 03 04 05 06 07 08 00 00" verify12(0x0102_0304, 0x0506_0708, 3);
+        "8F 06 01 02 03 04 05 06 07 08 09 0A 0B 0C 00 00" verify16(LBA, 0x090A_0B0C, 3);
         "2E 12 01 02 03 04 00 05 06 00" WriteAndVerify10 {
-            byte_check: 1, lba: 0x0102_0304, blocks: 0x0506, dpo: true,
+            lba: 0x0102_0304, blocks: 0x0506, bytchk: 1, dpo: true,
         }.cdb();
-        "AE 00 01 02 03 04 05 06 07 08 00 00" write_and_verify12(0, 0x0102_0304, 0x0506_0708);
-        "8E 00 01 02 03 04 05 06 07 08 09 0A 0B 0C 00 00" write_and_verify16(0, LBA, 0x090A_0B0C);
+        "AE 00 01 02 03 04 05 06 07 08 00 00" write_and_verify12(0x0102_0304, 0x0506_0708, 0);
+        "8E 00 01 02 03 04 05 06 07 08 09 0A 0B 0C 00 00" write_and_verify16(LBA, 0x090A_0B0C, 0);
         "34 00 01 02 03 04 00 05 06 00" pre_fetch10(0x0102_0304, 0x0506);
         "90 00 01 02 03 04 05 06 07 08 09 0A 0B 0C 00 00" pre_fetch16(LBA, 0x090A_0B0C);
         "35 02 01 02 03 04 00 05 06 00"
@@ -135,16 +137,17 @@ fn other_block_commands_are_as_by_hand() {
         "9E 12 01 02 03 04 05 06 07 08 09 0A 0B 0C 00 00" get_lba_status(LBA, 0x090A_0B0C);
         "37 00 15 00 00 00 00 01 02 00" read_defect_data10(true, false, 5, 0x0102);
         "B7 0D 01 02 03 04 05 06 07 08 00 00" read_defect_data12(ReadDefectData12 {
-            plist: false, glist: true, format: 5, index: 0x0102_0304, allocation_length: 0x0506_0708,
+            req_plist: false, req_glist: true, defect_list_format: 5, address_descriptor_index: 0x0102_0304,
+            allocation_length: 0x0506_0708,
         });
-        "41 08 01 02 03 04 00 05 06 00" write_same10(false, true, 0x0102_0304, 0x0506);
+        "41 08 01 02 03 04 00 05 06 00" write_same10(0x0102_0304, 0x0506, false, true);
         "93 19 01 02 03 04 05 06 07 08 09 0A 0B 0C 00 00" write_same16(WriteSame16 {
             anchor: true, unmap: true, ndob: true, lba: LBA, blocks: 0x090A_0B0C,
         });
         "42 01 00 00 00 00 00 01 02 00" unmap(true, 0x0102);
-        "3F 40 01 02 03 04 00 05 06 00" write_long10(false, true, 0x0102_0304, 0x0506);
+        "3F 40 01 02 03 04 00 05 06 00" write_long10(0x0102_0304, false, true, 0x0506);
         "04 10 00 00 00 00" format_unit(false, true);
-        "48 82 00 00 00 00 00 00 00 00" SanitizeBlockErase { list_length: 0, immed: true }.cdb();
+        "48 82 00 00 00 00 00 00 00 00" SanitizeBlockErase { parameter_list_length: 0, immed: true }.cdb();
         "48 03 00 00 00 00 00 00 00 00" sanitize_cryptographic_erase(0);
         "48 1F 00 00 00 00 00 01 02 00" sanitize_exit_failure_mode(0x0102);
         "1B 01 00 01 A7 00" StartStopUnit {
@@ -175,8 +178,7 @@ fn an_initiator_sends_commands_by_name() -> Result<(), Error> {
     assert!(disk.initiator(3).write10(5, 2, &[7; 1024])?.is_good());
     let reply = disk.initiator(3).read16(5, 1)?;
     assert!(reply.is_good() && reply.data_in == [7; 512], "{reply}");
-    let list = [0, 22, 0, 16, 0, 0, 0, 0, 0, 0, 0, 0, 0, 0, 0, 5, 0, 0, 0, 1, 0, 0, 0, 0];
-    assert!(disk.initiator(3).unmap(false, 24, &list)?.is_good());
+    assert!(disk.initiator(3).unmap(false, &unmap_list(&[(5, 1)]))?.is_good());
     assert_eq!(disk.initiator(3).read16(5, 1)?.data_in, [0; 512]);
     assert_eq!(disk.initiator(3).read16(6, 1)?.data_in, [7; 512]);
     assert_eq!(disk.initiator(3).tool("sg_turs")?.status(), GOOD);
@@ -185,4 +187,20 @@ fn an_initiator_sends_commands_by_name() -> Result<(), Error> {
     assert_eq!(disk.initiator(3).execute(&read10(5, 1), &[])?.data_in, [8; 512]);
     assert_eq!(disk.initiator(8).test_unit_ready().err(), Some(Error::NoInitiator));
     Ok(())
+}
+
+#[test]
+fn lists_are_as_by_hand() {
+    let list = "00 00 00 00 00 00 01 02 00 00 00 00 00 00 03 04 00 00 00 00 01 00 00 00";
+    assert_eq!(reserve_out_list(0x0102, 0x0304, true).to_vec(), bytes(list));
+    let ranges = "00 26 00 20 00 00 00 00 00 00 00 00 00 00 00 05 00 00 00 01 00 00 00 00 \
+                  01 02 03 04 05 06 07 08 09 0A 0B 0C 00 00 00 00";
+    assert_eq!(unmap_list(&[(5, 1), (LBA, 0x090A_0B0C)]), bytes(ranges));
+}
+
+#[test]
+#[should_panic(expected = "the parameter list is too long")]
+fn a_long_list_does_not_fit() {
+    let mut disk = Disk::new(64, 4, None).unwrap();
+    let _ = disk.initiator(0).mode_select6(true, false, &[0; 256]);
 }

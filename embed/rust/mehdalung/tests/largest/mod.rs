@@ -12,7 +12,7 @@ pub fn cdbs() -> Vec<Vec<u8>> {
         mode_select10(true, true, u16::MAX).to_vec(),
         ModeSense6 {
             dbd: true,
-            page_control: 0x3,
+            pc: 0x3,
             page_code: 0x3F,
             subpage_code: u8::MAX,
             allocation_length: u8::MAX,
@@ -22,7 +22,7 @@ pub fn cdbs() -> Vec<Vec<u8>> {
         ModeSense10 {
             llbaa: true,
             dbd: true,
-            page_control: 0x3,
+            pc: 0x3,
             page_code: 0x3F,
             subpage_code: u8::MAX,
             allocation_length: u16::MAX,
@@ -33,16 +33,16 @@ pub fn cdbs() -> Vec<Vec<u8>> {
             page_code: 0x3F,
             subpage_code: u8::MAX,
             allocation_length: u16::MAX,
-            page_control: 0x3,
+            pc: 0x3,
         }
         .cdb()
         .to_vec(),
         report_luns(u8::MAX, u32::MAX).to_vec(),
         ReportSupportedOperationCodes {
-            timeouts: true,
-            options: 0x7,
-            opcode: u8::MAX,
-            action: u16::MAX,
+            rctd: true,
+            reporting_options: 0x7,
+            requested_operation_code: u8::MAX,
+            requested_service_action: u16::MAX,
             allocation_length: u32::MAX,
         }
         .cdb()
@@ -51,7 +51,7 @@ pub fn cdbs() -> Vec<Vec<u8>> {
         send_diagnostic(0x7, true, u16::MAX).to_vec(),
         CompareAndWrite { lba: u64::MAX, blocks: u8::MAX, dpo: true, fua: true }.cdb().to_vec(),
         format_unit(true, true).to_vec(),
-        OrWrite16 { lba: u64::MAX, blocks: u32::MAX, dpo: true, fua: true }.cdb().to_vec(),
+        Orwrite16 { lba: u64::MAX, blocks: u32::MAX, dpo: true, fua: true }.cdb().to_vec(),
         PreFetch10 { lba: u32::MAX, blocks: u16::MAX, immed: true }.cdb().to_vec(),
         PreFetch16 { lba: u64::MAX, blocks: u32::MAX, immed: true }.cdb().to_vec(),
         read6(0x1FFFFF, u8::MAX).to_vec(),
@@ -66,17 +66,17 @@ pub fn cdbs() -> Vec<Vec<u8>> {
         read_capacity16(u32::MAX).to_vec(),
         read_defect_data10(true, true, 0x7, u16::MAX).to_vec(),
         ReadDefectData12 {
-            plist: true,
-            glist: true,
-            format: 0x7,
-            index: u32::MAX,
+            req_plist: true,
+            req_glist: true,
+            defect_list_format: 0x7,
+            address_descriptor_index: u32::MAX,
             allocation_length: u32::MAX,
         }
         .cdb()
         .to_vec(),
-        SanitizeBlockErase { list_length: u16::MAX, immed: true }.cdb().to_vec(),
-        SanitizeCryptographicErase { list_length: u16::MAX, immed: true }.cdb().to_vec(),
-        SanitizeExitFailureMode { list_length: u16::MAX, immed: true }.cdb().to_vec(),
+        SanitizeBlockErase { parameter_list_length: u16::MAX, immed: true }.cdb().to_vec(),
+        SanitizeCryptographicErase { parameter_list_length: u16::MAX, immed: true }.cdb().to_vec(),
+        SanitizeExitFailureMode { parameter_list_length: u16::MAX, immed: true }.cdb().to_vec(),
         StartStopUnit {
             power_condition_modifier: 0xF,
             power_condition: 0xF,
@@ -89,50 +89,29 @@ pub fn cdbs() -> Vec<Vec<u8>> {
         .to_vec(),
         SynchronizeCache10 { lba: u32::MAX, blocks: u16::MAX, immed: true }.cdb().to_vec(),
         SynchronizeCache16 { lba: u64::MAX, blocks: u32::MAX, immed: true }.cdb().to_vec(),
-        Verify10 { byte_check: 0x3, lba: u32::MAX, blocks: u16::MAX, dpo: true }.cdb().to_vec(),
-        Verify12 { byte_check: 0x3, lba: u32::MAX, blocks: u32::MAX, dpo: true }.cdb().to_vec(),
-        Verify16 { byte_check: 0x3, lba: u64::MAX, blocks: u32::MAX, dpo: true }.cdb().to_vec(),
-        WriteAndVerify10 {
-            byte_check: 0x3,
-            lba: u32::MAX,
-            blocks: u16::MAX,
-            dpo: true,
-        }
-        .cdb()
-        .to_vec(),
-        WriteAndVerify12 {
-            byte_check: 0x3,
-            lba: u32::MAX,
-            blocks: u32::MAX,
-            dpo: true,
-        }
-        .cdb()
-        .to_vec(),
-        WriteAndVerify16 {
-            byte_check: 0x3,
-            lba: u64::MAX,
-            blocks: u32::MAX,
-            dpo: true,
-        }
-        .cdb()
-        .to_vec(),
+        Verify10 { lba: u32::MAX, blocks: u16::MAX, bytchk: 0x3, dpo: true }.cdb().to_vec(),
+        Verify12 { lba: u32::MAX, blocks: u32::MAX, bytchk: 0x3, dpo: true }.cdb().to_vec(),
+        Verify16 { lba: u64::MAX, blocks: u32::MAX, bytchk: 0x3, dpo: true }.cdb().to_vec(),
+        WriteAndVerify10 { lba: u32::MAX, blocks: u16::MAX, bytchk: 0x3, dpo: true }.cdb().to_vec(),
+        WriteAndVerify12 { lba: u32::MAX, blocks: u32::MAX, bytchk: 0x3, dpo: true }.cdb().to_vec(),
+        WriteAndVerify16 { lba: u64::MAX, blocks: u32::MAX, bytchk: 0x3, dpo: true }.cdb().to_vec(),
         WriteAtomic16 {
             lba: u64::MAX,
-            boundary: u16::MAX,
             blocks: u16::MAX,
+            atomic_boundary: u16::MAX,
             dpo: true,
             fua: true,
         }
         .cdb()
         .to_vec(),
-        write_long10(true, true, u32::MAX, u16::MAX).to_vec(),
-        write_same10(true, true, u32::MAX, u16::MAX).to_vec(),
+        write_long10(u32::MAX, true, true, u16::MAX).to_vec(),
+        write_same10(u32::MAX, u16::MAX, true, true).to_vec(),
         WriteSame16 {
+            lba: u64::MAX,
+            blocks: u32::MAX,
             anchor: true,
             unmap: true,
             ndob: true,
-            lba: u64::MAX,
-            blocks: u32::MAX,
         }
         .cdb()
         .to_vec(),
@@ -142,12 +121,12 @@ pub fn cdbs() -> Vec<Vec<u8>> {
         persistent_reserve_in(1, u16::MAX).to_vec(),
         persistent_reserve_in(2, u16::MAX).to_vec(),
         persistent_reserve_in(3, u16::MAX).to_vec(),
-        persistent_reserve_out(0, u8::MAX, u32::MAX).to_vec(),
-        persistent_reserve_out(1, u8::MAX, u32::MAX).to_vec(),
-        persistent_reserve_out(2, u8::MAX, u32::MAX).to_vec(),
-        persistent_reserve_out(3, u8::MAX, u32::MAX).to_vec(),
-        persistent_reserve_out(4, u8::MAX, u32::MAX).to_vec(),
-        persistent_reserve_out(5, u8::MAX, u32::MAX).to_vec(),
-        persistent_reserve_out(6, u8::MAX, u32::MAX).to_vec(),
+        persistent_reserve_out(0, 0xF, 0xF, u32::MAX).to_vec(),
+        persistent_reserve_out(1, 0xF, 0xF, u32::MAX).to_vec(),
+        persistent_reserve_out(2, 0xF, 0xF, u32::MAX).to_vec(),
+        persistent_reserve_out(3, 0xF, 0xF, u32::MAX).to_vec(),
+        persistent_reserve_out(4, 0xF, 0xF, u32::MAX).to_vec(),
+        persistent_reserve_out(5, 0xF, 0xF, u32::MAX).to_vec(),
+        persistent_reserve_out(6, 0xF, 0xF, u32::MAX).to_vec(),
     ]
 }
