@@ -270,6 +270,8 @@ def rows():
         free = value["free"]
         bits = FREE_LABELS.get(free["bits"], {})
         opcode, actions = value["opcode"], actions_of(definitions, value["action"])
+        if any((opcode, action) not in named for action, _ in actions):
+            raise ValueError(f"PROFILE lacks a command with operation code {opcode:02X}h")
         title = named[opcode, actions[0][0]][0]
         here = of_fields[title if title in of_fields else title.split(", ")[0]]
         fields = [it for field in value["fields"] for it in fields_of(field, here)]
