@@ -212,9 +212,9 @@ fn a_file_keeps_a_disk() -> Result<(), Error> {
         assert_eq!(Disk::open(&path, &other).err(), Some(error));
     }
     let mut bytes = fs::read(&path).unwrap();
-    bytes[11] = 2;
+    bytes[11] = 1;
     fs::write(&path, &bytes).unwrap();
-    assert_eq!(Disk::open(&path, &any).err(), Some(Error::OtherVersion(2)));
+    assert_eq!(Disk::open(&path, &any).err(), Some(Error::OtherVersion(1)));
     fs::write(&path, "This is no disk.").unwrap();
     assert_eq!(Disk::open(&path, &any).err(), Some(Error::NotADisk));
     fs::remove_file(&path).unwrap();
