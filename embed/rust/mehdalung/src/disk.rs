@@ -21,6 +21,25 @@ pub struct Wanted<'a> {
 
 /// A disk, with a buffer for data-in. It has eight initiators, 0 to 7. A disk in a file is flushed when
 /// it is dropped.
+///
+/// Between two commands it can be reset, lose its power, grow, and get faults:
+///
+/// ```
+/// # use mehdalung::{Disk, Error};
+/// # fn main() -> Result<(), Error> {
+/// let mut disk = Disk::new(4096, 4, None)?;
+/// disk.initiator(0).request_sense(false, 18)?;
+/// disk.happen("fault medium 3/11/00 blocks 10 2")?;
+/// let reply = disk.initiator(0).read10(8, 8)?;
+/// let fields = reply.fields().unwrap();
+/// assert_eq!((fields.key, fields.asc, fields.information), (3, 0x11, 10), "{reply}");
+/// disk.disarm_all()?;
+/// disk.lose_nexus(0)?;
+/// let reply = disk.initiator(0).read10(8, 8)?;
+/// assert_eq!(reply.to_string(), "CHECK CONDITION\n  sense: UNIT ATTENTION, 29h/07h");
+/// # Ok(())
+/// # }
+/// ```
 pub struct Disk {
     slot: sys::mdl_disk,
     data_in: Box<[u8]>,
@@ -70,6 +89,30 @@ impl Disk {
     /// it. [`Error::OtherProfile`], [`Error::OtherBlocks`], [`Error::OtherPool`] and
     /// [`Error::OtherIdentity`] say what its disk has otherwise. For a new disk the errors of
     /// [`Disk::with_profile`], or [`Error::FileFailed`].
+    ///
+    /// # Examples
+    ///
+    /// ```
+    /// # use mehdalung::{profile, Disk, Error, Wanted};
+    /// # fn main() -> Result<(), Error> {
+    /// # let path = std::env::temp_dir().join(format!("mehdalung-open-{}", std::process::id()));
+    /// let new = Wanted {
+    ///     profile: Some(profile::EXTENDED),
+    ///     blocks: Some(4096),
+    ///     pool: Some(1024),
+    ///     identity: None,
+    /// };
+    /// let mut disk = Disk::open(&path, &new)?;
+    /// disk.initiator(0).request_sense(false, 18)?;
+    /// disk.initiator(0).write10(5, 1, &[7; 512])?;
+    /// disk.close()?;
+    /// let mut disk = Disk::open(&path, &Wanted::default())?; // any disk that is there
+    /// disk.initiator(0).request_sense(false, 18)?;
+    /// assert_eq!(disk.initiator(0).read10(5, 1)?.data_in, [7; 512]);
+    /// # std::fs::remove_file(&path).unwrap();
+    /// # Ok(())
+    /// # }
+    /// ```
     pub fn open(path: impl AsRef<Path>, wanted: &Wanted) -> Result<Disk, Error> {
         let mut slot = sys::mdl_disk { target: ptr::null_mut() };
         let mut damage = Damage::default();

@@ -2,7 +2,8 @@
 use mehdalung::Wanted;
 use mehdalung::{decode, fault_outcome, identity_of_seed, kind, profile, version};
 use mehdalung::{Disk, Error, Fault, Identity, Reply, ALL_INITIATORS, BUSY, CHECK_CONDITION, GOOD};
-use std::fs;
+use std::sync::Mutex;
+use std::{fs, thread};
 
 const TEST_UNIT_READY: [u8; 6] = [0; 6];
 const INQUIRY: [u8; 6] = [0x12, 0, 0, 0, 36, 0];
@@ -245,5 +246,44 @@ fn commands_share_a_flush() -> Result<(), Error> {
     assert_eq!(byte_of(&mut Disk::open(&path, &wanted)?)?, 3);
     fs::remove_file(&path).unwrap();
     assert!(!Disk::new(64, 4, None)?.execute_unflushed(0, &write_through, &[5; 512])?.waits());
+    Ok(())
+}
+
+#[test]
+fn replies_print_their_status_and_errors_their_reason() -> Result<(), Error> {
+    let mut disk = Disk::new(64, 4, None)?;
+    disk.initiator(0).request_sense(false, 18)?;
+    for (outcome, printed) in [
+        (fault_outcome::ARRIVAL_BUSY, "BUSY"),
+        (fault_outcome::ARRIVAL_TASK_SET_FULL, "TASK SET FULL"),
+        (fault_outcome::ARRIVAL_RESERVATION_CONFLICT, "RESERVATION CONFLICT"),
+        (fault_outcome::ARRIVAL_NO_REPLY, "NO REPLY"),
+    ] {
+        disk.arm(&Fault { initiators: 1, outcome, times: 1, ..Fault::default() })?;
+        let reply = disk.initiator(0).test_unit_ready()?;
+        assert!(!reply.is_good());
+        assert_eq!((format!("{reply}"), format!("{reply:?}")), (printed.into(), printed.into()));
+    }
+    assert_eq!(disk.initiator(0).test_unit_ready()?.to_string(), "GOOD");
+    let refused = disk.initiator(8).test_unit_ready().unwrap_err();
+    assert_eq!(refused.to_string(), "the initiator is not 0 to 7, or a fault names no initiator");
+    assert!(Error::CannotOpen(2).to_string().contains("No such file"));
+    Ok(())
+}
+
+#[test]
+fn two_threads_use_a_disk_by_turns() -> Result<(), Error> {
+    let disk = Mutex::new(Disk::new(64, 4, None)?);
+    thread::scope(|threads| {
+        for number in 0..2 {
+            let disk = &disk;
+            threads.spawn(move || {
+                for _ in 0..100 {
+                    disk.lock().unwrap().initiator(number).request_sense(false, 18).unwrap();
+                }
+            });
+        }
+    });
+    assert!(disk.lock().unwrap().initiator(1).test_unit_ready()?.is_good());
     Ok(())
 }
