@@ -4,19 +4,19 @@ use crate::cdb::length_of;
 use crate::{commands, Error, Initiator, Reply};
 
 /// Commands by name. Each takes the arguments of its function in [`commands`], and then data-out if the
-/// command has some. It panics where that function does, and if a parameter list is too long for its
-/// length to fit.
+/// command has some. The reply prints data-in field by field, by [`kind_of`](crate::kind_of). A method
+/// panics where its function does, and if a parameter list is too long for its length to fit.
 impl<'a> Initiator<'a> {
     /// Executes TEST UNIT READY by [`commands::test_unit_ready`].
     pub fn test_unit_ready(self) -> Result<Reply<'a>, Error> {
         let cdb = commands::test_unit_ready();
-        self.execute(&cdb, &[])
+        self.send(&cdb, &[])
     }
 
     /// Executes REQUEST SENSE by [`commands::request_sense`].
     pub fn request_sense(self, desc: bool, allocation_length: u8) -> Result<Reply<'a>, Error> {
         let cdb = commands::request_sense(desc, allocation_length);
-        self.execute(&cdb, &[])
+        self.send(&cdb, &[])
     }
 
     /// Executes INQUIRY by [`commands::inquiry`].
@@ -27,33 +27,33 @@ impl<'a> Initiator<'a> {
         allocation_length: u16,
     ) -> Result<Reply<'a>, Error> {
         let cdb = commands::inquiry(evpd, page_code, allocation_length);
-        self.execute(&cdb, &[])
+        self.send(&cdb, &[])
     }
 
     /// Executes MODE SELECT(6) by [`commands::mode_select6`]. PARAMETER LIST LENGTH is the length
     /// of data-out.
     pub fn mode_select6(self, pf: bool, sp: bool, data_out: &[u8]) -> Result<Reply<'a>, Error> {
         let cdb = commands::mode_select6(pf, sp, length_of(data_out));
-        self.execute(&cdb, data_out)
+        self.send(&cdb, data_out)
     }
 
     /// Executes MODE SELECT(10) by [`commands::mode_select10`]. PARAMETER LIST LENGTH is the length
     /// of data-out.
     pub fn mode_select10(self, pf: bool, sp: bool, data_out: &[u8]) -> Result<Reply<'a>, Error> {
         let cdb = commands::mode_select10(pf, sp, length_of(data_out));
-        self.execute(&cdb, data_out)
+        self.send(&cdb, data_out)
     }
 
     /// Executes MODE SENSE(6) by [`commands::mode_sense6`].
     pub fn mode_sense6(self, fields: commands::ModeSense6) -> Result<Reply<'a>, Error> {
         let cdb = commands::mode_sense6(fields);
-        self.execute(&cdb, &[])
+        self.send(&cdb, &[])
     }
 
     /// Executes MODE SENSE(10) by [`commands::mode_sense10`].
     pub fn mode_sense10(self, fields: commands::ModeSense10) -> Result<Reply<'a>, Error> {
         let cdb = commands::mode_sense10(fields);
-        self.execute(&cdb, &[])
+        self.send(&cdb, &[])
     }
 
     /// Executes LOG SENSE by [`commands::log_sense`].
@@ -64,7 +64,7 @@ impl<'a> Initiator<'a> {
         allocation_length: u16,
     ) -> Result<Reply<'a>, Error> {
         let cdb = commands::log_sense(page_code, subpage_code, allocation_length);
-        self.execute(&cdb, &[])
+        self.send(&cdb, &[])
     }
 
     /// Executes REPORT LUNS by [`commands::report_luns`].
@@ -74,7 +74,7 @@ impl<'a> Initiator<'a> {
         allocation_length: u32,
     ) -> Result<Reply<'a>, Error> {
         let cdb = commands::report_luns(select_report, allocation_length);
-        self.execute(&cdb, &[])
+        self.send(&cdb, &[])
     }
 
     /// Executes REPORT SUPPORTED OPERATION CODES by [`commands::report_supported_operation_codes`].
@@ -83,7 +83,7 @@ impl<'a> Initiator<'a> {
         fields: commands::ReportSupportedOperationCodes,
     ) -> Result<Reply<'a>, Error> {
         let cdb = commands::report_supported_operation_codes(fields);
-        self.execute(&cdb, &[])
+        self.send(&cdb, &[])
     }
 
     /// Executes REPORT SUPPORTED TASK MANAGEMENT FUNCTIONS by
@@ -94,7 +94,7 @@ impl<'a> Initiator<'a> {
         allocation_length: u32,
     ) -> Result<Reply<'a>, Error> {
         let cdb = commands::report_supported_task_management_functions(repd, allocation_length);
-        self.execute(&cdb, &[])
+        self.send(&cdb, &[])
     }
 
     /// Executes SEND DIAGNOSTIC by [`commands::send_diagnostic`].
@@ -105,7 +105,7 @@ impl<'a> Initiator<'a> {
         parameter_list_length: u16,
     ) -> Result<Reply<'a>, Error> {
         let cdb = commands::send_diagnostic(self_test_code, selftest, parameter_list_length);
-        self.execute(&cdb, &[])
+        self.send(&cdb, &[])
     }
 
     /// Executes COMPARE AND WRITE by [`commands::compare_and_write`].
@@ -116,7 +116,7 @@ impl<'a> Initiator<'a> {
         data_out: &[u8],
     ) -> Result<Reply<'a>, Error> {
         let cdb = commands::compare_and_write(lba, blocks);
-        self.execute(&cdb, data_out)
+        self.send(&cdb, data_out)
     }
 
     /// Executes FORMAT UNIT by [`commands::format_unit`].
@@ -127,85 +127,85 @@ impl<'a> Initiator<'a> {
         data_out: &[u8],
     ) -> Result<Reply<'a>, Error> {
         let cdb = commands::format_unit(longlist, fmtdata);
-        self.execute(&cdb, data_out)
+        self.send(&cdb, data_out)
     }
 
     /// Executes ORWRITE(16) by [`commands::orwrite16`].
     pub fn orwrite16(self, lba: u64, blocks: u32, data_out: &[u8]) -> Result<Reply<'a>, Error> {
         let cdb = commands::orwrite16(lba, blocks);
-        self.execute(&cdb, data_out)
+        self.send(&cdb, data_out)
     }
 
     /// Executes PRE-FETCH(10) by [`commands::pre_fetch10`].
     pub fn pre_fetch10(self, lba: u32, blocks: u16) -> Result<Reply<'a>, Error> {
         let cdb = commands::pre_fetch10(lba, blocks);
-        self.execute(&cdb, &[])
+        self.send(&cdb, &[])
     }
 
     /// Executes PRE-FETCH(16) by [`commands::pre_fetch16`].
     pub fn pre_fetch16(self, lba: u64, blocks: u32) -> Result<Reply<'a>, Error> {
         let cdb = commands::pre_fetch16(lba, blocks);
-        self.execute(&cdb, &[])
+        self.send(&cdb, &[])
     }
 
     /// Executes READ(6) by [`commands::read6`].
     pub fn read6(self, lba: u32, blocks: u8) -> Result<Reply<'a>, Error> {
         let cdb = commands::read6(lba, blocks);
-        self.execute(&cdb, &[])
+        self.send(&cdb, &[])
     }
 
     /// Executes READ(10) by [`commands::read10`].
     pub fn read10(self, lba: u32, blocks: u16) -> Result<Reply<'a>, Error> {
         let cdb = commands::read10(lba, blocks);
-        self.execute(&cdb, &[])
+        self.send(&cdb, &[])
     }
 
     /// Executes READ(12) by [`commands::read12`].
     pub fn read12(self, lba: u32, blocks: u32) -> Result<Reply<'a>, Error> {
         let cdb = commands::read12(lba, blocks);
-        self.execute(&cdb, &[])
+        self.send(&cdb, &[])
     }
 
     /// Executes READ(16) by [`commands::read16`].
     pub fn read16(self, lba: u64, blocks: u32) -> Result<Reply<'a>, Error> {
         let cdb = commands::read16(lba, blocks);
-        self.execute(&cdb, &[])
+        self.send(&cdb, &[])
     }
 
     /// Executes WRITE(6) by [`commands::write6`].
     pub fn write6(self, lba: u32, blocks: u8, data_out: &[u8]) -> Result<Reply<'a>, Error> {
         let cdb = commands::write6(lba, blocks);
-        self.execute(&cdb, data_out)
+        self.send(&cdb, data_out)
     }
 
     /// Executes WRITE(10) by [`commands::write10`].
     pub fn write10(self, lba: u32, blocks: u16, data_out: &[u8]) -> Result<Reply<'a>, Error> {
         let cdb = commands::write10(lba, blocks);
-        self.execute(&cdb, data_out)
+        self.send(&cdb, data_out)
     }
 
     /// Executes WRITE(12) by [`commands::write12`].
     pub fn write12(self, lba: u32, blocks: u32, data_out: &[u8]) -> Result<Reply<'a>, Error> {
         let cdb = commands::write12(lba, blocks);
-        self.execute(&cdb, data_out)
+        self.send(&cdb, data_out)
     }
 
     /// Executes WRITE(16) by [`commands::write16`].
     pub fn write16(self, lba: u64, blocks: u32, data_out: &[u8]) -> Result<Reply<'a>, Error> {
         let cdb = commands::write16(lba, blocks);
-        self.execute(&cdb, data_out)
+        self.send(&cdb, data_out)
     }
 
     /// Executes READ CAPACITY(10) by [`commands::read_capacity10`].
     pub fn read_capacity10(self) -> Result<Reply<'a>, Error> {
         let cdb = commands::read_capacity10();
-        self.execute(&cdb, &[])
+        self.send(&cdb, &[])
     }
 
     /// Executes READ CAPACITY(16) by [`commands::read_capacity16`].
     pub fn read_capacity16(self, allocation_length: u32) -> Result<Reply<'a>, Error> {
         let cdb = commands::read_capacity16(allocation_length);
-        self.execute(&cdb, &[])
+        self.send(&cdb, &[])
     }
 
     /// Executes READ DEFECT DATA(10) by [`commands::read_defect_data10`].
@@ -222,7 +222,7 @@ impl<'a> Initiator<'a> {
             defect_list_format,
             allocation_length,
         );
-        self.execute(&cdb, &[])
+        self.send(&cdb, &[])
     }
 
     /// Executes READ DEFECT DATA(12) by [`commands::read_defect_data12`].
@@ -231,13 +231,13 @@ impl<'a> Initiator<'a> {
         fields: commands::ReadDefectData12,
     ) -> Result<Reply<'a>, Error> {
         let cdb = commands::read_defect_data12(fields);
-        self.execute(&cdb, &[])
+        self.send(&cdb, &[])
     }
 
     /// Executes SANITIZE, BLOCK ERASE by [`commands::sanitize_block_erase`].
     pub fn sanitize_block_erase(self, parameter_list_length: u16) -> Result<Reply<'a>, Error> {
         let cdb = commands::sanitize_block_erase(parameter_list_length);
-        self.execute(&cdb, &[])
+        self.send(&cdb, &[])
     }
 
     /// Executes SANITIZE, CRYPTOGRAPHIC ERASE by [`commands::sanitize_cryptographic_erase`].
@@ -246,7 +246,7 @@ impl<'a> Initiator<'a> {
         parameter_list_length: u16,
     ) -> Result<Reply<'a>, Error> {
         let cdb = commands::sanitize_cryptographic_erase(parameter_list_length);
-        self.execute(&cdb, &[])
+        self.send(&cdb, &[])
     }
 
     /// Executes SANITIZE, EXIT FAILURE MODE by [`commands::sanitize_exit_failure_mode`].
@@ -255,7 +255,7 @@ impl<'a> Initiator<'a> {
         parameter_list_length: u16,
     ) -> Result<Reply<'a>, Error> {
         let cdb = commands::sanitize_exit_failure_mode(parameter_list_length);
-        self.execute(&cdb, &[])
+        self.send(&cdb, &[])
     }
 
     /// Executes START STOP UNIT by [`commands::start_stop_unit`].
@@ -267,19 +267,19 @@ impl<'a> Initiator<'a> {
         start: bool,
     ) -> Result<Reply<'a>, Error> {
         let cdb = commands::start_stop_unit(power_condition_modifier, power_condition, loej, start);
-        self.execute(&cdb, &[])
+        self.send(&cdb, &[])
     }
 
     /// Executes SYNCHRONIZE CACHE(10) by [`commands::synchronize_cache10`].
     pub fn synchronize_cache10(self, lba: u32, blocks: u16) -> Result<Reply<'a>, Error> {
         let cdb = commands::synchronize_cache10(lba, blocks);
-        self.execute(&cdb, &[])
+        self.send(&cdb, &[])
     }
 
     /// Executes SYNCHRONIZE CACHE(16) by [`commands::synchronize_cache16`].
     pub fn synchronize_cache16(self, lba: u64, blocks: u32) -> Result<Reply<'a>, Error> {
         let cdb = commands::synchronize_cache16(lba, blocks);
-        self.execute(&cdb, &[])
+        self.send(&cdb, &[])
     }
 
     /// Executes VERIFY(10) by [`commands::verify10`].
@@ -291,7 +291,7 @@ impl<'a> Initiator<'a> {
         data_out: &[u8],
     ) -> Result<Reply<'a>, Error> {
         let cdb = commands::verify10(lba, blocks, bytchk);
-        self.execute(&cdb, data_out)
+        self.send(&cdb, data_out)
     }
 
     /// Executes VERIFY(12) by [`commands::verify12`].
@@ -303,7 +303,7 @@ impl<'a> Initiator<'a> {
         data_out: &[u8],
     ) -> Result<Reply<'a>, Error> {
         let cdb = commands::verify12(lba, blocks, bytchk);
-        self.execute(&cdb, data_out)
+        self.send(&cdb, data_out)
     }
 
     /// Executes VERIFY(16) by [`commands::verify16`].
@@ -315,7 +315,7 @@ impl<'a> Initiator<'a> {
         data_out: &[u8],
     ) -> Result<Reply<'a>, Error> {
         let cdb = commands::verify16(lba, blocks, bytchk);
-        self.execute(&cdb, data_out)
+        self.send(&cdb, data_out)
     }
 
     /// Executes WRITE AND VERIFY(10) by [`commands::write_and_verify10`].
@@ -327,7 +327,7 @@ impl<'a> Initiator<'a> {
         data_out: &[u8],
     ) -> Result<Reply<'a>, Error> {
         let cdb = commands::write_and_verify10(lba, blocks, bytchk);
-        self.execute(&cdb, data_out)
+        self.send(&cdb, data_out)
     }
 
     /// Executes WRITE AND VERIFY(12) by [`commands::write_and_verify12`].
@@ -339,7 +339,7 @@ impl<'a> Initiator<'a> {
         data_out: &[u8],
     ) -> Result<Reply<'a>, Error> {
         let cdb = commands::write_and_verify12(lba, blocks, bytchk);
-        self.execute(&cdb, data_out)
+        self.send(&cdb, data_out)
     }
 
     /// Executes WRITE AND VERIFY(16) by [`commands::write_and_verify16`].
@@ -351,7 +351,7 @@ impl<'a> Initiator<'a> {
         data_out: &[u8],
     ) -> Result<Reply<'a>, Error> {
         let cdb = commands::write_and_verify16(lba, blocks, bytchk);
-        self.execute(&cdb, data_out)
+        self.send(&cdb, data_out)
     }
 
     /// Executes WRITE ATOMIC(16) by [`commands::write_atomic16`].
@@ -363,7 +363,7 @@ impl<'a> Initiator<'a> {
         data_out: &[u8],
     ) -> Result<Reply<'a>, Error> {
         let cdb = commands::write_atomic16(lba, blocks, atomic_boundary);
-        self.execute(&cdb, data_out)
+        self.send(&cdb, data_out)
     }
 
     /// Executes WRITE LONG(10) by [`commands::write_long10`].
@@ -375,7 +375,7 @@ impl<'a> Initiator<'a> {
         byte_transfer_length: u16,
     ) -> Result<Reply<'a>, Error> {
         let cdb = commands::write_long10(lba, cor_dis, wr_uncor, byte_transfer_length);
-        self.execute(&cdb, &[])
+        self.send(&cdb, &[])
     }
 
     /// Executes WRITE SAME(10) by [`commands::write_same10`].
@@ -388,7 +388,7 @@ impl<'a> Initiator<'a> {
         data_out: &[u8],
     ) -> Result<Reply<'a>, Error> {
         let cdb = commands::write_same10(lba, blocks, anchor, unmap);
-        self.execute(&cdb, data_out)
+        self.send(&cdb, data_out)
     }
 
     /// Executes WRITE SAME(16) by [`commands::write_same16`].
@@ -398,19 +398,19 @@ impl<'a> Initiator<'a> {
         data_out: &[u8],
     ) -> Result<Reply<'a>, Error> {
         let cdb = commands::write_same16(fields);
-        self.execute(&cdb, data_out)
+        self.send(&cdb, data_out)
     }
 
     /// Executes UNMAP by [`commands::unmap`]. PARAMETER LIST LENGTH is the length of data-out.
     pub fn unmap(self, anchor: bool, data_out: &[u8]) -> Result<Reply<'a>, Error> {
         let cdb = commands::unmap(anchor, length_of(data_out));
-        self.execute(&cdb, data_out)
+        self.send(&cdb, data_out)
     }
 
     /// Executes GET LBA STATUS by [`commands::get_lba_status`].
     pub fn get_lba_status(self, lba: u64, allocation_length: u32) -> Result<Reply<'a>, Error> {
         let cdb = commands::get_lba_status(lba, allocation_length);
-        self.execute(&cdb, &[])
+        self.send(&cdb, &[])
     }
 
     /// Executes PERSISTENT RESERVE IN by [`commands::persistent_reserve_in`].
@@ -420,7 +420,7 @@ impl<'a> Initiator<'a> {
         allocation_length: u16,
     ) -> Result<Reply<'a>, Error> {
         let cdb = commands::persistent_reserve_in(service_action, allocation_length);
-        self.execute(&cdb, &[])
+        self.send(&cdb, &[])
     }
 
     /// Executes PERSISTENT RESERVE OUT by [`commands::persistent_reserve_out`]. PARAMETER LIST
@@ -434,6 +434,6 @@ impl<'a> Initiator<'a> {
     ) -> Result<Reply<'a>, Error> {
         let cdb =
             commands::persistent_reserve_out(service_action, scope, type_, length_of(data_out));
-        self.execute(&cdb, data_out)
+        self.send(&cdb, data_out)
     }
 }

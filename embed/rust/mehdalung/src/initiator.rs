@@ -1,5 +1,5 @@
 //! Initiators of a disk.
-use crate::{Disk, Error, Reply};
+use crate::{kind_of, Disk, Error, Reply};
 
 /// An initiator of a disk, by [`Disk::initiator`].
 ///
@@ -31,6 +31,12 @@ impl<'a> Initiator<'a> {
     /// Executes a command, as [`Disk::execute`] does.
     pub fn execute(self, cdb: &[u8], data_out: &[u8]) -> Result<Reply<'a>, Error> {
         self.disk.execute(self.number, cdb, data_out)
+    }
+
+    /// Executes a command by name. Its reply prints data-in by the kind of the command.
+    pub(crate) fn send(self, cdb: &[u8], data_out: &[u8]) -> Result<Reply<'a>, Error> {
+        let reply = self.execute(cdb, data_out)?;
+        Ok(Reply { kind: kind_of(cdb), ..reply })
     }
 
     /// Executes a command without a flush of the disk's file, as [`Disk::execute_unflushed`] does.

@@ -46,6 +46,34 @@ pub fn decode(kind: u32, data_in: &[u8]) -> Option<String> {
     })
 }
 
+/// Returns the kind of the data-in of a command, a number of the module [`kind`]. It is [`kind::HEX`] for a
+/// command without a kind of its own. The kinds of an extended disk print the data of a base disk, too.
+pub fn kind_of(cdb: &[u8]) -> u32 {
+    let byte = |at: usize| cdb.get(at).copied().unwrap_or(0);
+    match (byte(0), byte(1) & 0x1F) {
+        (0x03, _) => kind::SENSE_EXTENDED,
+        (0x12, evpd) if evpd & 1 == 1 => kind::VPD_EXTENDED,
+        (0x12, _) => kind::INQUIRY_EXTENDED,
+        (0x1A, _) => kind::MODES_6,
+        (0x5A, _) => kind::MODES_10,
+        (0x25, _) => kind::CAPACITY_10,
+        (0x9E, 0x10) => kind::CAPACITY_16,
+        (0x9E, 0x12) => kind::LBA_STATUS,
+        (0x37, _) => kind::DEFECTS_10,
+        (0xB7, _) => kind::DEFECTS_12,
+        (0x4D, _) => kind::LOG_PAGE,
+        (0x5E, 0x00) => kind::KEYS,
+        (0x5E, 0x01) => kind::RESERVATION,
+        (0x5E, 0x02) => kind::CAPABILITIES,
+        (0x5E, 0x03) => kind::FULL_STATUS,
+        (0xA0, _) => kind::LUNS,
+        (0xA3, 0x0C) if byte(2) & 7 == 0 => kind::ALL_COMMANDS,
+        (0xA3, 0x0C) => kind::ONE_COMMAND,
+        (0xA3, 0x0D) => kind::TASK_MANAGEMENT,
+        _ => kind::HEX,
+    }
+}
+
 /// Returns the version of the library and of the proof.
 pub fn version() -> Option<String> {
     // SAFETY: the text has the bytes that its length says.

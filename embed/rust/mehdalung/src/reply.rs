@@ -6,7 +6,7 @@ use std::fmt;
 
 /// The reply to a command. It borrows the disk's data-in until the next command.
 ///
-/// It prints as `sgrun` prints a reply, so that a failed assertion is readable:
+/// It prints its status, and sense data or data-in in lines, so that a failed assertion is readable:
 ///
 /// ```
 /// # use mehdalung::{Disk, Error};
@@ -21,8 +21,8 @@ pub struct Reply<'a> {
     pub(crate) record: sys::mdl_reply,
     /// Data-in.
     pub data_in: &'a [u8],
-    /// How data-in is printed, a number of the module [`kind`]: [`kind::HEX`], unless a tool sent the
-    /// command.
+    /// How data-in is printed, a number of the module [`kind`]. It is [`kind::HEX`], unless the command
+    /// was sent by its name or by a tool.
     pub kind: u32,
     pub(crate) waits: bool,
 }

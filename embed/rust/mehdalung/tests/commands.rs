@@ -4,7 +4,7 @@ mod largest;
 
 use mehdalung::commands::*;
 use mehdalung::lists::{reserve_out_list, unmap_list};
-use mehdalung::{profile, Disk, Error, GOOD};
+use mehdalung::{kind, kind_of, profile, Disk, Error, GOOD};
 
 /// What REPORT SUPPORTED OPERATION CODES of an extended disk returns with a header of 4 bytes.
 fn reported(disk: &mut Disk, fields: ReportSupportedOperationCodes) -> Result<Vec<u8>, Error> {
@@ -203,4 +203,42 @@ fn lists_are_as_by_hand() {
 fn a_long_list_does_not_fit() {
     let mut disk = Disk::new(64, 4, None).unwrap();
     let _ = disk.initiator(0).mode_select6(true, false, &[0; 256]);
+}
+
+#[test]
+fn a_reply_has_the_kind_that_a_tool_gives_it() -> Result<(), Error> {
+    let mut disk = Disk::with_profile(profile::EXTENDED, 64, 4, None)?;
+    disk.initiator(0).request_sense(false, 18)?;
+    let one = ReportSupportedOperationCodes { reporting_options: 1, ..Default::default() };
+    for (words, cdb) in [
+        ("sg_modes --six", mode_sense6(Default::default()).to_vec()),
+        ("sg_modes", mode_sense10(Default::default()).to_vec()),
+        ("sg_readcap", read_capacity10().to_vec()),
+        ("sg_readcap --16", read_capacity16(32).to_vec()),
+        ("sg_get_lba_status", get_lba_status(0, 24).to_vec()),
+        ("sg_logs -p 0ch", log_sense(0x0C, 0, 100).to_vec()),
+        ("sg_persist -k", persistent_reserve_in(reserve_in::READ_KEYS, 100).to_vec()),
+        ("sg_persist -r", persistent_reserve_in(reserve_in::READ_RESERVATION, 100).to_vec()),
+        ("sg_persist -c", persistent_reserve_in(reserve_in::REPORT_CAPABILITIES, 100).to_vec()),
+        ("sg_persist -s", persistent_reserve_in(reserve_in::READ_FULL_STATUS, 100).to_vec()),
+        ("sg_luns", report_luns(0, 100).to_vec()),
+        ("sg_opcodes", report_supported_operation_codes(Default::default()).to_vec()),
+        ("sg_opcodes -o 28h", report_supported_operation_codes(one).to_vec()),
+        ("sg_opcodes -t", report_supported_task_management_functions(false, 4).to_vec()),
+    ] {
+        assert_eq!(disk.tool(0, words)?.kind, kind_of(&cdb), "{words}");
+    }
+    for (cdb, kind) in [
+        (inquiry(false, 0, 36).to_vec(), kind::INQUIRY_EXTENDED),
+        (inquiry(true, 0x83, 252).to_vec(), kind::VPD_EXTENDED),
+        (request_sense(false, 18).to_vec(), kind::SENSE_EXTENDED),
+        (read_defect_data10(true, true, 0, 8).to_vec(), kind::DEFECTS_10),
+        (read_defect_data12(Default::default()).to_vec(), kind::DEFECTS_12),
+        (Vec::new(), kind::HEX),
+    ] {
+        assert_eq!(kind_of(&cdb), kind);
+    }
+    let printed = "GOOD\n  returned logical block address: 63\n  logical block length: 512";
+    assert_eq!(disk.initiator(0).read_capacity10()?.to_string(), printed);
+    Ok(())
 }
