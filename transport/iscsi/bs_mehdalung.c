@@ -13,12 +13,13 @@
 #include <sys/random.h>
 
 #include "unit.h"
+#include "absent.h"
 #include "asked.h"
-#include "driver.h"
 #include "happenings.h"
 #include "held.h"
 #include "kept.h"
 #include "kept_ports.h"
+#include "numbers.h"
 #include "waiting.h"
 
 /* The length of the longest CDB of a command of the disk. */
@@ -30,94 +31,6 @@ enum { SERVICE_ACTION_BITS = 0x1F };
 static uint8_t data_in[MDL_BUFFER_LENGTH];
 
 static struct backingstore_template store;
-
-/* The initiator port of a session, or 0 where there is none with a TransportID that fits. */
-static int get_port(const struct target *target, uint64_t session, struct port *port)
-{
-    char transport_id[TRANSPORT_ID_LENGTH];
-    int length = tgt_drivers[target->lid]->transportid(target->tid, session, transport_id,
-                                                       TRANSPORT_ID_LENGTH);
-
-    if (length <= 0 || length > TRANSPORT_ID_LENGTH)
-        return 0;
-    port_read(port, transport_id);
-    return 1;
-}
-
-/* Bit i is set where the port that has number i has a session. */
-static unsigned numbers_with_session(struct scsi_lu *lu)
-{
-    struct it_nexus *nexus;
-    struct port port;
-    unsigned found = 0;
-    int number;
-
-    list_for_each_entry(nexus, &lu->tgt->it_nexus_list, nexus_siblings) {
-        number = NO_NUMBER;
-        if (get_port(lu->tgt, nexus->itn_id, &port))
-            number = port_number(&unit_of(lu)->table, &port);
-        if (number != NO_NUMBER)
-            found |= 1u << number;
-    }
-    return found;
-}
-
-static void log_number(const struct scsi_lu *lu, int number, const struct port *port)
-{
-    eprintf("LUN %" PRIu64 ": initiator %d is %s\n", lu->lun, number, port->text);
-}
-
-/* Puts a table with a new port beside the disk's file, if it has one. Returns 0 if that fails. */
-static int keep_ports(const struct scsi_lu *lu, const char *file, const struct port_table *table)
-{
-    int error = file ? write_ports(table, file) : 0;
-
-    if (error)
-        eprintf("LUN %" PRIu64 ": %s" PORTS_SUFFIX ": %s\n", lu->lun, file, strerror(error));
-    return !error;
-}
-
-/* Gives a number to a port that has none, or NO_NUMBER. The number is kept before the port gets a reply.
- * The disk forgets the port that had it. A disk whose file has failed does not, and needs not. */
-static int take_number(struct scsi_lu *lu, const struct port *port)
-{
-    struct unit *unit = unit_of(lu);
-    static struct port_table next;
-    mdl_error error = MDL_OK;
-    uint32_t registered;
-    int number;
-
-    if (mdl_registered(&unit->disk, &registered))
-        return NO_NUMBER;
-    next = unit->table;
-    number = port_take_number(&next, port, registered | numbers_with_session(lu));
-    if (number == NO_NUMBER || !keep_ports(lu, unit->file, &next))
-        return NO_NUMBER;
-    if (unit->table.last_use[number])
-        error = mdl_forget(&unit->disk, (uint32_t)number);
-    if (error && error != MDL_FILE_FAILED)
-        return NO_NUMBER;
-    unit->table = next;
-    log_number(lu, number, port);
-    return number;
-}
-
-/* The initiator that sends a command, or NO_NUMBER. */
-static int initiator_of(struct scsi_cmd *cmd)
-{
-    struct scsi_lu *lu = cmd->dev;
-    struct port_table *table = &unit_of(lu)->table;
-    struct port port;
-    int number;
-
-    if (!get_port(lu->tgt, cmd->it_nexus->itn_id, &port))
-        return NO_NUMBER;
-    number = port_number(table, &port);
-    if (number == NO_NUMBER)
-        return take_number(lu, &port);
-    port_use(table, number);
-    return number;
-}
 
 /* Returns 1 if a command may share its flush with others. Those before an ORDERED command have to end first,
  * and those after it later (SAM-5, 8.6). */
@@ -159,9 +72,11 @@ static mdl_error execute_command(struct scsi_cmd *cmd, uint32_t initiator, mdl_r
 static void trace(struct scsi_cmd *cmd, int initiator, const mdl_reply *reply)
 {
     int length = get_scsi_cdb_size(cmd), at;
-    char cdb[2 * TRACED_CDB + 1], text[64] = "no reply";
+    char who[32] = "no initiator", cdb[2 * TRACED_CDB + 1], text[64] = "no reply";
     mdl_sense sense;
 
+    if (initiator != NO_NUMBER)
+        snprintf(who, sizeof who, "initiator %d", initiator);
     for (at = 0; at < length && at < TRACED_CDB; at++)
         sprintf(cdb + 2 * at, "%02x", cmd->scb[at]);
     if (mdl_read_sense(reply->sense, reply->sense_length, &sense))
@@ -169,16 +84,7 @@ static void trace(struct scsi_cmd *cmd, int initiator, const mdl_reply *reply)
     if (reply->status != MDL_NO_REPLY)
         snprintf(text, sizeof text, "status %02x, sense %x/%02x/%02x, data-in %zu", reply->status,
                  sense.key, sense.asc, sense.ascq, reply->data_in_length);
-    dprintf("TRACE initiator %d, %s, data-out %u: %s\n", initiator, cdb, scsi_get_out_length(cmd),
-            text);
-}
-
-static uint32_t registered_initiators(struct scsi_lu *lu)
-{
-    uint32_t mask = 0;
-
-    mdl_registered(&unit_of(lu)->disk, &mask);
-    return mask;
+    dprintf("TRACE %s, %s, data-out %u: %s\n", who, cdb, scsi_get_out_length(cmd), text);
 }
 
 /* Executes a command, and notes its initiator's session. PREEMPT AND ABORT ends the held commands
@@ -203,23 +109,26 @@ static mdl_error execute_of_session(struct scsi_cmd *cmd, int initiator, mdl_rep
     return error;
 }
 
-/* Called by tgtd for each command, with the whole of its data-out. A port without a number gets
- * BUSY: tgtd asks nobody before it lets a port log in. tgtd sends the status that is returned,
- * unless the command is held or its reply waits for a flush. */
+/* Called by tgtd for each command, with the whole of its data-out. A port whose number can't be kept now
+ * gets BUSY. tgtd sends the status that is returned, unless the command is held or its reply waits for a
+ * flush. */
 static int execute(int tid, struct scsi_cmd *cmd)
 {
     int initiator, status;
     mdl_reply reply;
-    mdl_error error;
+    mdl_error error = MDL_OK;
 
     (void)tid;
     notice(cmd->dev);
     initiator = initiator_of(cmd);
-    if (initiator == NO_NUMBER) {
+    if (initiator == NUMBER_NOT_KEPT) {
         scsi_set_in_resid_by_actual(cmd, 0);
         return SAM_STAT_BUSY;
     }
-    error = execute_of_session(cmd, initiator, &reply);
+    if (initiator == NO_NUMBER)
+        execute_absent(cmd, &reply);
+    else
+        error = execute_of_session(cmd, initiator, &reply);
     if (error && error != MDL_FLUSH_OWED) {
         scsi_set_in_resid_by_actual(cmd, 0);
         sense_data_build(cmd, HARDWARE_ERROR, ASC_INTERNAL_TGT_FAILURE);
@@ -328,6 +237,7 @@ static int open_disk(struct scsi_lu *lu, char *path, int *fd, uint64_t *size)
         return -EINVAL;
     }
     memset(&unit->table, 0, sizeof unit->table);
+    memset(&unit->refused, 0, sizeof unit->refused);
     unit->file = NULL;
     if (!make_disk(lu, &asked, reason) || (asked.file && !open_ports(lu, asked.file, reason))) {
         eprintf("no disk: %s\n", reason);

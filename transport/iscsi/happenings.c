@@ -7,6 +7,7 @@
 #include "happenings.h"
 #include "driver.h"
 #include "held.h"
+#include "numbers.h"
 #include "waiting.h"
 #include "iscsi/iscsid.h"
 
@@ -289,21 +290,14 @@ static tgtadm_err log_faults(struct scsi_lu *lu)
     return TGTADM_SUCCESS;
 }
 
-tgtadm_err update(struct scsi_lu *lu, char *params)
+/* Does what words of a script's line ask for. */
+static tgtadm_err happen_by_words(struct scsi_lu *lu, const char *words)
 {
-    static const char prefix[] = "targetOps ";
-    size_t length = strlen(params);
     mdl_happening happening;
     int is_done;
 
-    if (strncmp(params, prefix, sizeof prefix - 1) != 0 || params[length - 1] != ',')
+    if (mdl_read_happening(words, &happening))
         return TGTADM_UNKNOWN_PARAM;
-    params[length - 1] = '\0';
-    if (strcmp(params + sizeof prefix - 1, "faults") == 0)
-        return log_faults(lu);
-    if (mdl_read_happening(params + sizeof prefix - 1, &happening))
-        return TGTADM_UNKNOWN_PARAM;
-    notice(lu);
     if (happening.kind == MDL_TARGET_RESET)
         is_done = reset_target(lu->tgt);
     else
@@ -311,4 +305,23 @@ tgtadm_err update(struct scsi_lu *lu, char *params)
     if (is_done && happening.kind == MDL_GROW && happening.blocks * MDL_BLOCK_LENGTH > lu->size)
         lu->size = happening.blocks * MDL_BLOCK_LENGTH;
     return is_done ? TGTADM_SUCCESS : TGTADM_INVALID_REQUEST;
+}
+
+tgtadm_err update(struct scsi_lu *lu, char *params)
+{
+    static const char prefix[] = "targetOps ", forget[] = "forget ";
+    size_t length = strlen(params);
+    const char *words = params + sizeof prefix - 1;
+
+    if (strncmp(params, prefix, sizeof prefix - 1) != 0 || params[length - 1] != ',')
+        return TGTADM_UNKNOWN_PARAM;
+    params[length - 1] = '\0';
+    notice(lu);
+    if (strcmp(words, "faults") == 0)
+        return log_faults(lu);
+    if (strcmp(words, "ports") == 0)
+        return log_ports(lu);
+    if (strncmp(words, forget, sizeof forget - 1) == 0)
+        return forget_port(lu, words + sizeof forget - 1);
+    return happen_by_words(lu, words);
 }

@@ -22,8 +22,9 @@ void notice(struct scsi_lu *lu);
 void note_session(struct scsi_lu *lu, int initiator, uint64_t session);
 
 /* Called by tgtd with the parameter of `tgtadm --op update --mode logicalunit`, as tgtadm sends it:
- * "targetOps WORDS,". The words are a script's (docs/SCRIPT.md), such as "fault arrival busy". The word
- * "faults" writes the armed faults to tgtd's log. */
+ * "targetOps WORDS,". The words are a script's (docs/SCRIPT.md), such as "fault arrival busy". "faults"
+ * writes the armed faults to tgtd's log, and "ports" which port is which initiator. "forget N" gives up a
+ * number (numbers.h). */
 tgtadm_err update(struct scsi_lu *lu, char *params);
 
 #endif

@@ -64,3 +64,36 @@ int port_take_number(struct port_table *table, const struct port *port, unsigned
     }
     return least;
 }
+
+void port_give_up_number(struct port_table *table, int number)
+{
+    table->ports[number].text[0] = '\0';
+    table->last_use[number] = 0;
+}
+
+/* The place of a port among the refused ones, or MOST_REFUSED. */
+static unsigned find_refused(const struct refused_ports *refused, const struct port *port)
+{
+    unsigned at = 0;
+
+    while (at < MOST_REFUSED && strcmp(refused->ports[at].text, port->text) != 0)
+        at++;
+    return at;
+}
+
+int port_refuse(struct refused_ports *refused, const struct port *port)
+{
+    if (find_refused(refused, port) < MOST_REFUSED)
+        return 0;
+    refused->ports[refused->next] = *port;
+    refused->next = (refused->next + 1) % MOST_REFUSED;
+    return 1;
+}
+
+void port_accept(struct refused_ports *refused, const struct port *port)
+{
+    unsigned at = find_refused(refused, port);
+
+    if (at < MOST_REFUSED)
+        refused->ports[at].text[0] = '\0';
+}

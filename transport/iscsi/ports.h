@@ -3,7 +3,8 @@
  * A disk has eight initiators, 0 to 7; an iSCSI target has as many initiator ports as log in. An
  * initiator port is known by its iSCSI name and its ISID. It gets a number with its first command and
  * keeps it, so that a port that comes back after a lost session finds its registration. Another port may
- * get the number once its own port has no session and no registration. */
+ * get the number once its own port has no session and no registration. While there is no number for a port,
+ * the target has no disk for it. */
 #ifndef PORTS_H
 #define PORTS_H
 
@@ -29,8 +30,17 @@ struct port {
 
 struct port_table {
     struct port ports[PORT_NUMBERS];
-    uint64_t last_use[PORT_NUMBERS]; /* 0: no port ever had the number */
+    uint64_t last_use[PORT_NUMBERS]; /* 0: no port ever had the number, or it was given up */
     uint64_t uses;
+};
+
+/* How many ports without a number are remembered. */
+enum { MOST_REFUSED = 64 };
+
+/* The ports for which there was no number lately. Each has a line in the log. */
+struct refused_ports {
+    struct port ports[MOST_REFUSED]; /* an empty text is no port */
+    unsigned next;                   /* the place of the next one */
 };
 
 /* Reads a TransportID as tgtd makes it: 4 bytes, the name, a zero, the text ",i,0x" and the 6 bytes of
@@ -47,5 +57,14 @@ void port_use(struct port_table *table, int number);
  * had. If there is none, it is the number that was used the longest ago and has no bit in `kept`.
  * Returns NO_NUMBER if there is no such number either, and then leaves the table as it was. */
 int port_take_number(struct port_table *table, const struct port *port, unsigned kept);
+
+/* Gives up a number. No port has it then, as if none ever had it. */
+void port_give_up_number(struct port_table *table, int number);
+
+/* Remembers a port for which there is no number. Returns 0 if it is remembered already. */
+int port_refuse(struct refused_ports *refused, const struct port *port);
+
+/* Forgets a port that has a number now, if it was refused. */
+void port_accept(struct refused_ports *refused, const struct port *port);
 
 #endif

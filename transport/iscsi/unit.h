@@ -26,6 +26,7 @@ struct unit {
     mdl_disk disk;
     char *file; /* the path of the disk's file, without symbolic links; null: the disk is in memory */
     struct port_table table;
+    struct refused_ports refused;
     uint64_t sessions[PORT_NUMBERS]; /* of the port that has the number; 0: none, or it was lost */
     struct list_head held;           /* commands without a reply, by their field bs_list */
     struct waiting waiting;

@@ -1,5 +1,5 @@
 /* Sends commands to a target, from lines, and prints each reply as sgrun does.
- *     initiator [--eight] [--bytes] [--target COMMAND] URL [SCRIPT]
+ *     initiator [--eight] [--bytes] [--quick] [--target COMMAND] URL [SCRIPT]
  *
  *     raw I CDB [DATA]            sends a CDB of at most 16 bytes, and data-out, in hexadecimal.
  *     fill I LBA COUNT BYTE       sends WRITE(16) of equal blocks. Numbers are 17, 0x11 or 11h.
@@ -14,6 +14,7 @@
  *     end I                       closes that connection.
  *     reset I                     sends a LOGICAL UNIT RESET.
  *     warm I, cold I              sends a TARGET WARM RESET, or a TARGET COLD RESET.
+ *     manage I N                  sends task management function N of RFC 7143, 11.5.1, without a command.
  *     power                       runs `COMMAND power`. So do the other words by which something
  *                                 happens to an extended disk: `reset`, `reset target`, `nexus I`,
  *                                 `grow N`, `attention CODE`, `attention CODE I`, and the words of
@@ -23,7 +24,8 @@
  * I is an initiator port, 0 to 9. It logs in with its first line, and again with the first line
  * after `drop` or `logout`. It is the same port then: its name and its ISID follow from I. With
  * --eight, ports 0 to 7 log in at the beginning and send an INQUIRY each, in this order. With
- * --bytes, sense data is also printed as bytes, and so is data-in that came with it.
+ * --bytes, sense data is also printed as bytes, and so is data-in that came with it. With --quick, `raw`
+ * and `fill` print a line if the reply, with a login before it, took more than a second.
  *
  * A command without a reply is NO REPLY: the target has replied to a later NOP-Out, twice. `raw`
  * and `fill` then send ABORT TASK for it.
@@ -34,6 +36,7 @@
 #include <stdio.h>
 #include <stdlib.h>
 #include <string.h>
+#include <time.h>
 
 #include "print.h"
 #include "session.h"
@@ -46,7 +49,8 @@ enum {
     MOST_SENT = 16,
     MOST_IMMEDIATE = 8192,
     MOST_COMMAND = 1024,
-    MOST_FILL = 256
+    MOST_FILL = 256,
+    MOST_MILLISECONDS = 1000 /* of a reply, with --quick */
 };
 
 /* The status of a line that can't be executed. */
@@ -66,7 +70,7 @@ static struct sent {
     unsigned long line;
 } sent[PORTS][MOST_SENT];
 
-static int prints_bytes;
+static int prints_bytes, has_to_be_quick;
 static unsigned long line;
 static int exit_status;
 
@@ -131,12 +135,24 @@ static struct command *begin(unsigned port, const struct request *request)
     return command;
 }
 
+static int64_t milliseconds(void)
+{
+    struct timespec now;
+
+    clock_gettime(CLOCK_MONOTONIC, &now);
+    return (int64_t)now.tv_sec * 1000 + now.tv_nsec / 1000000;
+}
+
 static void execute(unsigned port, const struct request *request)
 {
+    int64_t start = milliseconds();
     struct command *command = begin(port, request);
     const struct answer *answer = session_settle(sessions[port], command);
+    int is_late = has_to_be_quick && milliseconds() - start > MOST_MILLISECONDS;
 
     report(line, answer);
+    if (is_late)
+        puts("  late");
     if (has_wrong_residual(answer, request))
         printf("  residual: %ld of %zu\n", answer->residual, request->length);
     if (answer->status == NO_REPLY)
@@ -307,6 +323,15 @@ static void reset(unsigned port, enum reset reset)
            session_reset(sessions[port], reset));
 }
 
+static void manage(unsigned port, const char *function)
+{
+    uint64_t it = number(function);
+
+    log_in(port);
+    printf("line %lu: FUNCTION %" PRIu64 ", response %d\n", line, it,
+           session_manage(sessions[port], (unsigned)it));
+}
+
 /* What sgrun prints for words by which something happens, or null if the first is no such word. */
 static const char *name_of_happening(char **words)
 {
@@ -377,6 +402,8 @@ static void run_line(char *text)
         reset(port_of(words[1]), TARGET_WARM_RESET);
     } else if (strcmp(words[0], "cold") == 0) {
         reset(port_of(words[1]), TARGET_COLD_RESET);
+    } else if (strcmp(words[0], "manage") == 0) {
+        manage(port_of(words[1]), words[2]);
     } else if (strcmp(words[0], "reset") == 0 && words[1] && strcmp(words[1], "target") != 0) {
         reset(port_of(words[1]), LOGICAL_UNIT_RESET);
     } else if (name_of_happening(words)) {
@@ -430,6 +457,8 @@ int main(int count, char **words)
             eight = 1;
         else if (strcmp(words[at], "--bytes") == 0)
             prints_bytes = 1;
+        else if (strcmp(words[at], "--quick") == 0)
+            has_to_be_quick = 1;
         else if (strcmp(words[at], "--target") == 0 && at + 1 < count)
             target_command = words[++at];
         else

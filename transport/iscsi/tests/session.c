@@ -317,6 +317,11 @@ int session_reset(struct session *session, enum reset reset)
     }
 }
 
+int session_manage(struct session *session, unsigned function)
+{
+    return manage(session, (enum iscsi_task_mgmt_funcs)function, NO_TASK, 0);
+}
+
 void session_log_out(struct session *session)
 {
     if (!session)

@@ -88,6 +88,10 @@ enum reset { LOGICAL_UNIT_RESET, TARGET_WARM_RESET, TARGET_COLD_RESET };
  * 0 is "function complete", or NO_REPLY. Commands that were sent before are still waited for. */
 int session_reset(struct session *session, enum reset reset);
 
+/* Sends a task management function that refers to no command, by its number in RFC 7143, 11.5.1. Returns as
+ * session_reset does. */
+int session_manage(struct session *session, unsigned function);
+
 /* Logs out, or closes the connection without a word. Null serves. */
 void session_log_out(struct session *session);
 void session_drop(struct session *session);

@@ -1,0 +1,93 @@
+/* See absent.h. */
+#include <stdio.h>
+#include <string.h>
+
+#include "absent.h"
+
+enum { EVPD = 0x01, DESC = 0x01 };
+
+/* SELECT REPORT of REPORT LUNS (SPC-4, 6.33). */
+enum { WITHOUT_WELL_KNOWN, ONLY_WELL_KNOWN, ALL_UNITS };
+
+/* Standard INQUIRY data (SPC-4, 6.6.2): peripheral qualifier 011b with device type 1Fh, SPC-4, response data
+ * format 2, 31 more bytes, and the names of the disk. */
+static const uint8_t inquiry_data[] = "\x7F\x00\x06\x02\x1F\x00\x00\x00SGMODEL THIN DISK       0100";
+enum { INQUIRY_LENGTH = 36 };
+
+_Static_assert(sizeof inquiry_data == INQUIRY_LENGTH + 1, "a zero follows the data");
+
+/* A list of 8 bytes: LUN 0, which is tgtd's own. And a list of none. */
+static const uint8_t lun_0[16] = { [3] = 8 }, no_lun[8];
+
+/* ILLEGAL REQUEST, LOGICAL UNIT NOT SUPPORTED, in both formats (SPC-4, 4.5). */
+static const uint8_t not_supported_fixed[18] = { 0x70, [2] = 0x05, [7] = 0x0A, [12] = 0x25 };
+static const uint8_t not_supported_descriptor[8] = { 0x72, 0x05, 0x25 };
+
+/* ILLEGAL REQUEST, INVALID FIELD IN CDB. */
+static const uint8_t invalid_field[18] = { 0x70, [2] = 0x05, [7] = 0x0A, [12] = 0x24 };
+
+/* GOOD with data-in, cut at the allocation length. */
+static void give(struct scsi_cmd *cmd, mdl_reply *reply, const uint8_t *bytes, size_t length,
+                 size_t allocation)
+{
+    size_t room = scsi_get_in_length(cmd);
+
+    reply->data_in_length = length < allocation ? length : allocation;
+    length = reply->data_in_length < room ? reply->data_in_length : room;
+    if (length > 0)
+        memcpy(scsi_get_in_buffer(cmd), bytes, length);
+}
+
+static void refuse(mdl_reply *reply, const uint8_t *sense)
+{
+    reply->status = MDL_CHECK_CONDITION;
+    reply->sense_length = sizeof invalid_field;
+    memcpy(reply->sense, sense, sizeof invalid_field);
+}
+
+static void inquire(struct scsi_cmd *cmd, mdl_reply *reply)
+{
+    const uint8_t *cdb = cmd->scb;
+
+    if (cdb[1] & EVPD || cdb[2])
+        refuse(reply, invalid_field);
+    else
+        give(cmd, reply, inquiry_data, INQUIRY_LENGTH, (size_t)cdb[3] << 8 | cdb[4]);
+}
+
+static void report_luns(struct scsi_cmd *cmd, mdl_reply *reply)
+{
+    const uint8_t *cdb = cmd->scb;
+    size_t allocation = (size_t)cdb[6] << 24 | (size_t)cdb[7] << 16 | (size_t)cdb[8] << 8 | cdb[9];
+
+    switch (cdb[2]) {
+    case WITHOUT_WELL_KNOWN: case ALL_UNITS:
+        give(cmd, reply, lun_0, sizeof lun_0, allocation);
+        break;
+    case ONLY_WELL_KNOWN:
+        give(cmd, reply, no_lun, sizeof no_lun, allocation);
+        break;
+    default: refuse(reply, invalid_field);
+    }
+}
+
+static void request_sense(struct scsi_cmd *cmd, mdl_reply *reply)
+{
+    const uint8_t *cdb = cmd->scb;
+
+    if (cdb[1] & DESC)
+        give(cmd, reply, not_supported_descriptor, sizeof not_supported_descriptor, cdb[4]);
+    else
+        give(cmd, reply, not_supported_fixed, sizeof not_supported_fixed, cdb[4]);
+}
+
+void execute_absent(struct scsi_cmd *cmd, mdl_reply *reply)
+{
+    memset(reply, 0, sizeof *reply);
+    switch (cmd->scb[0]) {
+    case INQUIRY: inquire(cmd, reply); break;
+    case REPORT_LUNS: report_luns(cmd, reply); break;
+    case REQUEST_SENSE: request_sense(cmd, reply); break;
+    default: refuse(reply, not_supported_fixed);
+    }
+}
