@@ -200,6 +200,8 @@ static tgtadm_err forget_number(struct scsi_lu *lu, int number, int with_registr
     begin_anew(lu, number);
     unit->table = next;
     log_number(lu, number, &nobody);
+    if (is_debug)
+        dprintf("TRACE initiator %d, forgotten\n", number);
     return TGTADM_SUCCESS;
 }
 
