@@ -158,37 +158,47 @@ static const struct target *target_of(const struct iscsi_connection *connection)
 }
 
 /* Does for a disk what a task management function asks for. tgtd does not know held commands: for
- * it, a command to be aborted does not exist. */
-static void perform(struct scsi_lu *lu, struct mgmt_req *request, struct iscsi_task *task)
+ * it, a command to be aborted does not exist. Returns 0 if a reset is for the disk, and there is no disk for
+ * the port that sends it. */
+static int perform(struct scsi_lu *lu, struct mgmt_req *request, struct iscsi_task *task)
 {
     struct iscsi_tm *function = (struct iscsi_tm *)&task->req;
     int is_addressed = scsi_get_devid(lu->tgt->lid, function->lun) == lu->lun;
     uint64_t session = task->conn->session->tsih;
 
     end_waiting(lu);
-    if (request->function == ABORT_TASK && end_held(lu, session, function->rtt) > 0)
+    if (request->function == ABORT_TASK && end_held(lu, session, function->rtt) > 0) {
         request->result = 0;
-    else if (request->function == ABORT_TASK_SET && is_addressed)
+    } else if (request->function == ABORT_TASK_SET && is_addressed) {
         end_held(lu, session, ANY_TAG);
-    else if (request->function == LOGICAL_UNIT_RESET && is_addressed)
+    } else if (request->function == LOGICAL_UNIT_RESET && is_addressed) {
+        if (!finds_number(lu, session))
+            return 0;
         reset_unit(lu);
+    }
+    return 1;
 }
 
 static int (*end_function)(struct mgmt_req *request);
 
 /* tgtd calls this function in place of its own before it sends the response of a task management
- * function. */
+ * function. tgtd's puts the response at the end of the connection's list, or frees it if the connection is
+ * closed. */
 static int watch_functions(struct mgmt_req *request)
 {
     struct iscsi_task *task = (struct iscsi_task *)(uintptr_t)request->mid;
     const struct target *target = target_of(task->conn);
+    int is_open = task->conn->state != STATE_CLOSE, has_disk = 1, result;
     struct scsi_lu *lu;
 
     if (target)
         list_for_each_entry(lu, &target->device_list, device_siblings)
             if (lu->bst == own_store)
-                perform(lu, request, task);
-    return end_function(request);
+                has_disk &= perform(lu, request, task);
+    result = end_function(request);
+    if (!has_disk && is_open)
+        task->result = ISCSI_TMF_RSP_NO_LUN;
+    return result;
 }
 
 static size_t (*close_connection)(struct iscsi_connection *connection);

@@ -79,15 +79,20 @@ static void begin_anew(struct scsi_lu *lu, int number)
     mdl_happen(&unit_of(lu)->disk, &power_on);
 }
 
+/* Gives a number to a port that has none, in a copy of the table. */
+static int choose_number(struct scsi_lu *lu, const struct port *port, struct port_table *next)
+{
+    *next = unit_of(lu)->table;
+    return port_take_number(next, port, registered_initiators(lu) | numbers_with_session(lu));
+}
+
 /* Gives a number to a port that has none. It is kept before the port gets a reply. */
 static int take_number(struct scsi_lu *lu, const struct port *port)
 {
     struct unit *unit = unit_of(lu);
     static struct port_table next;
-    int number;
+    int number = choose_number(lu, port, &next);
 
-    next = unit->table;
-    number = port_take_number(&next, port, registered_initiators(lu) | numbers_with_session(lu));
     if (number == NO_NUMBER) {
         if (port_refuse(&unit->refused, port))
             eprintf("LUN %" PRIu64 ": no disk for %s: each of the %d initiators has a session or is "
@@ -118,6 +123,16 @@ int initiator_of(struct scsi_cmd *cmd)
         return take_number(lu, &port);
     port_use(table, number);
     return number;
+}
+
+int finds_number(struct scsi_lu *lu, uint64_t session)
+{
+    static struct port_table next;
+    struct port port;
+
+    return get_port(lu->tgt, session, &port)
+           && (port_number(&unit_of(lu)->table, &port) != NO_NUMBER
+               || choose_number(lu, &port, &next) != NO_NUMBER);
 }
 
 tgtadm_err log_ports(struct scsi_lu *lu)

@@ -15,6 +15,9 @@ enum { NUMBER_NOT_KEPT = -2 };
  * unit attention. If there is no number for a port, tgtd's log says so, once for each port. */
 int initiator_of(struct scsi_cmd *cmd);
 
+/* Returns 1 if the port of a session has a number, or would get one with its next command. */
+int finds_number(struct scsi_lu *lu, uint64_t session);
+
 /* Bit i is set if initiator i is registered. */
 uint32_t registered_initiators(struct scsi_lu *lu);
 
