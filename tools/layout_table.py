@@ -1,45 +1,38 @@
 #!/usr/bin/env python3
-"""Reads the proved table of commands in crates/sg_wire/specs/Layout.antt, for programs that make CDBs of
-it. `rows()` returns its rows in the order of `each_command`, and
+"""Reads the proved table of commands in crates/sg_wire/specs, for scripts that generate code from it.
+`rows()` returns its rows in their order, and
   tools/layout_table.py
-prints a line for each: name, profile, operation code, service action, length, fields, then the free bits
-that are used and those that are ignored. Only what a name needs is said here: which bits have it."""
+prints a line for each: name, profile, operation code, service actions, length, fields, then the free bits
+that are used and those that are ignored. Layout.antt, FreeBits.antt and ReservationAction.antt say which
+bits a field has. docs/PROFILE.md has the names of the standards."""
 
-import os
 import re
 import sys
-from collections import namedtuple
+from pathlib import Path
+from typing import Any, Dict, List, NamedTuple, Optional, Tuple
 
-TOP = os.path.dirname(os.path.dirname(os.path.realpath(__file__)))
-SPECS = os.path.join(TOP, "crates/sg_wire/specs")
+TOP = Path(__file__).resolve().parent.parent
+SPECS = TOP / "crates/sg_wire/specs"
 
-# A row. `title` and `section` are those of docs/PROFILE.md, `READ(10)` and `SBC-3, 5.11`. `name` is the
-# title as a name, `read10`. `profile` is `base` or `extended`. `action` is None, or the service action.
-# `action_name` is its word, such as `read_keys`, if one command has several. `fields` are those of the
-# row. The last two are its free bits: the disk knows the used ones, and does not look at the ignored ones.
-Row = namedtuple("Row", "name title section profile opcode action action_name length fields used ignored")
+# First and last byte, high and low bit: from bit `high` of the first byte to bit `low` of the last one, the
+# most significant bit first.
+Place = Tuple[int, int, int, int]
+# Names of fields in the standards, such as `TRANSFER LENGTH`, by their places.
+Labels = Dict[Place, str]
 
-# A field, in the profile `base` or `extended`. It has the bits from bit `high` of byte `first` to bit
-# `low` of byte `last`, the most significant one first. `label` is its name in the standard, as
-# docs/PROFILE.md has it, and `name` the same as a name.
-Field = namedtuple("Field", "name label profile first last high low")
-
-# An expression of the table whose value does not matter: a name, and what it is applied to.
-Symbol = namedtuple("Symbol", "name arguments")
-
-# What the standards call the free bits of a name in FreeBits.antt, by byte, high bit and low bit. Obsolete
-# bits have no name there, and none here.
+# What the standards call the free bits of a definition in FreeBits.antt, written as fields in PROFILE. Any
+# definition may have a GROUP NUMBER, too. Obsolete bits have the names of SBC-2.
 FREE_LABELS = {
-    "cache_bits": {(1, 4, 4): "DPO", (1, 3, 3): "FUA"},
-    "dpo_fua_bits": {(1, 4, 4): "DPO", (1, 3, 3): "FUA"},
-    "dpo_bit": {(1, 4, 4): "DPO"},
-    "immed_bit": {(1, 1, 1): "IMMED"},
-    "immed_bits": {(1, 1, 1): "IMMED"},
-    "start_bits": {(1, 0, 0): "IMMED", (4, 2, 2): "NO_FLUSH"},
-    "diagnostic_bits": {(1, 4, 4): "PF", (1, 1, 1): "DEVOFFL", (1, 0, 0): "UNITOFFL"},
-    "format_bits": {(1, 3, 3): "CMPLST", (1, 2, 0): "DEFECT LIST FORMAT"},
-    "sanitize_bits": {(1, 7, 7): "IMMED", (1, 5, 5): "AUSE"},
-    "log_bits": {(2, 7, 6): "PC", (5, 7, 0): "PARAMETER POINTER"},
+    "cache_bits": "1:10 DPO, 1:08 FUA, 1:02 FUA_NV",
+    "dpo_fua_bits": "1:10 DPO, 1:08 FUA",
+    "dpo_bit": "1:10 DPO",
+    "immed_bit": "1:02 IMMED",
+    "immed_bits": "1:02 IMMED, 1:04 SYNC_NV",
+    "start_bits": "1:01 IMMED, 4:04 NO_FLUSH",
+    "diagnostic_bits": "1:10 PF, 1:02 DEVOFFL, 1:01 UNITOFFL",
+    "format_bits": "1:08 CMPLST, 1:07 DEFECT LIST FORMAT",
+    "sanitize_bits": "1:80 IMMED, 1:20 AUSE",
+    "log_bits": "2:C0 PC, 5-6 PARAMETER POINTER",
 }
 
 # The names of fields with long labels. Any other one has its label in lower case.
@@ -49,30 +42,102 @@ SHORT_NAMES = {
     "NUMBER OF LOGICAL BLOCKS": "blocks",
 }
 
-TOKEN = re.compile(r"\s*(?:(0x[0-9A-Fa-f]+|0b[01]+|\d+)|([A-Za-z_][\w.]*)|(\[\]|\+\+|[∷(){}=;,]))")
+# Functions and methods have these fields first, in this order.
+FIRST = ("service_action", "lba", "blocks")
+
+# The data-out of the commands whose title begins so: blocks, pairs of blocks to compare and to write, one
+# block or nothing, blocks to compare or nothing, a parameter list, or a header.
+DATA_OUT = {
+    "WRITE(": "blocks", "WRITE AND VERIFY": "blocks", "ORWRITE": "blocks", "WRITE ATOMIC": "blocks",
+    "COMPARE AND WRITE": "pairs", "WRITE SAME": "block", "VERIFY": "compared", "MODE SELECT": "list",
+    "UNMAP": "list", "PERSISTENT RESERVE OUT": "list", "FORMAT UNIT": "header",
+}
 
 
-def text_of(path):
-    with open(os.path.join(TOP, path), encoding="utf-8") as file:
-        return file.read()
+def name_of(label: str) -> str:
+    """A label or a title of a standard as a name: `READ(10)` as `read10`."""
+    return SHORT_NAMES.get(label) or re.sub(r"\W+", "_", re.sub(r"\((\d+)\)", r"\1", label.lower()))
 
 
-def snake(variant):
-    """`ReadCapacity16` as `read_capacity16`."""
-    return re.sub(r"(?<!^)(?=[A-Z])", "_", variant).lower()
+class Field(NamedTuple):
+    """A field of a CDB: what the standard calls it, and its place."""
+    label: str
+    first: int
+    last: int
+    high: int
+    low: int
+
+    @property
+    def name(self) -> str:
+        return name_of(self.label)
+
+    @property
+    def width(self) -> int:
+        """How many bits it has."""
+        return (self.last - self.first) * 8 + self.high + 1 - self.low
+
+
+class Row(NamedTuple):
+    """A command. Its title and its section are those of PROFILE: `READ(10)` and `SBC-3, 5.11`."""
+    title: str
+    section: str
+    profile: str
+    opcode: int
+    # The service action, or the names and numbers of all of them. Then SERVICE ACTION is the first field.
+    action: Optional[int]
+    actions: Dict[str, int]
+    fields: List[Field]
+    # Free bits: the disk knows the used ones, and does not look at the ignored ones.
+    used: List[Field]
+    ignored: List[Field]
+
+    @property
+    def name(self) -> str:
+        return name_of(self.title)
+
+    @property
+    def length(self) -> int:
+        """The length of its CDB, by the group code (SPC-4, 4.2.5.1), as `length_of` of the table has it."""
+        return {0: 6, 4: 16, 5: 12}.get(self.opcode // 32, 10)
+
+    @property
+    def data_out(self) -> str:
+        """What its data-out is, a word of DATA_OUT, or nothing."""
+        return next((kind for start, kind in DATA_OUT.items() if self.title.startswith(start)), "")
+
+    @property
+    def headline(self) -> str:
+        """The first sentences of its documentation."""
+        action = "" if self.action is None else f", service action {self.action:02X}h"
+        only = " Only an extended disk has it." if self.profile == "extended" else ""
+        return f"{self.title}, operation code {self.opcode:02X}h{action} ({self.section}).{only}"
+
+
+def in_order(fields: List[Field]) -> List[Field]:
+    """Fields in the order of the arguments of a function."""
+    return sorted(fields, key=lambda it: FIRST.index(it.name) if it.name in FIRST else len(FIRST))
+
+
+# ---- Definitions
+
+
+class Symbol(NamedTuple):
+    """An expression whose value does not matter: a name, and what it is applied to."""
+    name: str
+    arguments: List[Any]
 
 
 class Definitions:
     """The definitions of some files: for each name its equations, each with patterns and a text."""
 
-    def __init__(self, modules):
-        self.equations, self.rows = {}, []
+    def __init__(self, *modules: str) -> None:
+        self.equations: Dict[str, List[Tuple[str, str]]] = {}
         for module in modules:
-            text = re.sub(r"--.*", "", text_of(f"{SPECS}/{module}.antt"))
+            text = re.sub(r"--.*", "", (SPECS / f"{module}.antt").read_text(encoding="utf-8"))
             for name, patterns, body in re.findall(r"(?m)^(\w+)((?: [^=\n]*?)?) =(.*(?:\n[ \t}].*)*)", text):
                 self.equations.setdefault(name, []).append((patterns.strip(), body))
 
-    def value(self, name, arguments):
+    def value(self, name: str, arguments: List[Any]) -> Any:
         """The value of a name applied to arguments, or a symbol if it is defined by cases or elsewhere."""
         found = self.equations.get(name, [])
         if len(found) != 1 or re.search(r"[λ→]|\bif\b|\blet\b|&&", found[0][1]):
@@ -82,33 +147,36 @@ class Definitions:
             return Symbol(name, arguments)
         value = Parser(self, found[0][1], dict(zip(parameters, arguments))).whole()
         if isinstance(value, dict) and "used" in value:
-            value["bits"] = name
+            value["definition"] = name
         return value
+
+
+TOKEN = re.compile(r"\s*(?:(0x[0-9A-Fa-f]+|\d+)|([A-Za-z_][\w.]*)|(\[\]|\+\+|[∷(){}=;,]))")
 
 
 class Parser:
     """Evaluates the text of an expression: applications, lists and records."""
 
-    def __init__(self, definitions, text, names):
+    def __init__(self, definitions: Definitions, text: str, names: Dict[str, Any]) -> None:
         self.definitions, self.names, self.at = definitions, names, 0
         self.tokens = [it.group().strip() for it in TOKEN.finditer(text)]
         if re.sub(r"\s", "", text) != "".join(self.tokens):
             raise ValueError(f"an unknown form of expression: {text}")
 
-    def peek(self):
+    def peek(self) -> str:
         return self.tokens[self.at] if self.at < len(self.tokens) else ""
 
-    def take(self):
+    def take(self) -> str:
         self.at += 1
         return self.tokens[self.at - 1]
 
-    def whole(self):
+    def whole(self) -> Any:
         value = self.expression()
         if self.at != len(self.tokens):
             raise ValueError(f"left over: {self.tokens[self.at:]}")
         return value
 
-    def expression(self):
+    def expression(self) -> Any:
         value = self.application()
         if self.peek() == "∷":
             self.take()
@@ -118,7 +186,7 @@ class Parser:
             return [*value, *self.expression()]
         return value
 
-    def application(self):
+    def application(self) -> Any:
         if self.peek() == "record":
             return self.record()
         head, arguments = self.peek(), []
@@ -129,12 +197,10 @@ class Parser:
             return value
         return self.definitions.value(head, arguments)
 
-    def atom(self, is_head=False):
+    def atom(self, is_head: bool = False) -> Any:
         token = self.take()
         if token == "(":
             value = self.expression()
-            if self.peek() == ",":
-                value = (value, self.take() and self.expression())
             self.take()
             return value
         if token == "[]":
@@ -145,9 +211,9 @@ class Parser:
             return self.names[token]
         return Symbol(token, []) if is_head else self.definitions.value(token, [])
 
-    def record(self):
+    def record(self) -> Dict[str, Any]:
         self.take()
-        value = dict(self.atom()) if self.peek() != "{" else {}
+        value: Dict[str, Any] = dict(self.atom()) if self.peek() != "{" else {}
         self.take()
         while self.peek() != "}":
             name, _ = self.take(), self.take()
@@ -158,140 +224,131 @@ class Parser:
         return value
 
 
-def name_of(label):
-    """A label or a title of a standard as a name."""
-    return SHORT_NAMES.get(label) or re.sub(r"\W+", "_", re.sub(r"\((\d+)\)", r"\1", label.lower()))
+# ---- The names of the standards
 
 
-def bits_of(place):
-    """First byte, last byte, high bit and low bit of a place."""
-    numbers = place.arguments
-    if place.name == "bit":
-        return numbers[0], numbers[0], numbers[1], numbers[1]
-    if place.name == "bits":
-        return numbers[0], numbers[0], numbers[1], numbers[2]
-    if place.name == "bytes":
-        return numbers[0], numbers[1], 7, 0
-    raise ValueError(f"an unknown place, {place.name}")
+def profile_page() -> str:
+    return (TOP / "docs/PROFILE.md").read_text(encoding="utf-8")
 
 
-def fields_of(value, labels):
-    """The fields of a record `field`. One place may be two fields of the standard."""
-    profile, place = value["profile"].name.lower(), value["place"]
-    if place.name == "short_extent":
-        places = [(1, 3, 4, 0), (4, 4, 7, 0)]
-    elif bits_of(place) in labels:
-        places = [bits_of(place)]
-    else:
-        first, last, high, low = bits_of(place)
-        places = [it for it in labels if it[:2] == (first, last) and high >= it[2] and it[3] >= low]
-    if not places:
-        raise ValueError(f"PROFILE names no field at {bits_of(place)}")
-    return [Field(name_of(labels[at]), labels[at], profile, *at) for at in places]
-
-
-def free_fields(labels, places):
-    """The named fields in places of free bits. One place may be two fields."""
-    found = []
-    for place in places:
-        first, last, high, low = bits_of(place)
-        here = {} if (high, low) != (4, 0) else {(first, high, low): "GROUP NUMBER"}
-        for (byte, top, bottom), label in {**labels, **here}.items():
-            if byte == first and high >= top and bottom >= low:
-                found.append(Field(name_of(label), label, "base", first, last, top, bottom))
-    return found
-
-
-def used_fields(labels, places):
-    """The same for bits that the disk knows. Each has a name."""
-    found = free_fields(labels, places)
-    if len(found) < len(places):
-        raise ValueError(f"free bits without a name beside {found}")
-    return found
-
-
-def length_of(opcode):
-    """The length of a CDB by its group code (SPC-4, 4.2.5.1), as `length_of` of the table has it."""
-    return {0: 6, 4: 16, 5: 12}.get(opcode // 32, 10)
-
-
-def titles():
-    """The names of commands in the standards and their sections, by operation code and action."""
-    found = {}
+def titles() -> Dict[Tuple[int, Optional[int]], Tuple[str, str]]:
+    """The titles of commands and their sections, by operation code and service action."""
+    found: Dict[Tuple[int, Optional[int]], Tuple[str, str]] = {}
     table = re.findall(r"(?m)^\| (\w\w)h(?:, actions? (\w\w)h(?: to (\w\w)h)?)? \| ([^|]+) \| \d+ \| "
-                       r"([^|]+) \|", text_of("docs/PROFILE.md"))
+                       r"([^|]+) \|", profile_page())
     for opcode, first, last, title, section in table:
-        actions = range(int(first, 16), int(last or first, 16) + 1) if first else [None]
-        for action in actions:
+        for action in range(int(first, 16), int(last or first, 16) + 1) if first else [None]:
             found[int(opcode, 16), action] = title, section
     return found
 
 
-def places_of(byte, more, mask):
-    """The place of `4`, `2-5` or `1:1F` in PROFILE; `1:1F and 2-3` is one place, too."""
-    first, last = int(byte), int(more or byte)
-    bits = int(mask or "FF", 16)
-    low = (bits & -bits).bit_length() - 1
-    return first, last, bits.bit_length() - 1, low
-
-
-def labels():
-    """The names of the fields of each command, by their places, as docs/PROFILE.md has them."""
-    found, text = {}, text_of("docs/PROFILE.md")
-    text = text.partition("| Command | Fields | Ignored bits |\n|---|---|---|\n")[2].partition("\n\n")[0]
-    table = [line.strip("| ").split(" | ") for line in text.split("\n")]
-    for commands, fields, _ in table:
-        here = {(1, 3, 4, 0): "LOGICAL BLOCK ADDRESS"} if commands.startswith("READ(6)") else {}
-        for byte, more, mask, name in re.findall(
-                r"(?<![\w:])(\d+)(?:-(\d+))?(?::(\w\w))? ([A-Z][A-Z0-9_ -]*[A-Z0-9])", fields):
-            here[places_of(byte, more, mask)] = name
-        for command in commands.split(", "):
-            found[command] = here
-    found["MODE SENSE(10)"] = {**found["MODE SENSE(6)"], **found["MODE SENSE(10)"]}
+def labels_of(text: str) -> Labels:
+    """The labels of fields as PROFILE writes them: `1:08 DBD` has bit 3 of byte 1, `4-5 ..` two bytes."""
+    found = {}
+    for first, last, mask, label in re.findall(
+            r"(?<![\w:])(\d+)(?:-(\d+))?(?::(\w\w))? ([A-Z][A-Z0-9_ -]*[A-Z0-9])", text):
+        bits = int(mask or "FF", 16)
+        low = (bits & -bits).bit_length() - 1
+        found[int(first), int(last or first), bits.bit_length() - 1, low] = label
     return found
 
 
-def actions_of(definitions, value):
-    """The service actions of a row, each with its word if there are several."""
-    if value.name == "none":
-        return [(None, None)]
-    (action,) = value.arguments
-    if isinstance(action, int):
-        return [(action, None)]
-    return [(int(body.strip(), 0), snake(pattern)) for pattern, body in definitions.equations[action.name]]
+def labels() -> Dict[str, Labels]:
+    """The labels of the fields of each command. Those of SANITIZE hold for each of its commands."""
+    found = {}
+    table = profile_page().partition("| Command | Fields | Ignored bits |\n|---|---|---|\n")[2]
+    for line in table.partition("\n\n")[0].split("\n"):
+        titles_of_line, fields, _ = line.strip("| ").split(" | ")
+        for title in titles_of_line.split(", "):
+            found[title] = labels_of(fields)
+    for title in "READ(6)", "WRITE(6)":
+        found[title][1, 3, 4, 0] = "LOGICAL BLOCK ADDRESS"
+    found["MODE SENSE(10)"].update(found["MODE SENSE(6)"])
+    return found
 
 
-def rows():
+# ---- Rows
+
+
+def places_of(place: Symbol) -> List[Place]:
+    """The places of a value of the type Place."""
+    numbers = place.arguments
+    if place.name == "bit":
+        return [(numbers[0], numbers[0], numbers[1], numbers[1])]
+    if place.name == "bits":
+        return [(numbers[0], numbers[0], numbers[1], numbers[2])]
+    if place.name == "bytes":
+        return [(numbers[0], numbers[1], 7, 0)]
+    if place.name == "short_extent":
+        return [(1, 3, 4, 0), (4, 4, 7, 0)]
+    raise ValueError(f"an unknown place, {place.name}")
+
+
+def fields_at(places: List[Symbol], names: Labels) -> List[Field]:
+    """The fields in some places. One place may be two fields of the standard."""
+    fields = []
+    for first, last, high, low in (it for place in places for it in places_of(place)):
+        found = [Field(label, *it) for it, label in names.items()
+                 if it[:2] == (first, last) and high >= it[2] and it[3] >= low]
+        if sum(it.width for it in found) != Field("", first, last, high, low).width:
+            raise ValueError(f"no label for bits {high} to {low} of bytes {first} to {last} in {names}")
+        fields += found
+    return fields
+
+
+def free_fields(free: Dict[str, Any], part: str) -> List[Field]:
+    """The fields of the used or of the ignored free bits."""
+    places = free[part]
+    group = {it: "GROUP NUMBER" for place in places for it in places_of(place) if it[2:] == (4, 0)}
+    return fields_at(places, {**labels_of(FREE_LABELS.get(free["definition"], "")), **group})
+
+
+def actions_of(definitions: Definitions, action: Symbol) -> Tuple[Optional[int], Dict[str, int]]:
+    """The service action, or the names and numbers of all of them."""
+    if action.name == "none":
+        return None, {}
+    (number,) = action.arguments
+    if isinstance(number, int):
+        return number, {}
+    # `in_code c.action`: `ReadKeys` is `READ_KEYS`
+    return None, {re.sub(r"(?<!^)(?=[A-Z])", "_", variant).upper(): int(body, 0)
+                  for variant, body in definitions.equations[number.name]}
+
+
+def rows() -> List[Row]:
     """The rows of the table, in its order."""
-    definitions = Definitions(["Layout", "CdbFields", "FreeBits", "ReservationAction"])
-    named, of_fields, found = titles(), labels(), []
+    definitions = Definitions("Layout", "CdbFields", "FreeBits", "ReservationAction")
+    named, names, found = titles(), labels(), []
     for _, body in definitions.equations["layout"]:
         value = Parser(definitions, body, {"c": Symbol("c", [])}).whole()
-        free = value["free"]
-        bits = FREE_LABELS.get(free["bits"], {})
-        opcode, actions = value["opcode"], actions_of(definitions, value["action"])
-        if any((opcode, action) not in named for action, _ in actions):
-            raise ValueError(f"PROFILE lacks a command with operation code {opcode:02X}h")
-        title = named[opcode, actions[0][0]][0]
-        here = of_fields[title if title in of_fields else title.split(", ")[0]]
-        fields = [it for field in value["fields"] for it in fields_of(field, here)]
-        for action, word in actions:
-            found.append(Row(name_of(title), *named[opcode, action], value["profile"].name.lower(), opcode,
-                             action, word, length_of(opcode), fields, used_fields(bits, free["used"]),
-                             free_fields(bits, free["ignored"])))
+        opcode, free = value["opcode"], value["free"]
+        action, actions = actions_of(definitions, value["action"])
+        numbers: List[Optional[int]] = [*actions.values()]
+        codes = [(opcode, it) for it in numbers or [action]]
+        if any(it not in named for it in codes):
+            raise ValueError(f"docs/PROFILE.md lacks a command with operation code {opcode:02X}h")
+        (title, section), *_ = [named.pop(it) for it in codes]
+        labels_here = names[title if title in names else title.split(", ")[0]]
+        fields = fields_at([it["place"] for it in value["fields"]], labels_here)
+        if actions:
+            fields.insert(0, Field("SERVICE ACTION", 1, 1, 4, 0))
+        found.append(Row(title, section, value["profile"].name.lower(), opcode, action, actions, fields,
+                         free_fields(free, "used"), free_fields(free, "ignored")))
+    if named:
+        raise ValueError(f"docs/PROFILE.md has commands that the table lacks: {named}")
     return found
 
 
-def printed(fields):
+def printed(fields: List[Field]) -> str:
     texts = (f"{it.name} ({it.label}) {it.first}:{it.high}-{it.last}:{it.low}" for it in fields)
     return ", ".join(texts) or "none"
 
 
-def main():
+def main() -> int:
     for row in rows():
-        action = "" if row.action is None else f"/{row.action:02X}h"
-        print(f"{row.name}{'.' + row.action_name if row.action_name else ''} {row.profile} "
-              f"{row.opcode:02X}h{action} {row.length}: {printed(row.fields)}; {printed(row.used)}; "
+        actions = [row.action] if row.action is not None else row.actions.values()
+        codes = "/".join([f"{row.opcode:02X}h", *(f"{it:02X}h" for it in actions)])
+        print(f"{row.name} {row.profile} {codes} {row.length}: {printed(row.fields)}; {printed(row.used)}; "
               f"{printed(row.ignored)}; {row.title} ({row.section})")
     return 0
 
