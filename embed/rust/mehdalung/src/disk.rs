@@ -174,23 +174,7 @@ impl Disk {
         cdb: &[u8],
         data_out: &[u8],
     ) -> Result<Reply<'_>, Error> {
-        let mut record = sys::mdl_reply::default();
-        let (buffer, length) = (self.data_in.as_mut_ptr(), self.data_in.len());
-        // SAFETY: no pointer is null, each has the bytes that its length says, and none overlap.
-        check(unsafe {
-            sys::mdl_execute(
-                &mut self.slot,
-                initiator,
-                cdb.as_ptr(),
-                cdb.len(),
-                data_out.as_ptr(),
-                data_out.len(),
-                buffer,
-                length,
-                &mut record,
-            )
-        })?;
-        Ok(self.reply(record, false))
+        self.send(initiator, cdb, data_out, true)
     }
 
     /// Executes a command as [`Disk::execute`] does, without a flush of the disk's file. So several
@@ -206,11 +190,22 @@ impl Disk {
         cdb: &[u8],
         data_out: &[u8],
     ) -> Result<Reply<'_>, Error> {
-        let mut record = sys::mdl_reply::default();
+        self.send(initiator, cdb, data_out, false)
+    }
+
+    fn send(
+        &mut self,
+        initiator: u32,
+        cdb: &[u8],
+        data_out: &[u8],
+        flush: bool,
+    ) -> Result<Reply<'_>, Error> {
+        let execute = if flush { sys::mdl_execute } else { sys::mdl_execute_unflushed };
         let (buffer, length) = (self.data_in.as_mut_ptr(), self.data_in.len());
+        let mut record = sys::mdl_reply::default();
         // SAFETY: no pointer is null, each has the bytes that its length says, and none overlap.
         let error = unsafe {
-            sys::mdl_execute_unflushed(
+            execute(
                 &mut self.slot,
                 initiator,
                 cdb.as_ptr(),
@@ -226,12 +221,8 @@ impl Disk {
         if !waits {
             check(error)?;
         }
-        Ok(self.reply(record, waits))
-    }
-
-    fn reply(&self, record: sys::mdl_reply, waits: bool) -> Reply<'_> {
         let data_in = &self.data_in[..record.data_in_length];
-        Reply { record, data_in, kind: kind::HEX, waits }
+        Ok(Reply { record, data_in, kind: kind::HEX, waits })
     }
 
     /// Executes what the words of a tool ask for, such as `sg_vpd -p lbpv`. `docs/SCRIPT.md` lists the

@@ -73,62 +73,58 @@ pub enum Error {
     Other(u32),
 }
 
+impl Error {
+    /// What the error prints, before its value if it has one.
+    fn reason(&self) -> &'static str {
+        match self {
+            Error::Blocks => "the number of blocks is not 1 to 2^40",
+            Error::Pool => "the size of the pool is out of range",
+            Error::IdentityText => "a text of the identity has a byte outside 20h to 7Eh",
+            Error::IdentityLocal => "the local identifier, or the seed, has more than 60 bits",
+            Error::OutOfMemory => "memory ran out",
+            Error::NoInitiator => "the initiator is not 0 to 7, or a fault names no initiator",
+            Error::BadByte => "a byte of the words is not printable ASCII and no tab",
+            Error::TooManyWords => "there are more than 64 words",
+            Error::UnknownTool => "there is no tool of this name",
+            Error::Usage => "the tool or the verb does not accept these words",
+            Error::Exclusive => "two options exclude one another",
+            Error::Number => "an option's text is no value, or its value is out of range",
+            Error::UnknownProfile => "there is no profile with this number",
+            Error::UnknownCondition => "no unit attention condition has the code",
+            Error::UnknownFault => "there is no outcome of a fault with this number",
+            Error::SenseKey => "the sense key of a fault is none of SPC-4",
+            Error::FaultFlag => {
+                "a flag of a fault is not 0 or 1, or a fault without blocks is healed by writes"
+            }
+            Error::FaultNumber => "the number of a fault is not 0 to 7",
+            Error::Faults => "a fault is armed under each number",
+            Error::UnknownVerb => "there is no verb of this name",
+            Error::FileFailed => "a call on the disk's file failed, now or earlier",
+            Error::FileBusy => "another program has the file, or another disk of this program",
+            Error::NotADisk => "the file has something else, or it was not made to its end",
+            Error::OtherVersion(_) => "the file has another version of the format",
+            Error::DamagedFile(_) => "the file is damaged",
+            Error::FileTooLong => "the file has more than 2^60 bytes",
+            Error::OtherProfile => "the file's disk has another profile",
+            Error::OtherBlocks => "the file's disk has another number of blocks",
+            Error::OtherPool => "the file's disk has a pool of another size",
+            Error::OtherIdentity => "the file's disk has another identity",
+            Error::CannotOpen(_) => "cannot open the file",
+            Error::NoFile => "the disk is not in a file",
+            Error::Other(_) => "the library returns another error",
+        }
+    }
+}
+
 impl fmt::Display for Error {
     fn fmt(&self, f: &mut fmt::Formatter<'_>) -> fmt::Result {
+        f.write_str(self.reason())?;
         match self {
-            Error::OtherVersion(version) => {
-                write!(f, "the file has version {version} of the format")
-            }
-            Error::DamagedFile(it) => {
-                write!(f, "the file is damaged: batch {}, offset {}", it.batch, it.offset)
-            }
-            Error::CannotOpen(reason) => {
-                write!(f, "cannot open the file: {}", io::Error::from_raw_os_error(*reason))
-            }
-            Error::Other(number) => write!(f, "the library returns error {number}"),
-            Error::Blocks => f.write_str("the number of blocks is not 1 to 2^40"),
-            Error::Pool => f.write_str("the size of the pool is out of range"),
-            Error::IdentityText => {
-                f.write_str("a text of the identity has a byte outside 20h to 7Eh")
-            }
-            Error::IdentityLocal => {
-                f.write_str("the local identifier, or the seed, has more than 60 bits")
-            }
-            Error::OutOfMemory => f.write_str("memory ran out"),
-            Error::NoInitiator => {
-                f.write_str("the initiator is not 0 to 7, or a fault names no initiator")
-            }
-            Error::BadByte => f.write_str("a byte of the words is not printable ASCII and no tab"),
-            Error::TooManyWords => f.write_str("there are more than 64 words"),
-            Error::UnknownTool => f.write_str("there is no tool of this name"),
-            Error::Usage => f.write_str("the tool or the verb does not accept these words"),
-            Error::Exclusive => f.write_str("two options exclude one another"),
-            Error::Number => {
-                f.write_str("an option's text is no value, or its value is out of range")
-            }
-            Error::UnknownProfile => f.write_str("there is no profile with this number"),
-            Error::UnknownCondition => f.write_str("no unit attention condition has the code"),
-            Error::UnknownFault => f.write_str("there is no outcome of a fault with this number"),
-            Error::SenseKey => f.write_str("the sense key of a fault is none of SPC-4"),
-            Error::FaultFlag => f.write_str(
-                "a flag of a fault is not 0 or 1, or a fault without blocks is healed by writes",
-            ),
-            Error::FaultNumber => f.write_str("the number of a fault is not 0 to 7"),
-            Error::Faults => f.write_str("a fault is armed under each number"),
-            Error::UnknownVerb => f.write_str("there is no verb of this name"),
-            Error::FileFailed => f.write_str("a call on the disk's file failed, now or earlier"),
-            Error::FileBusy => {
-                f.write_str("another program has the file, or another disk of this program")
-            }
-            Error::NotADisk => {
-                f.write_str("the file has something else, or it was not made to its end")
-            }
-            Error::FileTooLong => f.write_str("the file has more than 2^60 bytes"),
-            Error::OtherProfile => f.write_str("the file's disk has another profile"),
-            Error::OtherBlocks => f.write_str("the file's disk has another number of blocks"),
-            Error::OtherPool => f.write_str("the file's disk has a pool of another size"),
-            Error::OtherIdentity => f.write_str("the file's disk has another identity"),
-            Error::NoFile => f.write_str("the disk is not in a file"),
+            Error::OtherVersion(version) => write!(f, ": {version}"),
+            Error::DamagedFile(it) => write!(f, ": batch {}, offset {}", it.batch, it.offset),
+            Error::CannotOpen(reason) => write!(f, ": {}", io::Error::from_raw_os_error(*reason)),
+            Error::Other(number) => write!(f, ": {number}"),
+            _ => Ok(()),
         }
     }
 }

@@ -1,7 +1,8 @@
 //! Tries the parts of the crate that the first minute does not use.
 use mehdalung::Wanted;
 use mehdalung::{decode, fault_outcome, identity_of_seed, kind, profile, version};
-use mehdalung::{Disk, Error, Fault, Identity, Reply, ALL_INITIATORS, BUSY, CHECK_CONDITION, GOOD};
+use mehdalung::{Damage, Disk, Error, Fault, Identity, Reply};
+use mehdalung::{ALL_INITIATORS, BUSY, CHECK_CONDITION, GOOD};
 use std::sync::Mutex;
 use std::{fs, thread};
 
@@ -267,7 +268,11 @@ fn replies_print_their_status_and_errors_their_reason() -> Result<(), Error> {
     assert_eq!(disk.initiator(0).test_unit_ready()?.to_string(), "GOOD");
     let refused = disk.initiator(8).test_unit_ready().unwrap_err();
     assert_eq!(refused.to_string(), "the initiator is not 0 to 7, or a fault names no initiator");
-    assert!(Error::CannotOpen(2).to_string().contains("No such file"));
+    let no_file = "cannot open the file: No such file or directory (os error 2)";
+    assert_eq!(Error::CannotOpen(2).to_string(), no_file);
+    assert_eq!(Error::OtherVersion(7).to_string(), "the file has another version of the format: 7");
+    let damaged = Error::DamagedFile(Damage { batch: 3, offset: 16 });
+    assert_eq!(damaged.to_string(), "the file is damaged: batch 3, offset 16");
     Ok(())
 }
 
