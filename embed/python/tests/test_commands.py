@@ -144,6 +144,17 @@ def test_cdbs_by_hand(cdb: bytes, expected: str) -> None:
     assert cdb.hex(" ") == expected
 
 
+def test_lists_by_hand() -> None:
+    keys = "00 00 00 00 00 00 01 02 00 00 00 00 00 00 03 04 00 00 00 00 01 00 00 00"
+    assert reserve_out_list(0x0102, 0x0304, True).hex(" ") == keys
+    blocks = ("00 26 00 20 00 00 00 00 00 00 00 00 00 00 00 05 00 00 00 01 00 00 00 00 "
+              "01 02 03 04 05 06 07 08 09 0a 0b 0c 00 00 00 00")
+    assert unmap_list((5, 1), (0x0102030405060708, 0x090A0B0C)).hex(" ") == blocks
+    assert unmap_list(*[(0, 1)] * 4095)[:4].hex() == "fff6fff0"
+    with pytest.raises(ValueError, match="more than 4,095"):
+        unmap_list(*[(0, 1)] * 4096)
+
+
 # Words of a tool, and what sends the same command.
 TOOLS: List[Tuple[str, Callable[[Initiator], object]]] = [
     ("sg_inq -l 96", lambda it: it.inquiry(allocation_length=96)),
@@ -254,8 +265,8 @@ def test_types_of_reservations(two_initiators: Tuple[Initiator, Initiator], kind
     for it in first, second:
         it.persistent_reserve_out(ReserveOut.REGISTER, reserve_out_list(0, 0xA0 + it.number)).check()
     first.persistent_reserve_out(ReserveOut.RESERVE, reserve_out_list(0xA0), type=kind).check()
-    assert third.read10(0).good == others_read and not third.write10(0, bytes(512)).good
-    assert second.write10(0, bytes(512)).good == registered_write
+    assert third.read10(0).is_good == others_read and not third.write10(0, bytes(512)).is_good
+    assert second.write10(0, bytes(512)).is_good == registered_write
     holders = first.persistent_reserve_in(ReserveIn.READ_FULL_STATUS).text().count("holder: 1")
     assert holders == 1 + all_hold and len(TYPES) == len(ReservationType)
 
@@ -305,6 +316,6 @@ def test_initiators_are_numbers_of_the_disk(scsi_disk: Disk) -> None:
     with pytest.raises(ValueError):
         scsi_disk.initiator(-1)
     first, last = scsi_disk.initiator(0), scsi_disk.initiator(7)
-    assert first.disk is scsi_disk and not first.test_unit_ready().good and first.test_unit_ready().good
-    assert last.test_unit_ready().asc == 0x29 and last.tool("sg_turs").good
+    assert first.disk is scsi_disk and not first.test_unit_ready().is_good and first.test_unit_ready().is_good
+    assert last.test_unit_ready().asc == 0x29 and last.tool("sg_turs").is_good
     assert last.execute(bytes(6), flush=False).waits is False

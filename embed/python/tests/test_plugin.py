@@ -27,15 +27,15 @@ def test_the_fixtures(pytester: pytest.Pytester) -> None:
             assert isinstance(scsi_disk, Disk) and capacity(scsi_disk) == 4096
             assert serial(scsi_disk) == b"00000001"
             assert scsi_disk.initiator(0).test_unit_ready().asc == 0x29
-            assert scsi_disk.initiator(1).report_luns().good
-            assert scsi_disk.initiator(7).write10(0, bytes(1024 * 512)).good
+            assert scsi_disk.initiator(1).report_luns().is_good
+            assert scsi_disk.initiator(7).write10(0, bytes(1024 * 512)).is_good
             assert scsi_disk.initiator(7).write10(1024, bytes(512)).sense_key == 7
 
         @pytest.mark.scsi_disk(blocks=100, pool=3, profile=Profile.BASE, seed=0xF00D)
         def test_with_a_marker(scsi_disk):
             assert capacity(scsi_disk) == 100 and serial(scsi_disk) == b"0000f00d"
             assert scsi_disk.initiator(7).report_luns().asc == 0x20
-            assert scsi_disk.initiator(7).write10(0, bytes(3 * 512)).good
+            assert scsi_disk.initiator(7).write10(0, bytes(3 * 512)).is_good
             assert scsi_disk.initiator(7).write10(3, bytes(512)).sense_key == 7
 
         @pytest.mark.scsi_disk(blocks=50)
@@ -51,7 +51,7 @@ def test_the_fixtures(pytester: pytest.Pytester) -> None:
             first, second = two_initiators
             assert (first.number, second.number) == (0, 1)
             assert first.disk is scsi_disk and second.disk is scsi_disk
-            assert first.test_unit_ready().good and second.test_unit_ready().good
+            assert first.test_unit_ready().is_good and second.test_unit_ready().is_good
             assert scsi_disk.initiator(2).test_unit_ready().asc == 0x29
 
         KEPT = []
@@ -98,7 +98,7 @@ def test_what_failed_assertions_print(pytester: pytest.Pytester) -> None:
 
         def test_good(scsi_disk):
             reply = scsi_disk.initiator(5).test_unit_ready()
-            assert reply.good
+            assert reply.is_good
 
         def test_another_status(two_initiators):
             assert two_initiators[0].test_unit_ready().status == CHECK_CONDITION
@@ -132,7 +132,7 @@ def test_what_failed_assertions_print(pytester: pytest.Pytester) -> None:
         "E        +  where CHECK CONDITION (02h) = <Reply CHECK CONDITION: MEDIUM ERROR, 11h/00h, "
         "information 0x0000000000000007>.status",
         "E       assert False",
-        "E        +  where False = <Reply CHECK CONDITION: UNIT ATTENTION, 29h/00h>.good",
+        "E        +  where False = <Reply CHECK CONDITION: UNIT ATTENTION, 29h/00h>.is_good",
         "E       assert GOOD (00h) == CHECK CONDITION (02h)",
         "E        +  where GOOD (00h) = <Reply GOOD>.status",
         "E * assert <Reply GOOD, 512 bytes of data-in> == <Reply GOOD, 512 bytes of data-in>",

@@ -2,7 +2,7 @@
 import pytest
 
 from mehdalung import (GOOD, BadStatus, CheckCondition, Disk, FaultOutcome, Initiator, Kind, Profile,
-                       Reply, SenseKey, Status)
+                       Reply, SenseKey, Status, kind_of)
 
 READ_ONE = bytes.fromhex("28000000000500000100")
 
@@ -16,7 +16,7 @@ def initiator(scsi_disk: Disk) -> Initiator:
 
 def test_the_fields_of_a_unit_attention(scsi_disk: Disk) -> None:
     reply = scsi_disk.initiator(3).test_unit_ready()
-    assert (reply.status, reply.status_name, reply.good) == (0x02, "CHECK CONDITION", False)
+    assert (reply.status, reply.status_name, reply.is_good) == (0x02, "CHECK CONDITION", False)
     assert (reply.sense_key, reply.asc, reply.ascq) == (SenseKey.UNIT_ATTENTION, 0x29, 0x00)
     assert reply.sense_key == 6 and reply.information is None
     assert repr(reply) == "<Reply CHECK CONDITION: UNIT ATTENTION, 29h/00h>"
@@ -25,7 +25,7 @@ def test_the_fields_of_a_unit_attention(scsi_disk: Disk) -> None:
 
 def test_a_good_reply_has_no_sense(initiator: Initiator) -> None:
     reply = initiator.test_unit_ready()
-    assert (reply.status, reply.status_name, reply.good) == (0, "GOOD", True)
+    assert (reply.status, reply.status_name, reply.is_good) == (0, "GOOD", True)
     assert (reply.sense_key, reply.asc, reply.ascq, reply.information) == (None,) * 4
     assert repr(reply) == "<Reply GOOD>" and reply.check() is reply
 
@@ -41,6 +41,13 @@ def test_the_address_of_a_bad_block(initiator: Initiator) -> None:
         reply.check()
     assert (caught.value.sense_key, caught.value.asc, caught.value.ascq) == (3, 0x11, 0x04)
     assert caught.value.information == 7 and caught.value.reply is reply
+
+
+def test_the_kind_of_a_command_prints_its_data(initiator: Initiator) -> None:
+    read_capacity = bytes.fromhex("25000000000000000000")
+    reply = initiator.execute(read_capacity, kind=kind_of(read_capacity))
+    assert reply.text() == "  returned logical block address: 4095\n  logical block length: 512\n"
+    assert (kind_of(b""), kind_of(b"\x12"), kind_of(READ_ONE)) == (Kind.HEX, Kind.INQUIRY_EXTENDED, Kind.HEX)
 
 
 def test_the_sense_keys_are_those_of_spc_4() -> None:
@@ -66,7 +73,7 @@ def test_each_sense_key_and_both_formats(initiator: Initiator, descriptors: bool
             assert (reply.sense_key, reply.asc, reply.ascq) == (key, 0x5D, 0xFE)
             assert ("deferred, " in repr(reply)) == deferred
             assert f"{key.name.replace('_', ' ')}, 5Dh/FEh" in repr(reply)
-            assert initiator.test_unit_ready().good
+            assert initiator.test_unit_ready().is_good
 
 
 @pytest.mark.parametrize("outcome, status, name", [
@@ -98,7 +105,7 @@ def test_repr_has_the_data_by_its_kind(initiator: Initiator) -> None:
 def test_a_reply_with_sense_and_data(initiator: Initiator) -> None:
     initiator.disk.arm(FaultOutcome.AFTER_CHECK_CONDITION, key=1, asc=0x17, ascq=0x01)
     reply = initiator.read_capacity10()
-    assert len(reply.data_in) == 8 and not reply.good
+    assert len(reply.data_in) == 8 and not reply.is_good
     assert reply.lines()[:3] == ["CHECK CONDITION, 8 bytes of data-in", "  sense: RECOVERED ERROR, 17h/01h",
                                  "  returned logical block address: 4095"]
 

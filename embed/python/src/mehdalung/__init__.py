@@ -9,7 +9,7 @@ from ._library import (ANY_PROFILE, BUFFER_LENGTH, DATA_OUT_LENGTH, INITIATORS, 
 from .commands import ReserveIn, ReserveOut
 from .disk import (BUSY, CHECK_CONDITION, GOOD, NO_REPLY, RESERVATION_CONFLICT, TASK_SET_FULL,
                    BadStatus, CheckCondition, Disk, Initiator, Refused, Reply, SenseKey, Status,
-                   decode, identity, identity_of_seed, read_happening, version)
+                   decode, identity, identity_of_seed, kind_of, read_happening, version)
 from .lists import ReservationType, reserve_out_list, unmap_list
 
 # The module that this package was had these names for its own use.
@@ -23,6 +23,6 @@ __all__ = [
     "Happening", "HappeningRecord", "INITIATORS", "IdentityRecord", "Initiator", "Kind", "NO_REPLY",
     "NO_TEXT", "Profile", "RESERVATION_CONFLICT", "Refused", "Reply", "ReplyRecord",
     "ReservationType", "ReserveIn", "ReserveOut", "Sense", "SenseKey", "Slot", "Status",
-    "TASK_SET_FULL", "commands", "decode", "identity", "identity_of_seed", "read_happening",
-    "reserve_out_list", "unmap_list", "version",
+    "TASK_SET_FULL", "commands", "decode", "identity", "identity_of_seed", "kind_of",
+    "read_happening", "reserve_out_list", "unmap_list", "version",
 ]

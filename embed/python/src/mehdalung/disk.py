@@ -149,18 +149,7 @@ def identity_of_seed(seed: int) -> IdentityRecord:
     return record
 
 
-def kind_of(cdb: bytes) -> Kind:
-    """Returns the kind of the data-in of a command, and HEX if it has no other. The kinds of an
-    extended disk print the data of a base disk, too."""
-    code, action = cdb[0], cdb[1] & 0x1F
-    if code == 0x12:
-        return Kind.VPD_EXTENDED if cdb[1] & 0x01 else Kind.INQUIRY_EXTENDED
-    if code == 0xA3 and action == 0x0C:
-        return Kind.ONE_COMMAND if cdb[2] & 0x07 else Kind.ALL_COMMANDS
-    return KINDS.get((code, action if code in (0x5E, 0x9E, 0xA3) else None), Kind.HEX)
-
-
-# By the operation code and the service action.
+# The kinds of data-in by the operation code, and by the service action if it has several.
 KINDS = {
     (0x03, None): Kind.SENSE_EXTENDED, (0x1A, None): Kind.MODES_6, (0x25, None): Kind.CAPACITY_10,
     (0x37, None): Kind.DEFECTS_10, (0x4D, None): Kind.LOG_PAGE, (0x5A, None): Kind.MODES_10,
@@ -168,6 +157,19 @@ KINDS = {
     (0x5E, 0x03): Kind.FULL_STATUS, (0x9E, 0x10): Kind.CAPACITY_16, (0x9E, 0x12): Kind.LBA_STATUS,
     (0xA0, None): Kind.LUNS, (0xA3, 0x0D): Kind.TASK_MANAGEMENT, (0xB7, None): Kind.DEFECTS_12,
 }
+
+
+def kind_of(cdb: bytes) -> Kind:
+    """Returns the kind of the data-in of a command, and HEX if it has no other. The kinds of an
+    extended disk print the data of a base disk, too."""
+    code, second, third = (cdb + bytes(3))[:3]
+    action = second & 0x1F
+    if code == 0x12:
+        return Kind.VPD_EXTENDED if second & 0x01 else Kind.INQUIRY_EXTENDED
+    if (code, action) == (0xA3, 0x0C):
+        return Kind.ONE_COMMAND if third & 0x07 else Kind.ALL_COMMANDS
+    return KINDS.get((code, action if code in (0x5E, 0x9E, 0xA3) else None), Kind.HEX)
+
 
 # The most characters of sense data and data-in that repr shows.
 SHOWN = 80
@@ -192,13 +194,14 @@ class Reply(NamedTuple):
         return decode(self.kind, self.data_in) if self.status == GOOD else ""
 
     def fields(self) -> Sense:
-        """The fields of its sense data, a Sense."""
+        """The fields of its sense data, a Sense. It raises Refused if there is no sense data, or if
+        it is of a deferred error."""
         fields = Sense()
         check(LIBRARY.mdl_read_sense(self.sense, len(self.sense), fields))
         return fields
 
     @property
-    def good(self) -> bool:
+    def is_good(self) -> bool:
         """Its status is GOOD."""
         return self.status == GOOD
 
@@ -242,7 +245,7 @@ class Reply(NamedTuple):
     def check(self) -> "Reply":
         """Returns the reply if its status is GOOD. Otherwise it raises CheckCondition, or BadStatus
         for a status without sense data."""
-        if self.good:
+        if self.is_good:
             return self
         raise CheckCondition(self) if self.sense else BadStatus(self)
 

@@ -26,16 +26,16 @@ pub fn reserve_out_list(key: u64, service_action_key: u64, aptpl: bool) -> [u8; 
     list
 }
 
-/// Returns the list of UNMAP (SBC-3, 5.28) for ranges: an address, and a number of blocks.
+/// Returns the list of UNMAP (SBC-3, 5.28) with block descriptors: an address, and a number of blocks.
 ///
 /// # Panics
 ///
-/// If there are more than 4,095 ranges, whose lengths do not fit.
-pub fn unmap_list(ranges: &[(u64, u32)]) -> Vec<u8> {
-    let length: u16 = (16 * ranges.len()).try_into().expect("there are too many ranges");
-    let rest = length.checked_add(6).expect("there are too many ranges");
-    let mut list = [rest.to_be_bytes(), length.to_be_bytes(), [0; 2], [0; 2]].concat();
-    for (lba, blocks) in ranges {
+/// If there are more than 4,095 block descriptors, whose length does not fit.
+pub fn unmap_list(descriptors: &[(u64, u32)]) -> Vec<u8> {
+    assert!(descriptors.len() <= 4095, "there are more than 4,095 block descriptors");
+    let length = 16 * descriptors.len() as u16;
+    let mut list = [(length + 6).to_be_bytes(), length.to_be_bytes(), [0; 2], [0; 2]].concat();
+    for (lba, blocks) in descriptors {
         list.extend(lba.to_be_bytes());
         list.extend(blocks.to_be_bytes());
         list.extend([0; 4]);

@@ -193,9 +193,16 @@ fn an_initiator_sends_commands_by_name() -> Result<(), Error> {
 fn lists_are_as_by_hand() {
     let list = "00 00 00 00 00 00 01 02 00 00 00 00 00 00 03 04 00 00 00 00 01 00 00 00";
     assert_eq!(reserve_out_list(0x0102, 0x0304, true).to_vec(), bytes(list));
-    let ranges = "00 26 00 20 00 00 00 00 00 00 00 00 00 00 00 05 00 00 00 01 00 00 00 00 \
+    let blocks = "00 26 00 20 00 00 00 00 00 00 00 00 00 00 00 05 00 00 00 01 00 00 00 00 \
                   01 02 03 04 05 06 07 08 09 0A 0B 0C 00 00 00 00";
-    assert_eq!(unmap_list(&[(5, 1), (LBA, 0x090A_0B0C)]), bytes(ranges));
+    assert_eq!(unmap_list(&[(5, 1), (LBA, 0x090A_0B0C)]), bytes(blocks));
+    assert_eq!(unmap_list(&[(0, 1); 4095])[..4], [0xFF, 0xF6, 0xFF, 0xF0]);
+}
+
+#[test]
+#[should_panic(expected = "more than 4,095 block descriptors")]
+fn a_list_of_too_many_blocks_does_not_fit() {
+    unmap_list(&[(0, 1); 4096]);
 }
 
 #[test]
