@@ -31,8 +31,8 @@ pub struct Wanted<'a> {
 /// disk.initiator(0).request_sense(false, 18)?;
 /// disk.happen("fault medium 3/11/00 blocks 10 2")?;
 /// let reply = disk.initiator(0).read10(8, 8)?;
-/// let fields = reply.fields().unwrap();
-/// assert_eq!((fields.key, fields.asc, fields.information), (3, 0x11, 10), "{reply}");
+/// assert_eq!((reply.sense_key(), reply.asc()), (Some(3), Some(0x11)), "{reply}");
+/// assert_eq!(reply.information(), Some(10));
 /// disk.disarm_all()?;
 /// disk.lose_nexus(0)?;
 /// let reply = disk.initiator(0).read10(8, 8)?;

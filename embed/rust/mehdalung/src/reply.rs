@@ -67,12 +67,39 @@ impl Reply<'_> {
         &self.record.sense[..usize::from(self.record.sense_length)]
     }
 
-    /// Returns the fields of the sense data, if there is some.
+    /// Returns the fields of the sense data. Returns `None` if there is no sense data, or if it is of a
+    /// deferred error.
     pub fn fields(&self) -> Option<Sense> {
-        let (sense, mut fields) = (self.sense(), Sense::default());
-        // SAFETY: there are as many bytes, and the fields are a whole record.
-        check(unsafe { sys::mdl_read_sense(sense.as_ptr(), sense.len(), &mut fields) }).ok()?;
-        Some(fields)
+        fields_of(self.sense())
+    }
+
+    /// Returns the sense key, or `None` without sense data.
+    pub fn sense_key(&self) -> Option<u8> {
+        Some(self.fields_of_any_error()?.key)
+    }
+
+    /// Returns the additional sense code, or `None` without sense data.
+    pub fn asc(&self) -> Option<u8> {
+        Some(self.fields_of_any_error()?.asc)
+    }
+
+    /// Returns the additional sense code qualifier, or `None` without sense data.
+    pub fn ascq(&self) -> Option<u8> {
+        Some(self.fields_of_any_error()?.ascq)
+    }
+
+    /// Returns the INFORMATION field, mostly a block's address, or `None` if the sense data lacks it.
+    pub fn information(&self) -> Option<u64> {
+        let fields = self.fields_of_any_error()?;
+        (fields.has_information == 1).then_some(fields.information)
+    }
+
+    /// Returns the fields of the sense data, even of a deferred error.
+    fn fields_of_any_error(&self) -> Option<Sense> {
+        let mut sense = self.sense().to_vec();
+        // 71h and 73h are the response codes of deferred errors (SPC-4, 4.5.1).
+        *sense.first_mut()? &= 0xFE;
+        fields_of(&sense)
     }
 
     /// Returns what `sgrun` prints of the reply after its status: data-in or sense data, in lines.
@@ -91,6 +118,13 @@ impl Reply<'_> {
         // SAFETY: the pointer is to a whole record.
         unsafe { sys::mdl_exit_status(&self.record) as u8 }
     }
+}
+
+fn fields_of(sense: &[u8]) -> Option<Sense> {
+    let mut fields = Sense::default();
+    // SAFETY: there are as many bytes, and the fields are a whole record.
+    check(unsafe { sys::mdl_read_sense(sense.as_ptr(), sense.len(), &mut fields) }).ok()?;
+    Some(fields)
 }
 
 /// The name of the status, and then data-in or sense data in lines.

@@ -41,6 +41,31 @@ fn replies_have_texts_and_fields() -> Result<(), Error> {
     Ok(())
 }
 
+/// Compares sense key, additional sense code and qualifier, and INFORMATION.
+fn compare_sense(reply: &Reply, sense: Option<(u8, u8, u8)>, information: Option<u64>) {
+    assert_eq!(reply.sense_key(), sense.map(|it| it.0), "{reply}");
+    assert_eq!(reply.asc(), sense.map(|it| it.1), "{reply}");
+    assert_eq!(reply.ascq(), sense.map(|it| it.2), "{reply}");
+    assert_eq!(reply.information(), information, "{reply}");
+}
+
+#[test]
+fn replies_have_sense_data_even_of_deferred_errors() -> Result<(), Error> {
+    let mut disk = Disk::with_profile(profile::EXTENDED, 64, 4, None)?;
+    compare_sense(&disk.initiator(0).test_unit_ready()?, Some((6, 0x29, 0)), None);
+    compare_sense(&disk.initiator(0).test_unit_ready()?, None, None);
+    disk.happen("fault medium 3/11/04 blocks 10 2")?;
+    compare_sense(&disk.initiator(0).read10(8, 8)?, Some((3, 0x11, 4)), Some(10));
+    disk.disarm_all()?;
+    let outcome = fault_outcome::ARRIVAL_DEFERRED_ERROR;
+    let (key, asc, ascq) = (4, 0x0C, 2);
+    disk.arm(&Fault { initiators: 1, outcome, key, asc, ascq, ..Fault::default() })?;
+    let reply = disk.initiator(0).test_unit_ready()?;
+    assert_eq!((reply.sense()[0], reply.fields()), (0x71, None));
+    compare_sense(&reply, Some((key, asc, ascq)), None);
+    Ok(())
+}
+
 #[test]
 fn two_seeds_make_two_identities() -> Result<(), Error> {
     for (seed, serial) in [(1, b"00000001"), (0xF00D, b"0000f00d"), (1 << 32, b"00000000")] {
