@@ -1,5 +1,5 @@
 //! The commands of an initiator, by name.
-// embed/rust/generate writes this file.
+// Made by `embed/rust/generate` from the proved table of CDBs. Do not edit it.
 use crate::cdb::length_of;
 use crate::{commands, Error, Initiator, Reply};
 

@@ -1,9 +1,9 @@
 //! The CDB of each command, by name: [`read10`], [`write_same16`], [`unmap`].
 //!
-//! A function takes the fields of its command, in the order of the proved table of the disk. If there
-//! are more than 4, it takes a struct of them, such as [`ModeSense10`]. A struct also has the
-//! bits that change no reply, such as FUA in [`Write10`]. Fields that the disk does not look at have no
-//! argument.
+//! A function takes the fields of its command: the address and the number of blocks first, and then the
+//! others in the order of the proved table of the disk. If there are more than 4, it takes a
+//! struct of them, such as [`ModeSense10`]. A struct also has the bits that change no reply, such as FUA in
+//! [`Write10`]. Fields that the disk does not look at have no argument.
 //!
 //! ```
 //! use mehdalung::commands::{read10, Read10};
@@ -12,7 +12,7 @@
 //! let with_fua = Read10 { lba: 0x1234, blocks: 8, fua: true, ..Read10::default() };
 //! assert_eq!(with_fua.cdb(), [0x28, 0x08, 0, 0, 0x12, 0x34, 0, 0, 8, 0]);
 //! ```
-// embed/rust/generate writes this file.
+// Made by `embed/rust/generate` from the proved table of CDBs. Do not edit it.
 use crate::cdb::Cdb;
 
 /// TEST UNIT READY, operation code 00h (SPC-4, 6.47).

@@ -1,5 +1,5 @@
 //! Each command with each field at its largest.
-// embed/rust/generate writes this file.
+// Made by `embed/rust/generate` from the proved table of CDBs. Do not edit it.
 use mehdalung::commands::*;
 
 #[rustfmt::skip]
