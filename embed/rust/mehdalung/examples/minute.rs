@@ -1,15 +1,10 @@
 //! The first minute of README, from Rust: it prints what sgrun prints.
-use mehdalung::{Disk, Error, Reply, CHECK_CONDITION, GOOD};
+use mehdalung::{Disk, Error, Reply};
 use std::process::ExitCode;
 
 /// Prints the reply of a line, and returns its exit status.
 fn print(line: u32, reply: Reply) -> u8 {
-    let name = match reply.status() {
-        GOOD => "GOOD",
-        CHECK_CONDITION => "CHECK CONDITION",
-        _ => "RESERVATION CONFLICT",
-    };
-    println!("line {line}: {name}");
+    println!("line {line}: {}", reply.status_name());
     print!("{}", reply.text().expect("no memory for a text"));
     reply.exit_status()
 }

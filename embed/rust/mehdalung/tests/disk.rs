@@ -238,6 +238,22 @@ fn a_file_keeps_a_disk() -> Result<(), Error> {
     ] {
         assert_eq!(Disk::open(&path, &other).err(), Some(error));
     }
+    fs::remove_file(&path).unwrap();
+    assert_eq!(Disk::new(64, 4, None)?.flush(), Err(Error::NoFile));
+    Ok(())
+}
+
+#[test]
+fn a_file_without_a_disk_is_refused() -> Result<(), Error> {
+    let path = std::env::temp_dir().join(format!("mehdalung-refused-{}", std::process::id()));
+    let any = Wanted::default();
+    let wanted = Wanted {
+        profile: Some(profile::BASE),
+        blocks: Some(64),
+        pool: Some(4),
+        identity: None,
+    };
+    Disk::open(&path, &wanted)?.close()?;
     let mut bytes = fs::read(&path).unwrap();
     bytes[11] = 1;
     fs::write(&path, &bytes).unwrap();
@@ -246,7 +262,6 @@ fn a_file_keeps_a_disk() -> Result<(), Error> {
     assert_eq!(Disk::open(&path, &any).err(), Some(Error::NotADisk));
     fs::remove_file(&path).unwrap();
     assert_eq!(Disk::open(path.join("disk"), &any).err(), Some(Error::CannotOpen(2)));
-    assert_eq!(Disk::new(64, 4, None)?.flush(), Err(Error::NoFile));
     Ok(())
 }
 
