@@ -45,18 +45,15 @@ SHORT_NAMES = {
 # Functions and methods have these fields first, in this order.
 FIRST = ("service_action", "lba", "blocks")
 
-# The data-out of the commands whose title begins so: blocks, pairs of blocks to compare and to write, one
-# block or nothing, blocks to compare or nothing, a parameter list, or a header.
-DATA_OUT = {
-    "WRITE(": "blocks", "WRITE AND VERIFY": "blocks", "ORWRITE": "blocks", "WRITE ATOMIC": "blocks",
-    "COMPARE AND WRITE": "pairs", "WRITE SAME": "block", "VERIFY": "compared", "MODE SELECT": "list",
-    "UNMAP": "list", "PERSISTENT RESERVE OUT": "list", "FORMAT UNIT": "header",
-}
-
 
 def name_of(label: str) -> str:
     """A label or a title of a standard as a name: `READ(10)` as `read10`."""
     return SHORT_NAMES.get(label) or re.sub(r"\W+", "_", re.sub(r"\((\d+)\)", r"\1", label.lower()))
+
+
+def family_of(title: str) -> str:
+    """A title without the length of a CDB or a service action: `READ`, `SANITIZE`."""
+    return re.split(r"[(,]", title)[0]
 
 
 class Field(NamedTuple):
@@ -78,9 +75,11 @@ class Field(NamedTuple):
 
 
 class Row(NamedTuple):
-    """A command. Its title and its section are those of PROFILE: `READ(10)` and `SBC-3, 5.11`."""
+    """A command. Three texts are of PROFILE: its title, such as `READ(10)`, its section, such as
+    `SBC-3, 5.11`, and what its data-out is, such as `its list` or `none`."""
     title: str
     section: str
+    data_out: str
     profile: str
     opcode: int
     # The service action, or the names and numbers of all of them. Then SERVICE ACTION is the first field.
@@ -101,9 +100,12 @@ class Row(NamedTuple):
         return {0: 6, 4: 16, 5: 12}.get(self.opcode // 32, 10)
 
     @property
-    def data_out(self) -> str:
-        """What its data-out is, a word of DATA_OUT, or nothing."""
-        return next((kind for start, kind in DATA_OUT.items() if self.title.startswith(start)), "")
+    def family(self) -> str:
+        return family_of(self.title)
+
+    @property
+    def has_data_out(self) -> bool:
+        return self.data_out != "none"
 
     @property
     def headline(self) -> str:
@@ -253,14 +255,21 @@ def labels_of(text: str) -> Labels:
     return found
 
 
-def labels() -> Dict[str, Labels]:
-    """The labels of the fields of each command. Those of SANITIZE hold for each of its commands."""
+def column(first: str, name: str) -> Dict[str, str]:
+    """The cells of a table in PROFILE below the heading `name`, by the titles of commands below `first`."""
+    heading, table = re.findall(rf"(?ms)^(\| {first} \|[^\n]* {name} \|[^\n]*)\n[^\n]*\n(.*?)\n\n",
+                                profile_page())[0]
     found = {}
-    table = profile_page().partition("| Command | Fields | Ignored bits |\n|---|---|---|\n")[2]
-    for line in table.partition("\n\n")[0].split("\n"):
-        titles_of_line, fields, _ = line.strip("| ").split(" | ")
-        for title in titles_of_line.split(", "):
-            found[title] = labels_of(fields)
+    for line in table.split("\n"):
+        cells = dict(zip(heading.strip("| ").split(" | "), line.strip("| ").split(" | ")))
+        for title in cells[first].split(", "):
+            found[re.sub(" (with|otherwise).*", "", title)] = cells[name]
+    return found
+
+
+def labels() -> Dict[str, Labels]:
+    """The labels of the fields of each command, by its title, or by its family."""
+    found = {title: labels_of(text) for title, text in column("Command", "Fields").items()}
     for title in "READ(6)", "WRITE(6)":
         found[title][1, 3, 4, 0] = "LOGICAL BLOCK ADDRESS"
     found["MODE SENSE(10)"].update(found["MODE SENSE(6)"])
@@ -318,7 +327,7 @@ def actions_of(definitions: Definitions, action: Symbol) -> Tuple[Optional[int],
 def rows() -> List[Row]:
     """The rows of the table, in its order."""
     definitions = Definitions("Layout", "CdbFields", "FreeBits", "ReservationAction")
-    named, names, found = titles(), labels(), []
+    named, labelled, data_out, found = titles(), labels(), column("Commands", "Data-out"), []
     for _, body in definitions.equations["layout"]:
         value = Parser(definitions, body, {"c": Symbol("c", [])}).whole()
         opcode, free = value["opcode"], value["free"]
@@ -328,12 +337,13 @@ def rows() -> List[Row]:
         if any(it not in named for it in codes):
             raise ValueError(f"docs/PROFILE.md lacks a command with operation code {opcode:02X}h")
         (title, section), *_ = [named.pop(it) for it in codes]
-        labels_here = names[title if title in names else title.split(", ")[0]]
-        fields = fields_at([it["place"] for it in value["fields"]], labels_here)
+        family = family_of(title)
+        here = labelled[title if title in labelled else family]
+        fields = fields_at([it["place"] for it in value["fields"]], here)
         if actions:
             fields.insert(0, Field("SERVICE ACTION", 1, 1, 4, 0))
-        found.append(Row(title, section, value["profile"].name.lower(), opcode, action, actions, fields,
-                         free_fields(free, "used"), free_fields(free, "ignored")))
+        found.append(Row(title, section, data_out[family], value["profile"].name.lower(), opcode, action,
+                         actions, fields, free_fields(free, "used"), free_fields(free, "ignored")))
     if named:
         raise ValueError(f"docs/PROFILE.md has commands that the table lacks: {named}")
     return found
@@ -349,7 +359,7 @@ def main() -> int:
         actions = [row.action] if row.action is not None else row.actions.values()
         codes = "/".join([f"{row.opcode:02X}h", *(f"{it:02X}h" for it in actions)])
         print(f"{row.name} {row.profile} {codes} {row.length}: {printed(row.fields)}; {printed(row.used)}; "
-              f"{printed(row.ignored)}; {row.title} ({row.section})")
+              f"{printed(row.ignored)}; {row.title} ({row.section}), data-out: {row.data_out}")
     return 0
 
 
