@@ -266,7 +266,7 @@ class Reply(NamedTuple):
         return lines
 
     def __repr__(self) -> str:
-        """Its headline, and the begin of what its sense data and its data-in contain, in a line."""
+        """Its headline, and the first of what its sense data and its data-in contain, in a line."""
         # a READ may have a megabyte, whose text takes time
         cut = self._replace(data_in=self.data_in[:SHOWN]) if self.kind == Kind.HEX else self
         text = "; ".join(" ".join(it.split()) for it in cut.lines()[1:])
@@ -292,6 +292,7 @@ class Disk:
         check(LIBRARY.mdl_make_with_profile(self.slot, profile, blocks, pool, identity))
 
     def prepare(self) -> None:
+        """Makes an empty slot for a disk, and the buffer for data-in."""
         self.slot = Slot()
         self.data_in = (ctypes.c_uint8 * BUFFER_LENGTH)()
 
