@@ -247,12 +247,8 @@ fn a_file_keeps_a_disk() -> Result<(), Error> {
 fn a_file_without_a_disk_is_refused() -> Result<(), Error> {
     let path = std::env::temp_dir().join(format!("mehdalung-refused-{}", std::process::id()));
     let any = Wanted::default();
-    let wanted = Wanted {
-        profile: Some(profile::BASE),
-        blocks: Some(64),
-        pool: Some(4),
-        identity: None,
-    };
+    let wanted =
+        Wanted { profile: Some(profile::BASE), blocks: Some(64), pool: Some(4), identity: None };
     Disk::open(&path, &wanted)?.close()?;
     let mut bytes = fs::read(&path).unwrap();
     bytes[11] = 1;
