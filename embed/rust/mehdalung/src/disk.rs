@@ -25,14 +25,14 @@ pub struct Wanted<'a> {
 /// Between two commands it can be reset, lose its power, grow, and get faults:
 ///
 /// ```
-/// # use mehdalung::{Disk, Error};
+/// # use mehdalung::{sense_key, Disk, Error};
 /// # fn main() -> Result<(), Error> {
 /// let mut disk = Disk::new(4096, 4, None)?;
 /// disk.initiator(0).request_sense(false, 18)?;
 /// disk.happen("fault medium 3/11/00 blocks 10 2")?;
 /// let reply = disk.initiator(0).read10(8, 8)?;
-/// assert_eq!((reply.sense_key(), reply.asc()), (Some(3), Some(0x11)), "{reply}");
-/// assert_eq!(reply.information(), Some(10));
+/// assert_eq!(reply.sense_key(), Some(sense_key::MEDIUM_ERROR), "{reply}");
+/// assert_eq!((reply.asc(), reply.information()), (Some(0x11), Some(10)));
 /// disk.disarm_all()?;
 /// disk.lose_nexus(0)?;
 /// let reply = disk.initiator(0).read10(8, 8)?;

@@ -8,6 +8,7 @@ mod error;
 mod initiator;
 pub mod lists;
 mod reply;
+pub mod sense_key;
 
 use error::check;
 use mehdalung_sys as sys;

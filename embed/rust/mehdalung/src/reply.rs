@@ -73,7 +73,8 @@ impl Reply<'_> {
         fields_of(self.sense())
     }
 
-    /// Returns the sense key, or `None` without sense data.
+    /// Returns the sense key, a number of the module [`sense_key`](crate::sense_key), or `None` without
+    /// sense data.
     pub fn sense_key(&self) -> Option<u8> {
         Some(self.fields_of_any_error()?.key)
     }

@@ -1,6 +1,6 @@
 //! Tries the parts of the crate that the first minute does not use.
 use mehdalung::Wanted;
-use mehdalung::{decode, fault_outcome, identity_of_seed, kind, profile, version};
+use mehdalung::{decode, fault_outcome, identity_of_seed, kind, profile, sense_key, version};
 use mehdalung::{Damage, Disk, Error, Fault, Identity, Reply};
 use mehdalung::{ALL_INITIATORS, BUSY, CHECK_CONDITION, GOOD};
 use std::sync::Mutex;
@@ -64,6 +64,15 @@ fn replies_have_sense_data_even_of_deferred_errors() -> Result<(), Error> {
     assert_eq!((reply.sense()[0], reply.fields()), (0x71, None));
     compare_sense(&reply, Some((key, asc, ascq)), None);
     Ok(())
+}
+
+#[test]
+fn sense_keys_are_in_the_order_of_spc_4() {
+    use sense_key::*;
+    let lower = [NO_SENSE, RECOVERED_ERROR, NOT_READY, MEDIUM_ERROR, HARDWARE_ERROR];
+    let middle = [ILLEGAL_REQUEST, UNIT_ATTENTION, DATA_PROTECT, BLANK_CHECK, VENDOR_SPECIFIC];
+    let upper = [COPY_ABORTED, ABORTED_COMMAND, RESERVED, VOLUME_OVERFLOW, MISCOMPARE, COMPLETED];
+    assert!(lower.into_iter().chain(middle).chain(upper).eq(0..16));
 }
 
 #[test]
