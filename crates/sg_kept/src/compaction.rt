@@ -367,6 +367,7 @@ impl<S: Store, D: Device> KeptDisk<S, D> {
             (D.failures self.new.journal.device) result }
         ensures is_dead { self.new.is_dead ≡ self.old.is_dead }
         ensures compacts { self.new.compacts ≡ self.old.compacts }
+        ensures found_batches { self.new.found_batches ≡ self.old.found_batches }
     {
         write_snapshot(
             &mut self.target,
@@ -404,6 +405,7 @@ impl<S: Store, D: Device> KeptDisk<S, D> {
         ensures cause { IsAlive self.old → IsErr result
             → D.failures self.old.journal.device < D.failures self.new.journal.device }
         ensures compacts { self.new.compacts ≡ self.old.compacts }
+        ensures found_batches { self.new.found_batches ≡ self.old.found_batches }
         ensures stays_dead { IsDead self.old → self.new ≡ self.old }
     {
         if self.is_dead {
@@ -441,6 +443,7 @@ impl<S: Store, D: Device> KeptDisk<S, D> {
             (D.failures self.new.journal.device) result }
         ensures is_dead { self.new.is_dead ≡ self.old.is_dead }
         ensures compacts { self.new.compacts ≡ self.old.compacts }
+        ensures found_batches { self.new.found_batches ≡ self.old.found_batches }
     {
         if !self.is_long() {
             return Ok(());
@@ -483,6 +486,7 @@ impl<S: Store, D: Device> KeptDisk<S, D> {
             (D.failures self.new.journal.device) result }
         ensures is_dead { self.new.is_dead ≡ self.old.is_dead }
         ensures compacts { self.new.compacts ≡ self.old.compacts }
+        ensures found_batches { self.new.found_batches ≡ self.old.found_batches }
     {
         let is_needed = self.has_to_write(is_needed);
         write_batch_if(&mut self.journal, &mut self.batch, is_needed)?;

@@ -217,6 +217,7 @@ impl<S: Store, D: Device> KeptDisk<S, D> {
             ⊎ (longest_file < self.old.journal.length) }
         ensures is_dead { self.new.is_dead ≡ self.old.is_dead }
         ensures compacts { self.new.compacts ≡ self.old.compacts }
+        ensures found_batches { self.new.found_batches ≡ self.old.found_batches }
     {
         if self.journal.length > LONGEST_FILE {
             return Err(DeviceError);
@@ -252,6 +253,7 @@ impl<S: Store, D: Device> KeptDisk<S, D> {
             ⊎ (longest_file < self.old.journal.length) }
         ensures is_dead { self.new.is_dead ≡ self.old.is_dead }
         ensures compacts { self.new.compacts ≡ self.old.compacts }
+        ensures found_batches { self.new.found_batches ≡ self.old.found_batches }
     {
         if self.journal.length > LONGEST_FILE {
             return Err(DeviceError);
@@ -272,6 +274,7 @@ impl<S: Store, D: Device> KeptDisk<S, D> {
         // The file is short, or it is left to the disk's owner to write it afresh.
         ensures short { IsAlive self.new → IsKeptShort self.new }
         ensures compacts { self.new.compacts ≡ self.old.compacts }
+        ensures found_batches { self.new.found_batches ≡ self.old.found_batches }
 
         // A crash at any moment leaves what the file had, or the disk after power on.
         ensures any_moment { IsAlive self.old → LeavesOnly D.moment D.left_since
@@ -329,6 +332,7 @@ impl<S: Store, D: Device> KeptDisk<S, D> {
         ensures flushed { flushes ≡ true → result.waits ≡ false }
         ensures short { IsAlive self.new → IsKeptShort self.new }
         ensures compacts { self.new.compacts ≡ self.old.compacts }
+        ensures found_batches { self.new.found_batches ≡ self.old.found_batches }
         ensures any_moment { IsAlive self.old → LeavesOnly D.moment D.left_since
             self.old.journal.device self.new.journal.device
             (IsBeforeOr (D.seen self.old.journal.device)
@@ -383,6 +387,7 @@ impl<S: Store, D: Device> KeptDisk<S, D> {
         // The file is short, or it is left to the disk's owner to write it afresh.
         ensures short { IsAlive self.new → IsKeptShort self.new }
         ensures compacts { self.new.compacts ≡ self.old.compacts }
+        ensures found_batches { self.new.found_batches ≡ self.old.found_batches }
 
         // A crash at any moment leaves what the file had, or the disk with this command, after power on.
         ensures any_moment { IsAlive self.old → LeavesOnly D.moment D.left_since

@@ -39,6 +39,7 @@ impl<S: Store, D: Device> KeptDisk<S, D> {
             ⊎ (longest_file < self.old.journal.length) }
         ensures is_dead { self.new.is_dead ≡ self.old.is_dead }
         ensures compacts { self.new.compacts ≡ self.old.compacts }
+        ensures found_batches { self.new.found_batches ≡ self.old.found_batches }
     {
         if self.journal.length > LONGEST_FILE {
             return Err(DeviceError);
@@ -63,6 +64,7 @@ impl<S: Store, D: Device> KeptDisk<S, D> {
         // The file is short, or it is left to the disk's owner to write it afresh.
         ensures short { IsAlive self.new → IsKeptShort self.new }
         ensures compacts { self.new.compacts ≡ self.old.compacts }
+        ensures found_batches { self.new.found_batches ≡ self.old.found_batches }
 
         // A crash at any moment leaves what the file had, or the disk with this happening, after power on.
         ensures any_moment { IsAlive self.old → LeavesOnly D.moment D.left_since
@@ -110,6 +112,7 @@ impl<S: Store, D: Device> KeptDisk<S, D> {
         // The file is short, or it is left to the disk's owner to write it afresh.
         ensures short { IsAlive self.new → IsKeptShort self.new }
         ensures compacts { self.new.compacts ≡ self.old.compacts }
+        ensures found_batches { self.new.found_batches ≡ self.old.found_batches }
 
         // A crash at any moment leaves what the file had, or the disk after power on. Power on clears
         // these unit attentions, too.

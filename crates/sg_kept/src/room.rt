@@ -64,6 +64,7 @@ impl<S: Store, D: Device> KeptDisk<S, D> {
         // The file is short, or it is left to the disk's owner to write it afresh.
         ensures short { IfSome result (λ _. IsAlive self.new → IsKeptShort self.new) }
         ensures compacts { self.new.compacts ≡ self.old.compacts }
+        ensures found_batches { self.new.found_batches ≡ self.old.found_batches }
 
         // A crash at any moment leaves what the file had, or the disk with this command, after power on.
         ensures any_moment { IfSome result (λ _. IsAlive self.old → LeavesOnly D.moment D.left_since

@@ -38,6 +38,7 @@ impl<S: Store, D: Device> KeptDisk<S, D> {
         ensures cause { HasCause (D.failures self.old.journal.device)
             (D.failures self.new.journal.device) result }
         ensures compacts { self.new.compacts ≡ self.old.compacts }
+        ensures found_batches { self.new.found_batches ≡ self.old.found_batches }
     {
         kept_stays_sound();
         match begin_snapshot(&self.target, &mut self.journal, &mut self.batch) {
@@ -79,6 +80,7 @@ impl<S: Store, D: Device> KeptDisk<S, D> {
         ensures cause { HasCause (D.failures self.old.journal.device)
             (D.failures self.new.journal.device) result }
         ensures compacts { self.new.compacts ≡ self.old.compacts }
+        ensures found_batches { self.new.found_batches ≡ self.old.found_batches }
     {
         kept_stays_sound();
         match write_part(
