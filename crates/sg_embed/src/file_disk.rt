@@ -92,7 +92,6 @@ impl FileDisk {
         flushes: bool,
         waits: &mut bool,
     ) -> Option<Reply>
-        requires at_once { waits.old ≡ false }
         ensures room { is_some result
             ≡ nat_le (needed_buffer (target_in self.old).state initiator cdb.now data_out.now)
             (length buf.old) }
@@ -104,6 +103,7 @@ impl FileDisk {
         ensures kept { IfNone result (self.new ≡ self.old) }
         ensures untouched { IfNone result (buf.new ≡ buf.old) }
     {
+        *waits = false;
         if buf.len() < self.disk.target.needed_buffer(initiator, cdb, data_out) {
             return None;
         }

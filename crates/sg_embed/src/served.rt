@@ -56,8 +56,6 @@ impl Served {
         flushes: bool,
         waits: &mut bool,
     ) -> Option<Reply>
-        requires at_once { waits.old ≡ false }
-
         // Whether the buffer is long enough.
         ensures room { is_some result
             ≡ nat_le (needed_buffer (target_of self.old).state initiator cdb.now data_out.now)
@@ -72,6 +70,7 @@ impl Served {
         ensures kept { IfNone result (self.new ≡ self.old) }
         ensures untouched { IfNone result (buf.new ≡ buf.old) }
     {
+        *waits = false;
         match self {
             Served::Runs(target) => target.execute_within(initiator, cdb, data_out, buf),
             Served::Extents(target) => target.execute_within(initiator, cdb, data_out, buf),
