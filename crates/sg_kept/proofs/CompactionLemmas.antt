@@ -184,6 +184,13 @@ module _ {D : Type 0} (seen : D → List ℕ) (may_leave : D → List ℕ → Ty
       → opened (seen journal.device) ≡ Some (restored left)
   stands-opened journal left s = opened-is (seen journal.device) s.batches left s.stands.found s.files
 
+  -- opening finds the disk if none of its records waits
+  pub alone-opened : (journal : Journal D) (b : BatchValue) (disk : Armed)
+      → IsKept seen may_leave journal b disk → b.records ≡ [] → has_waiting journal ≡ false
+      → opened (seen journal.device) ≡ Some (restored (kept disk))
+  alone-opened journal b disk s none not =
+      stands-opened journal (kept disk) (stands-alone journal b disk s none not)
+
 -- ---- A run
 
 -- the record of the first addresses of a run
