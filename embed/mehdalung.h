@@ -7,8 +7,8 @@
  * Sizes are in bytes, unless a function says blocks. A block has 512 bytes.
  *
  * Memory. mdl_make, mdl_make_with_profile, mdl_open and mdl_open_device take all memory of a disk
- * from malloc, and mdl_free and mdl_close give it back. mdl_tool and mdl_decode take memory for the
- * time of the call. No other function takes or frees any. You have to see to this:
+ * from malloc, and mdl_free and mdl_close give it back. mdl_tool, mdl_decode and mdl_faults take
+ * memory for the time of the call. No other function takes or frees any. You have to see to this:
  *     - malloc, realloc and free belong to one allocator.
  *     - malloc and realloc align a block to each power of two up to 16 that divides its size. The
  *       allocators of glibc and musl do.
@@ -69,7 +69,7 @@ typedef enum mdl_error {
     MDL_NO_DISK = 1,            /* there is no disk: you made none, or you freed it */
     MDL_DISK_EXISTS = 2,        /* there is a disk already */
     MDL_BLOCKS = 3,             /* the number of blocks is not 1 to 2^40 */
-    MDL_POOL = 4,               /* the size of the pool is not 1 to 65,536 blocks */
+    MDL_POOL = 4,               /* the size of the pool is 0, or above 65,536 blocks on a base disk */
     MDL_IDENTITY_TEXT = 5,      /* a text of the identity has a byte outside 20h to 7Eh */
     MDL_IDENTITY_LOCAL = 6,     /* the local identifier, or the seed, has more than 60 bits */
     MDL_OUT_OF_MEMORY = 7,      /* memory ran out */
@@ -331,6 +331,8 @@ void mdl_free(mdl_disk *disk);
  *           MODE SENSE                 80
  *           PERSISTENT RESERVE IN     296
  *           GET LBA STATUS          8,200
+ *           REPORT LUNS, LOG SENSE, READ DEFECT DATA, REPORT SUPPORTED OPERATION CODES and REPORT
+ *           SUPPORTED TASK MANAGEMENT FUNCTIONS of an extended disk: 1,284
  *     - Other commands: 0. */
 mdl_error mdl_execute(mdl_disk *disk, uint32_t initiator, const uint8_t *cdb, size_t cdb_length,
                       const uint8_t *data_out, size_t data_out_length, uint8_t *data_in,

@@ -10,7 +10,7 @@
  *     - 1: INITIATOR, 0 to 7.
  *     - 2: TAG, any byte. The reply has it, too.
  *     - 3: CDB LENGTH, 0 to 255.
- *     - 4 to 7: DATA-OUT LENGTH, 0 to 262,144.
+ *     - 4 to 7: DATA-OUT LENGTH, 0 to 2,097,152.
  *     - 8 on: the CDB, CDB LENGTH bytes.
  *     - After it: data-out, DATA-OUT LENGTH bytes.
  *
