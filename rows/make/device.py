@@ -201,6 +201,7 @@ OPERATIONS = {
     "REPORT LUNS": reports.report_luns,
     "REPORT SUPPORTED OPERATION CODES": reports.operation_codes,
     "REPORT SUPPORTED TASK MANAGEMENT FUNCTIONS": reports.task_management_functions,
+    "REPORT TARGET PORT GROUPS": reports.target_port_groups,
     "READ(12)": blocks.read,
     "WRITE(12)": blocks.write,
     "WRITE AND VERIFY(12)": blocks.write_and_verify,

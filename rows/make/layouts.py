@@ -74,6 +74,8 @@ A3.0C | REPORT SUPPORTED OPERATION CODES \
                                            action 4-5, allocation_length 6-9           |
 A3.0D | REPORT SUPPORTED TASK MANAGEMENT FUNCTIONS \
                                | reads   | repd 2:80, allocation_length 6-9            |
+A3.0A | REPORT TARGET PORT GROUPS \
+                               | allowed | data_format 1:E0, allocation_length 6-9     |
 A8    | READ(12)               | reads   | address 2-5, count 6-9                      | 1:1A, 10:1F
 AA    | WRITE(12)              | writes  | address 2-5, count 6-9                      | 1:1A, 10:1F
 AE    | WRITE AND VERIFY(12)   | writes  | bytchk 1:06, address 2-5, count 6-9         | 1:10, 10:1F

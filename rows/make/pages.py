@@ -7,6 +7,9 @@ VENDOR = b"SGMODEL "  # T10 VENDOR IDENTIFICATION, 8 bytes
 PRODUCT = b"THIN DISK       "  # 16 bytes
 REVISION = b"0100"
 SAM_5, SPC_4, SBC_3 = 0x00A0, 0x0460, 0x04C0  # version descriptors, of no version of a draft
+RELATIVE_TARGET_PORT, TARGET_PORT_GROUP = 1, 1  # of an extended disk: it has one port, and one group
+# IEEE COMPANY_ID of an extended disk's name: bit 1 of its first byte is 1, as it is administered locally
+COMPANY_ID = 0x020000
 
 
 def inquiry(device, _initiator, command, _data_out):
@@ -30,16 +33,17 @@ def page(code, parameters):
     return bytes([0x00, code]) + len(parameters).to_bytes(2, "big") + parameters
 
 
-def standard_inquiry_data(cmdque=0x00, after_revision=b""):
+def standard_inquiry_data(tpgs=0x00, cmdque=0x00, after_revision=b""):
     """SPC-4, 6.6.2: VERSION 06h is SPC-4, RESPONSE DATA FORMAT 2"""
-    after_length = bytes([0, 0, cmdque]) + VENDOR + PRODUCT + REVISION + after_revision
+    after_length = bytes([tpgs, 0, cmdque]) + VENDOR + PRODUCT + REVISION + after_revision
     return bytes([0x00, 0x00, 0x06, 0x02, len(after_length)]) + after_length
 
 
 def extended_standard_inquiry_data():
-    """SPC-4, 6.6.2: byte 7 is CMDQUE, and VERSION DESCRIPTOR 1 begins at byte 58"""
+    """SPC-4, 6.6.2: TPGS is 01b in byte 5, CMDQUE 1 in byte 7, and VERSION DESCRIPTOR 1 begins at
+    byte 58"""
     descriptors = b"".join(it.to_bytes(2, "big") for it in (SAM_5, SPC_4, SBC_3))
-    return standard_inquiry_data(0x02, bytes(58 - 36) + descriptors.ljust(16, bytes(1)))
+    return standard_inquiry_data(0x10, 0x02, bytes(58 - 36) + descriptors.ljust(16, bytes(1)))
 
 
 def unit_serial_number(device):
@@ -47,21 +51,37 @@ def unit_serial_number(device):
     return f"{device.seed % 2**32:08x}".encode("ascii")
 
 
+# A designator (SPC-4, 7.8.6): CODE SET, ASSOCIATION in bits 5 and 4, DESIGNATOR TYPE
+BINARY, ASCII = 1, 2
+LOGICAL_UNIT, TARGET_PORT = 0x00, 0x10
+T10_VENDOR_ID, NAA, RELATIVE_PORT, PORT_GROUP = 1, 3, 4, 5
+
+
+def designator(code_set, association, its_type, value):
+    return bytes([code_set, association | its_type, 0, len(value)]) + value
+
+
+def name_by_vendor(device):
+    """SPC-4, 7.8.6.4"""
+    name = VENDOR + PRODUCT + unit_serial_number(device)
+    return designator(ASCII, LOGICAL_UNIT, T10_VENDOR_ID, name)
+
+
 def device_identification(device):
-    """SPC-4, 7.8.6: a designator by the vendor (7.8.6.4), and a locally assigned NAA (7.8.6.6)"""
-    by_vendor = VENDOR + PRODUCT + unit_serial_number(device)
+    """SPC-4, 7.8.6: a designator by the vendor, and a locally assigned NAA, 3h (7.8.6.6)"""
     naa = (0x3 << 60 | device.seed).to_bytes(8, "big")
-    ascii_text, binary, vendor_type, naa_type = 2, 1, 1, 3
-    return (bytes([ascii_text, vendor_type, 0, len(by_vendor)]) + by_vendor
-            + bytes([binary, naa_type, 0, len(naa)]) + naa)
+    return name_by_vendor(device) + designator(BINARY, LOGICAL_UNIT, NAA, naa)
 
 
 def extended_device_identification(device):
-    """SPC-4, 7.8.6.7: the target port, association 1, is relative target port 1, in two bytes"""
-    binary, port_association, relative_type = 1, 1 << 4, 4
-    port = bytes(2) + (1).to_bytes(2, "big")
-    return (device_identification(device)
-            + bytes([binary, port_association | relative_type, 0, len(port)]) + port)
+    """SPC-4, 7.8.6: a designator by the vendor; an IEEE Registered Extended NAA, 6h (7.8.6.6): 24 bits
+    of COMPANY_ID, 36 bits of 0 and 64 bits of the seed; the target port (7.8.6.7); its group (7.8.6.8)
+    """
+    naa = (0x6 << 124 | COMPANY_ID << 100 | device.seed).to_bytes(16, "big")
+    port, group = (bytes(2) + it.to_bytes(2, "big") for it in (RELATIVE_TARGET_PORT, TARGET_PORT_GROUP))
+    return (name_by_vendor(device) + designator(BINARY, LOGICAL_UNIT, NAA, naa)
+            + designator(BINARY, TARGET_PORT, RELATIVE_PORT, port)
+            + designator(BINARY, TARGET_PORT, PORT_GROUP, group))
 
 
 def block_limits(device):

@@ -28,7 +28,8 @@ THEMES = (
     (*2 * ("ORWRITE(16)",), "WRITE ATOMIC(16)", "READ(16)", "UNMAP", "WRITE SAME(10)",
      "WRITE LONG(10)"),
     ("REPORT LUNS", "LOG SENSE", "READ DEFECT DATA(12)", "SEND DIAGNOSTIC",
-     *2 * ("REPORT SUPPORTED OPERATION CODES",), "REPORT SUPPORTED TASK MANAGEMENT FUNCTIONS"),
+     *2 * ("REPORT SUPPORTED OPERATION CODES",), "REPORT SUPPORTED TASK MANAGEMENT FUNCTIONS",
+     "REPORT TARGET PORT GROUPS"),
     (),
 )
 OFTEN = 6
@@ -210,7 +211,8 @@ class Script:
             "format": self.random.randrange(6),
             "options": self.random.randrange(4),
             "opcode": self.random.choice(self.layouts)[0][0],
-            "action": self.random.choice((0, 0, 1, 3, 0x0C, 0x10, 0x12)),
+            "action": self.random.choice((0, 0, 1, 3, 0x0A, 0x0C, 0x10, 0x12)),
+            "data_format": self.random.randrange(2),
             "select_report": self.random.choice((0, 1, 2)),
             "self_test_code": 0,
             "parameter_list_length": 0,

@@ -5,6 +5,7 @@ They are commands of SPC-4, except READ DEFECT DATA (SBC-3, 5.17 and 5.18).
 
 import sense
 from layouts import CODES_WITH_ACTIONS, LAYOUTS
+from pages import RELATIVE_TARGET_PORT, TARGET_PORT_GROUP
 from provisioning import THRESHOLD_EXPONENT
 
 LUN_0 = bytes(8)
@@ -45,10 +46,10 @@ def report_luns(device, initiator, command, _data_out):
 
 # REPORT SUPPORTED OPERATION CODES (SPC-4, 6.35). The standard leaves the order of all commands free;
 # docs/PROFILE.md has this one.
-ORDER = (0x00, 0x03, 0x12, 0x15, 0x55, 0x1A, 0x5A, 0x4D, 0xA0, 0xA3, 0x1D, 0x89, 0x04, 0x8B, 0x34, 0x90,
-         0x08, 0x28, 0xA8, 0x88, 0x0A, 0x2A, 0xAA, 0x8A, 0x25, (0x9E, 0x10), 0x37, 0xB7, 0x48, 0x1B,
-         0x35, 0x91, 0x2F, 0xAF, 0x8F, 0x2E, 0xAE, 0x8E, 0x9C, 0x3F, 0x41, 0x93, 0x42, (0x9E, 0x12),
-         0x5E, 0x5F)
+ORDER = (0x00, 0x03, 0x12, 0x15, 0x55, 0x1A, 0x5A, 0x4D, 0xA0, (0xA3, 0x0C), (0xA3, 0x0D), (0xA3, 0x0A),
+         0x1D, 0x89, 0x04, 0x8B, 0x34, 0x90, 0x08, 0x28, 0xA8, 0x88, 0x0A, 0x2A, 0xAA, 0x8A, 0x25,
+         (0x9E, 0x10), 0x37, 0xB7, 0x48, 0x1B, 0x35, 0x91, 0x2F, 0xAF, 0x8F, 0x2E, 0xAE, 0x8E, 0x9C,
+         0x3F, 0x41, 0x93, 0x42, (0x9E, 0x12), 0x5E, 0x5F)
 ALL, OF_CODE, OF_CODE_WITH_ACTION, OF_EITHER = range(4)  # REPORTING OPTIONS
 CTDP, SERVACTV, CTDP_OF_ONE = 0x02, 0x01, 0x80
 NOT_SUPPORTED, AS_IN_STANDARD = 1, 3
@@ -98,6 +99,26 @@ def task_management_functions(_device, _initiator, command, _data_out):
         raise command.unsupported("allocation_length")
     timeouts = bytes(12) if command["repd"] else b""
     return (bytes([FUNCTIONS, 0, 0, len(timeouts)]) + timeouts)[:command["allocation_length"]]
+
+
+# PARAMETER DATA FORMAT of REPORT TARGET PORT GROUPS (SPC-4, 6.37)
+LENGTH_ONLY_HEADER, EXTENDED_HEADER = 0, 1
+ACTIVE_OPTIMIZED, AO_SUP = 0x00, 0x01  # the state, with PREF 0, and the only one that is supported
+NO_STATUS, ONE_PORT = 0x00, 1
+FORMAT_TYPE_EXTENDED, NO_TRANSITION_TIME = 0x10, 0
+
+
+def target_port_groups(_device, _initiator, command, _data_out):
+    """SPC-4, 6.37: one group with one port, by which each path is active and optimized"""
+    data_format = command["data_format"]
+    if data_format not in (LENGTH_ONLY_HEADER, EXTENDED_HEADER):
+        raise command.unsupported("data_format")
+    port = bytes(2) + RELATIVE_TARGET_PORT.to_bytes(2, "big")
+    group = (bytes([ACTIVE_OPTIMIZED, AO_SUP]) + TARGET_PORT_GROUP.to_bytes(2, "big")
+             + bytes([0, NO_STATUS, 0, ONE_PORT]) + port)
+    header = bytes([FORMAT_TYPE_EXTENDED, NO_TRANSITION_TIME, 0, 0])
+    data = header + group if data_format == EXTENDED_HEADER else group
+    return (len(data).to_bytes(4, "big") + data)[:command["allocation_length"]]
 
 
 def log_sense(device, _initiator, command, _data_out):
