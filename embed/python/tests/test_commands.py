@@ -127,6 +127,8 @@ BY_HAND = [
     (commands.unmap(anchor=True, parameter_list_length=24), "42 01 00 00 00 00 00 00 18 00"),
     (commands.read_capacity10(), "25 00 00 00 00 00 00 00 00 00"),
     (commands.read_capacity16(allocation_length=32), "9e 10 00 00 00 00 00 00 00 00 00 00 00 20 00 00"),
+    (commands.report_target_port_groups(parameter_data_format=1, allocation_length=0x80),
+     "a3 2a 00 00 00 00 00 00 00 80 00 00"),
     (commands.get_lba_status(0x10, allocation_length=24), "9e 12 00 00 00 00 00 00 00 10 00 00 00 18 00 00"),
     (commands.persistent_reserve_in(ReserveIn.READ_FULL_STATUS), "5e 03 00 00 00 00 00 ff ff 00"),
     (commands.persistent_reserve_out(ReserveOut.PREEMPT, type=ReservationType.WRITE_EXCLUSIVE,

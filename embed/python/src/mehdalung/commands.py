@@ -104,6 +104,15 @@ def report_supported_task_management_functions(*, repd: bool = False,
                ("allocation_length", allocation_length, 9, 0, 32))
 
 
+def report_target_port_groups(*, parameter_data_format: int = 0,
+                              allocation_length: int = 0xFFFFFFFF) -> bytes:
+    """REPORT TARGET PORT GROUPS, operation code A3h, service action 0Ah (SPC-4, 6.37). Only an
+    extended disk has it."""
+    return cdb(12, 0xA3, ("service_action", 0x0A, 1, 0, 5),
+               ("parameter_data_format", parameter_data_format, 1, 5, 3),
+               ("allocation_length", allocation_length, 9, 0, 32))
+
+
 def send_diagnostic(*, self_test_code: int = 0, selftest: bool = False,
                     parameter_list_length: int = 0, pf: bool = False, devoffl: bool = False,
                     unitoffl: bool = False) -> bytes:

@@ -99,6 +99,14 @@ class Commands:
                                                                   allocation_length=allocation_length)
         return self.send(cdb)
 
+    def report_target_port_groups(self, *, parameter_data_format: int = 0,
+                                  allocation_length: int = 0xFFFFFFFF) -> "Reply":
+        """REPORT TARGET PORT GROUPS, operation code A3h, service action 0Ah (SPC-4, 6.37). Only an
+        extended disk has it."""
+        cdb = commands.report_target_port_groups(parameter_data_format=parameter_data_format,
+                                                 allocation_length=allocation_length)
+        return self.send(cdb)
+
     def send_diagnostic(self, *, self_test_code: int = 0, selftest: bool = False,
                         parameter_list_length: int = 0, pf: bool = False, devoffl: bool = False,
                         unitoffl: bool = False) -> "Reply":

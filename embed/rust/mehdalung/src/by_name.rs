@@ -97,6 +97,16 @@ impl<'a> Initiator<'a> {
         self.send(&cdb, &[])
     }
 
+    /// Executes REPORT TARGET PORT GROUPS by [`commands::report_target_port_groups`].
+    pub fn report_target_port_groups(
+        self,
+        parameter_data_format: u8,
+        allocation_length: u32,
+    ) -> Result<Reply<'a>, Error> {
+        let cdb = commands::report_target_port_groups(parameter_data_format, allocation_length);
+        self.send(&cdb, &[])
+    }
+
     /// Executes SEND DIAGNOSTIC by [`commands::send_diagnostic`].
     pub fn send_diagnostic(
         self,

@@ -302,6 +302,26 @@ pub const fn report_supported_task_management_functions(
     Cdb::of(0xA3).bits(1, 4, 0, 0x0D).bit(2, 7, repd).number(6, 9, allocation_length as u64).end()
 }
 
+/// REPORT TARGET PORT GROUPS, operation code A3h, service action 0Ah (SPC-4, 6.37). Only an
+/// extended disk has it.
+///
+/// - `parameter_data_format`: PARAMETER DATA FORMAT, bits 7 to 5 of byte 1
+/// - `allocation_length`: ALLOCATION LENGTH, bytes 6 to 9
+///
+/// # Panics
+///
+/// If `parameter_data_format` has more than 3 bits.
+pub const fn report_target_port_groups(
+    parameter_data_format: u8,
+    allocation_length: u32,
+) -> [u8; 12] {
+    Cdb::of(0xA3)
+        .bits(1, 4, 0, 0x0A)
+        .bits(1, 7, 5, parameter_data_format)
+        .number(6, 9, allocation_length as u64)
+        .end()
+}
+
 /// SEND DIAGNOSTIC, operation code 1Dh (SPC-4, 6.42). Only an extended disk has it.
 ///
 /// - `self_test_code`: SELF-TEST CODE, bits 7 to 5 of byte 1

@@ -82,6 +82,7 @@ fn primary_commands_are_as_by_hand() {
         }.cdb();
         "A3 0D 80 00 00 00 01 02 03 04 00 00"
             report_supported_task_management_functions(true, 0x0102_0304);
+        "A3 2A 00 00 00 00 01 02 03 04 00 00" report_target_port_groups(1, 0x0102_0304);
         "1D 24 00 01 02 00" send_diagnostic(1, true, 0x0102);
         "5E 03 00 00 00 00 00 01 02 00" persistent_reserve_in(reserve_in::READ_FULL_STATUS, 0x0102);
         "5E 00 00 00 00 00 00 00 08 00" persistent_reserve_in(reserve_in::READ_KEYS, 8);

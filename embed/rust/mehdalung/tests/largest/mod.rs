@@ -48,6 +48,7 @@ pub fn cdbs() -> Vec<Vec<u8>> {
         .cdb()
         .to_vec(),
         report_supported_task_management_functions(true, u32::MAX).to_vec(),
+        report_target_port_groups(0x7, u32::MAX).to_vec(),
         send_diagnostic(0x7, true, u16::MAX).to_vec(),
         CompareAndWrite { lba: u64::MAX, blocks: u8::MAX, dpo: true, fua: true }.cdb().to_vec(),
         format_unit(true, true).to_vec(),
