@@ -95,13 +95,15 @@ static void show_identities(void)
 /* A seed makes the names of a disk: the bytes of page 83h from the serial number on. */
 static void show_names_of_seeds(void)
 {
-    static const struct { uint64_t seed; char serial[9]; uint8_t naa[8]; } names[] = {
-        { 0, "00000000", { 0x30 } },
-        { 1, "00000001", { 0x30, 0, 0, 0, 0, 0, 0, 1 } },
-        { 0x80000000, "80000000", { 0x30, 0, 0, 0, 0x80 } },
-        { UINT64_C(0x1DEADBEEF), "deadbeef", { 0x30, 0, 0, 1, 0xDE, 0xAD, 0xBE, 0xEF } },
-        { (UINT64_C(1) << 60) - 1, "ffffffff", { 0x3F, 255, 255, 255, 255, 255, 255, 255 } },
+    static const struct { uint64_t seed; char serial[9]; uint8_t number[8]; } names[] = {
+        { 0, "00000000", { 0 } },
+        { 1, "00000001", { 0, 0, 0, 0, 0, 0, 0, 1 } },
+        { 0x80000000, "80000000", { 0, 0, 0, 0, 0x80 } },
+        { UINT64_C(0x1DEADBEEF), "deadbeef", { 0, 0, 0, 1, 0xDE, 0xAD, 0xBE, 0xEF } },
+        { (UINT64_C(1) << 60) - 1, "ffffffff", { 0x0F, 255, 255, 255, 255, 255, 255, 255 } },
     };
+    /* NAA 6h and a company_id that is administered locally. The number of the seed follows. */
+    static const uint8_t company[12] = { 0x01, 0x03, 0, 16, 0x60, 0x20 };
     static const mdl_identity standard = MDL_STANDARD_IDENTITY;
     static const uint8_t page_83[6] = { 0x12, 1, 0x83, 0, 255 };
     mdl_identity own = standard;
@@ -119,7 +121,7 @@ static void show_names_of_seeds(void)
         WANT(status_of(0, page_83, 6, NULL, 0) == MDL_GOOD);
         WANT(!memcmp(data_in + 8, "SGMODEL THIN DISK       ", 24));
         WANT(!memcmp(data_in + 32, names[at].serial, 8));
-        WANT(!memcmp(data_in + 44, names[at].naa, 8));
+        WANT(!memcmp(data_in + 40, company, 12) && !memcmp(data_in + 52, names[at].number, 8));
         mdl_free(&disk);
     }
 }
