@@ -331,8 +331,9 @@ void mdl_free(mdl_disk *disk);
  *           MODE SENSE                 80
  *           PERSISTENT RESERVE IN     296
  *           GET LBA STATUS          8,200
- *           REPORT LUNS, LOG SENSE, READ DEFECT DATA, REPORT SUPPORTED OPERATION CODES and REPORT
- *           SUPPORTED TASK MANAGEMENT FUNCTIONS of an extended disk: 1,284
+ *           LOG SENSE               1,284
+ *           READ DEFECT DATA        1,284
+ *           each REPORT command     1,284
  *     - Other commands: 0. */
 mdl_error mdl_execute(mdl_disk *disk, uint32_t initiator, const uint8_t *cdb, size_t cdb_length,
                       const uint8_t *data_out, size_t data_out_length, uint8_t *data_in,
