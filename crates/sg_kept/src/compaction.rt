@@ -460,6 +460,7 @@ impl<S: Store, D: Device> KeptDisk<S, D> {
     fn has_to_write(&self, is_needed: bool) -> bool
         ensures needed { is_needed ≡ true → result ≡ true }
         ensures long { self.now.compacts ≡ false → is_long self.now ≡ true → result ≡ true }
+        ensures only { result ≡ true → is_needed ≡ false → is_long self.now ≡ true }
     {
         is_needed || !self.compacts && self.is_long()
     }
