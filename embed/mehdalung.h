@@ -119,8 +119,9 @@ typedef struct mdl_disk {
 /* An initializer; all bytes 0 is the same. */
 #define MDL_NONE { 0 }
 
-/* The names of a disk. Its texts are padded with spaces and have no zero at the end. The locally
- * assigned identifier has 60 bits. */
+/* The names of a disk. Its texts are padded with spaces and have no zero at the end. The local
+ * identifier, of at most 60 bits, is the number of the NAA designator in page 83h: NAA 3h on a disk of
+ * the base profile, and NAA 6h on another one. */
 typedef struct mdl_identity {
     uint8_t vendor[8];
     uint8_t product[16];
@@ -185,7 +186,7 @@ mdl_error mdl_make_with_profile(mdl_disk *disk, uint32_t profile, uint64_t block
                                 const mdl_identity *identity);
 
 /* Makes the identity of a seed, a number of at most 60 bits. Two seeds make two identities, whose
- * designators in page 83h differ. The seed is the locally assigned identifier. Its lowest 32 bits, as
+ * designators in page 83h differ. The seed is the local identifier. Its lowest 32 bits, as
  * 8 hexadecimal digits, are the serial number. The other texts are those of the standard identity,
  * and seed 1 makes the standard identity. If an initiator sees two disks, give each a seed of its own,
  * such as 60 random bits.
@@ -327,7 +328,7 @@ void mdl_free(mdl_disk *disk);
  *     - A command with an allocation length: that length, and no more than its longest data:
  *           REQUEST SENSE              18
  *           READ CAPACITY(16)          32
- *           INQUIRY                    74
+ *           INQUIRY                    76
  *           MODE SENSE                 80
  *           PERSISTENT RESERVE IN     296
  *           GET LBA STATUS          8,200

@@ -48,7 +48,7 @@ static const struct {
 } commands[] = {
     { { 0x00 }, 6, 0, MDL_GOOD },                                 /* TEST UNIT READY */
     { { 0x12, 0, 0, 0, 36 }, 6, 36, MDL_GOOD },                   /* INQUIRY */
-    { { 0x12, 0, 0, 1, 0 }, 6, 74, MDL_GOOD },                    /* and more than it has */
+    { { 0x12, 0, 0, 1, 0 }, 6, 76, MDL_GOOD },                    /* and more than it has */
     { { 0x12, 0, 0, 0, 5 }, 6, 5, MDL_GOOD },                     /* and less */
     { { 0x12, 1, 0xFF, 0, 36 }, 6, 0, MDL_CHECK_CONDITION },      /* a page that is not there */
     { { 0x03, 0, 0, 0, 17 }, 6, 17, MDL_GOOD },                   /* REQUEST SENSE */

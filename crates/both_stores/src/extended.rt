@@ -4,8 +4,8 @@ use crate::random::Random;
 use sg_store::BLOCK_LENGTH;
 use sg_wire::{
     ByteCheck, Command, CompareAndWrite, Extent12, Extent16, FormatUnit, FourBits, LogSense,
-    PageCode, ReadDefectData12, ReportLuns, ReportSupportedTaskManagementFunctions, SendDiagnostic,
-    StartStopUnit, ThreeBits, Verify12, Verify16,
+    PageCode, ReadDefectData12, ReportLuns, ReportSupportedTaskManagementFunctions,
+    ReportTargetPortGroups, SendDiagnostic, StartStopUnit, ThreeBits, Verify12, Verify16,
 };
 
 /// The bytes of the parameter list of FORMAT UNIT without LONGLIST (SBC-3, 5.3.2).
@@ -28,7 +28,7 @@ pub(crate) fn next_extended(
         count: u32::from(count),
     };
     let bytes = BLOCK_LENGTH * usize::from(count);
-    Some(match random.byte() % 19 {
+    Some(match random.byte() % 20 {
         0 | 1 => (Command::Read12(twelve), 0),
         2 | 3 => (Command::Write12(twelve), bytes),
         4 => (write_and_verify(random, twelve), bytes),
@@ -43,6 +43,7 @@ pub(crate) fn next_extended(
         14 | 15 => (Command::OrWrite16(sixteen), bytes),
         16 => format_unit(random),
         17 => (start_stop_unit(random)?, 0),
+        18 => (port_groups(random)?, 0),
         _ => (task_management(random), 0),
     })
 }
@@ -150,4 +151,11 @@ fn task_management(random: &mut Random) -> Command {
         timeouts: random.byte() < 128,
         allocation_length: u32::from(random.byte()),
     })
+}
+
+fn port_groups(random: &mut Random) -> Option<Command> {
+    Some(Command::ReportTargetPortGroups(ReportTargetPortGroups {
+        format: ThreeBits::new(random.byte() % 3)?,
+        allocation_length: u32::from(random.byte()),
+    }))
 }

@@ -5,7 +5,7 @@ use crate::table::Row;
 
 /// The commands, in the order of their operation codes. WRITE LONG is left out: it marks a block, and
 /// then other commands end otherwise.
-pub(crate) const EXTENDED_COMMANDS: [Row; 28] = [
+pub(crate) const EXTENDED_COMMANDS: [Row; 29] = [
     Row {
         name: "format unit",
         cdb: &[0x04, 0x10, 0x00, 0x00, 0x00, 0x00],
@@ -229,6 +229,17 @@ pub(crate) const EXTENDED_COMMANDS: [Row; 28] = [
         ],
         named: &[
             0xFF, 0x1F, 0x80, 0x00, 0x00, 0x00, 0xFF, 0xFF, 0xFF, 0xFF, 0x00, 0x00,
+        ],
+        data_out: 0,
+        ending: Good,
+    },
+    Row {
+        name: "report target port groups",
+        cdb: &[
+            0xA3, 0x2A, 0x00, 0x00, 0x00, 0x00, 0x00, 0x00, 0x00, 0x14, 0x00, 0x00,
+        ],
+        named: &[
+            0xFF, 0xFF, 0x00, 0x00, 0x00, 0x00, 0xFF, 0xFF, 0xFF, 0xFF, 0x00, 0x00,
         ],
         data_out: 0,
         ending: Good,

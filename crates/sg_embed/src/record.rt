@@ -58,8 +58,8 @@ impl ReplyRecord {
     }
 }
 
-/// The record that C declares as `mdl_identity`: texts padded with spaces, and the 60 bits of a
-/// locally assigned identifier.
+/// The record that C declares as `mdl_identity`: texts padded with spaces, and the 60 bits of the
+/// local identifier.
 #[repr(C)]
 #[derive(Drop)]
 pub struct IdentityRecord {
@@ -71,7 +71,7 @@ pub struct IdentityRecord {
     pub revision: [u8; 4],
     /// The unit serial number.
     pub serial: [u8; 8],
-    /// The locally assigned identifier.
+    /// The local identifier: the number of the NAA designator.
     pub local: u64,
 }
 

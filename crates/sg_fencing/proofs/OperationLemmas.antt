@@ -28,7 +28,7 @@ use Rattle.sg_target.specs.PrimaryCommands.{inquiry_page}
 use Rattle.sg_target.specs.ProvisioningCommands.{block_out, same_block, unmaps}
 use Rattle.sg_target.specs.Demands.{extents_out}
 use Rattle.sg_wire.specs.SupportedOperations.{requested_report}
-use Rattle.sg_pages.specs.Reports.{lists_unit, log_page_with}
+use Rattle.sg_pages.specs.Reports.{extended_header_asked, lists_unit, log_page_with}
 use Rattle.sg_pages.specs.declared.reports.LogPage.{LogPage}
 use Rattle.sg_pages.specs.declared.reports.LogPage.TheVariants.{InformationalExceptions}
 use Rattle.sg_pages.specs.declared.reports.LogPage.TheVariants.{LogicalBlockProvisioning}
@@ -262,6 +262,16 @@ suits config (command.ReportSupportedOperationCodes c) data_out =
       shown = refl;
       number = λ n. cc;
     })
+suits config (command.ReportTargetPortGroups c) data_out =
+    sound-suits (command.ReportTargetPortGroups c)
+    (ok_or (extended_header_asked c.format) (CheckCondition (InvalidFieldInCdb 1)))
+    (λ header. ReturnReport (report.TargetPortGroups header) c.allocation_length)
+    (λ header. record {
+      class = λ class h. cc;
+      of_kind = λ kind k. refl;
+      shown = refl;
+      number = λ n. cc;
+    })
 suits config (command.ReportLuns c) data_out =
     sound-suits (command.ReportLuns c)
     (ok_or (lists_unit c.select) (CheckCondition (InvalidFieldInCdb 2)))
@@ -400,6 +410,10 @@ reads-if config (command.ReportSupportedOperationCodes c) data_out =
     sound-reads (command.ReportSupportedOperationCodes c)
     (ok_or (requested_report config.identity.profile c) (CheckCondition (InvalidFieldInCdb 2)))
     (λ requested. ReturnReport (report.Commands requested) c.allocation_length) (λ requested. refl)
+reads-if config (command.ReportTargetPortGroups c) data_out =
+    sound-reads (command.ReportTargetPortGroups c)
+    (ok_or (extended_header_asked c.format) (CheckCondition (InvalidFieldInCdb 1)))
+    (λ header. ReturnReport (report.TargetPortGroups header) c.allocation_length) (λ header. refl)
 reads-if config (command.ReportLuns c) data_out =
     sound-reads (command.ReportLuns c)
     (ok_or (lists_unit c.select) (CheckCondition (InvalidFieldInCdb 2)))

@@ -18,7 +18,7 @@ use Rattle.sg_wire.specs.declared.extent.Extent.{Extent}
 use Rattle.sg_wire.specs.declared.profile.Profile.TheVariants.{Base}
 use Rattle.sg_store.specs.Disk.{Contents}
 use Rattle.sg_pages.specs.BlockDescriptor.{logical_block_length}
-use Rattle.sg_pages.specs.Reports.{lists_unit, log_page_with}
+use Rattle.sg_pages.specs.Reports.{extended_header_asked, lists_unit, log_page_with}
 use Rattle.sg_pages.specs.declared.reports.Report.TheVariants as report
 use Rattle.sg_target.specs.Charge.{step_by}
 use Rattle.sg_target.specs.Checks.{not_ready}
@@ -141,6 +141,11 @@ stops-if config (command.ReportSupportedOperationCodes c) data_out =
     (ok_or (requested_report config.identity.profile c) (CheckCondition (InvalidFieldInCdb 2)))
     (λ requested. ReturnReport (report.Commands requested) c.allocation_length)
     (λ requested. record { stops = refl })
+stops-if config (command.ReportTargetPortGroups c) data_out =
+    sound-stops (command.ReportTargetPortGroups c)
+    (ok_or (extended_header_asked c.format) (CheckCondition (InvalidFieldInCdb 1)))
+    (λ header. ReturnReport (report.TargetPortGroups header) c.allocation_length)
+    (λ header. record { stops = refl })
 stops-if config (command.ReportLuns c) data_out =
     sound-stops (command.ReportLuns c)
     (ok_or (lists_unit c.select) (CheckCondition (InvalidFieldInCdb 2)))

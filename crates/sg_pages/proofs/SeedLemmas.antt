@@ -1,6 +1,6 @@
 -- The names that seeds make.
 use Rattle.std.proofs.Common.{◌≡◌, ◌<◌, ℕ, zero, suc, ◌+◌, ◌*◌, ◌^◌, ◌/◌, ◌%◌, arith, refl, sym, ap, ◌∙◌}
-use Rattle.std.proofs.Common.{List, [], ◌∷◌, slice_index, true, Ok}
+use Rattle.std.proofs.Common.{List, drop, [], ◌∷◌, slice_index, true, Ok}
 use Rattle.std.proofs.Math.Nat.{mod-lt}
 use Rattle.std.proofs.lemmas.Bool.{and_from, lt-ltb}
 use Rattle.std.proofs.lemmas.List.{append-nil}
@@ -13,7 +13,10 @@ use Rattle.hex.specs.Hex.{IsBytes, encode_lower, encode_with, lower_digits}
 use Rattle.hex.proofs.HexLemmas.{decode_of-encode_lower, decode_of-same}
 use Rattle.sg_wire.specs.Ascii.{is_printable}
 use Rattle.sg_pages.specs.NewIdentity.{are_texts, identity_of_seed, seeded_identity, serial_of_seed}
-use Rattle.sg_pages.specs.VitalProductData.{locally_assigned}
+use Rattle.sg_pages.specs.VitalProductData.{locally_assigned, naa_designator}
+use Rattle.sg_pages.specs.VitalProductData.{registered_extended}
+use Rattle.sg_wire.specs.declared.profile.Profile.{Profile}
+use Rattle.sg_wire.specs.declared.profile.Profile.TheVariants.{Base, Extended}
 
 are-bytes : (n x : ℕ) → IsBytes (big_bytes n x)
 are-bytes zero x i = omega arith
@@ -61,12 +64,14 @@ bytes-of-one : (n x y : ℕ) → x < 256 ^ n → y < 256 ^ n → big_bytes n x �
 bytes-of-one n x y small also same =
     sym (number-of-bytes n x small) ∙ (ap (big_number n) same ∙ number-of-bytes n y also)
 
-pub designator-of-one : (x y : ℕ) → x < 2 ^ 60 → y < 2 ^ 60
-    → locally_assigned x ≡ locally_assigned y → x ≡ y
-unfolding locally_assigned
-designator-of-one x y small also same =
+pub designator-of-one : (profile : Profile) (x y : ℕ) → x < 2 ^ 60 → y < 2 ^ 60
+    → naa_designator profile x ≡ naa_designator profile y → x ≡ y
+unfolding locally_assigned registered_extended
+designator-of-one Base x y small also same =
     let equal = bytes-of-one 8 (3 * 2 ^ 60 + x) (3 * 2 ^ 60 + y) (omega arith) (omega arith) same in
     omega (arith, equal)
+designator-of-one Extended x y small also same =
+    bytes-of-one 8 x y (omega arith) (omega arith) (ap (drop 8) same)
 
 pub serial-of-one : (x y : ℕ) → x < 2 ^ 32 → y < 2 ^ 32
     → serial_of_seed x ≡ serial_of_seed y → x ≡ y

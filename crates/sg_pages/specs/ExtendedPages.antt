@@ -3,6 +3,7 @@
 -- parameters).
 use Rattle.std.specs.Prelude.{ℕ, List, [], ◌∷◌}
 use Rattle.sg_wire.specs.Fields.{Field, field, fields_bytes}
+use Rattle.sg_pages.specs.TargetPort.{relative_port}
 
 -- ---- Extended INQUIRY Data (SPC-4, 7.8.7), from byte 4 of the page on
 
@@ -69,12 +70,12 @@ mode_page_policy = fields_bytes (policy_page ∷ policy_subpage ∷ shared ∷ r
 
 -- ---- SCSI Ports (SPC-4, 7.8), from byte 4 of the page on
 
--- RELATIVE PORT IDENTIFIER 1, bytes 6 and 7, after two reserved bytes: the one port.
+-- RELATIVE PORT IDENTIFIER, bytes 6 and 7, after two reserved bytes: the one port.
 abbrev reserved_bytes : Field
 reserved_bytes = field 2 0
 
-abbrev relative_port : Field
-relative_port = field 2 1
+abbrev port_identifier : Field
+port_identifier = field 2 relative_port
 
 -- INITIATOR PORT TRANSPORTID LENGTH 0, bytes 10 and 11, after two reserved bytes: the port is a
 -- target port only.
@@ -91,7 +92,7 @@ unfoldable pub scsi_ports : List ℕ
 scsi_ports =
     fields_bytes (
     reserved_bytes
-    ∷ relative_port
+    ∷ port_identifier
     ∷ reserved_bytes
     ∷ initiator_port_length
     ∷ reserved_bytes

@@ -1,6 +1,7 @@
 -- What a disk reports about itself: its logical units, its commands, its task management functions, its
--- log pages and its defects. Only one log page depends on its blocks: it has the resources of the pool.
-use Rattle.std.specs.Prelude.{ℕ, ◌+◌, ◌==◌, ◌&&◌, List, [], ◌∷◌, length, map, filter, find}
+-- target port group, its log pages and its defects. Only one log page depends on its blocks: it has the
+-- resources of the pool.
+use Rattle.std.specs.Prelude.{ℕ, ◌+◌, ◌==◌, ◌&&◌, List, [], ◌∷◌, ◌++◌, length, map, filter, find}
 use Rattle.std.specs.Prelude.{Bool, true, false, if◌then◌else◌, Option, Some, None, Result, ok_or}
 use Rattle.std.specs.List.{flat_map, list_any}
 use Rattle.sg_wire.specs.Fields.{Field, field, fields_bytes}
@@ -12,8 +13,10 @@ use Rattle.sg_pages.specs.declared.reports.LogPage.TheVariants.{LogicalBlockProv
 use Rattle.sg_pages.specs.declared.reports.LogPage.TheVariants.{InformationalExceptions}
 use Rattle.sg_pages.specs.declared.provisioning_pages.MappingResources.{MappingResources}
 use Rattle.sg_pages.specs.ProvisioningPages.{resource_parameters}
+use Rattle.sg_pages.specs.TargetPort.{port_group, relative_port}
 use Rattle.sg_pages.specs.declared.reports.Report.{Report}
 use Rattle.sg_pages.specs.declared.reports.Report.TheVariants.{LogicalUnits, TaskManagementFunctions}
+use Rattle.sg_pages.specs.declared.reports.Report.TheVariants.{TargetPortGroups}
 use Rattle.sg_pages.specs.declared.reports.Report.TheVariants.{Commands, Log}
 use Rattle.sg_pages.specs.declared.reports.Report.TheVariants.{DefectLists10, DefectLists12}
 
@@ -53,6 +56,53 @@ abbrev task_management : (timeouts : Bool) → List Field
 task_management timeouts =
     functions ∷ queries ∷ field 1 0
     ∷ (if timeouts then field 1 0x0C ∷ field 12 0 ∷ [] else field 1 0 ∷ [])
+
+-- ---- REPORT TARGET PORT GROUPS (SPC-4, 6.37)
+
+-- Whether the extended header is asked for, by PARAMETER DATA FORMAT. The values from 2 on are reserved.
+abbrev pub extended_header_asked : (format : ℕ) → Option Bool
+extended_header_asked format =
+    if format == 0 then Some false else (if format == 1 then Some true else None)
+
+-- FORMAT TYPE 1h in bits 6 to 4 of its byte, of the extended header.
+abbrev format_type : Field
+format_type = field 1 0x10
+
+-- IMPLICIT TRANSITION TIME 0: no time is told.
+abbrev transition_time : Field
+transition_time = field 1 0
+
+-- What a header has after RETURN DATA LENGTH. The extended one ends with two reserved bytes.
+abbrev after_length : (extended_header : Bool) → List Field
+after_length extended_header =
+    if extended_header then format_type ∷ transition_time ∷ field 2 0 ∷ [] else []
+
+-- PREF 0 and ASYMMETRIC ACCESS STATE 0h, byte 0 of the descriptor: active/optimized.
+abbrev access_state : Field
+access_state = field 1 0x00
+
+-- AO_SUP, byte 1: no other state is supported.
+abbrev supported_states : Field
+supported_states = field 1 0x01
+
+-- STATUS CODE 0, byte 5, after a reserved byte: no status is told. Byte 6 is vendor specific.
+abbrev status : List Field
+status = field 1 0 ∷ field 1 0 ∷ field 1 0 ∷ []
+
+-- TARGET PORT COUNT, byte 7, and the one port: two obsolete bytes, and RELATIVE TARGET PORT IDENTIFIER.
+abbrev target_ports : List Field
+target_ports = field 1 1 ∷ field 2 0 ∷ field 2 relative_port ∷ []
+
+-- The target port group descriptor. TARGET PORT GROUP is in bytes 2 and 3.
+abbrev group_descriptor : List Field
+group_descriptor =
+    access_state ∷ supported_states ∷ field 2 port_group ∷ status ++ target_ports
+
+-- RETURN DATA LENGTH, and what it counts.
+abbrev target_port_groups : (extended_header : Bool) → List Field
+target_port_groups extended_header =
+    let following = after_length extended_header ++ group_descriptor in
+    field 4 (length (fields_bytes following)) ∷ following
 
 -- ---- LOG SENSE (SPC-4, 6.8 and 7.3)
 
@@ -136,6 +186,8 @@ unfoldable pub report_data : Profile → MappingResources → Report → List �
 report_data profile pool (LogicalUnits listed) = fields_bytes (lun_list (listed_luns listed))
 report_data profile pool (Commands report) = support_data profile report
 report_data profile pool (TaskManagementFunctions timeouts) = fields_bytes (task_management timeouts)
+report_data profile pool (TargetPortGroups extended_header) =
+    fields_bytes (target_port_groups extended_header)
 report_data profile pool (Log page) = log_page_data profile pool page
 report_data profile pool (DefectLists10 lists) = fields_bytes (defect_lists_10 lists)
 report_data profile pool (DefectLists12 lists) = fields_bytes (defect_lists_12 lists)

@@ -2,7 +2,8 @@
 use Rattle.std.specs.Prelude.{◌≡◌, ℕ, ◌<◌, ◌^◌, Ok}
 use Rattle.sg_pages.specs.NewIdentity.{identity_of_seed, seeded_identity, serial_of_seed}
 use Rattle.sg_pages.specs.NewIdentity.{standard_identity}
-use Rattle.sg_pages.specs.VitalProductData.{locally_assigned}
+use Rattle.sg_pages.specs.VitalProductData.{naa_designator}
+use Rattle.sg_wire.specs.declared.profile.Profile.{Profile}
 
 -- Each seed of at most 60 bits makes an identity.
 abbrev pub SeedsMakeIdentities : Type 0
@@ -16,8 +17,8 @@ SeedOneIsStandard = identity_of_seed 1 ≡ Ok standard_identity
 -- The NAA designator, in page 83h, belongs to one seed.
 abbrev pub SeedsHaveDesignators : Type 0
 SeedsHaveDesignators =
-    (first second : ℕ) → first < 2 ^ 60 → second < 2 ^ 60
-    → locally_assigned first ≡ locally_assigned second → first ≡ second
+    (profile : Profile) (first second : ℕ) → first < 2 ^ 60 → second < 2 ^ 60
+    → naa_designator profile first ≡ naa_designator profile second → first ≡ second
 
 -- The serial number, in pages 80h and 83h, belongs to one seed of at most 32 bits.
 abbrev pub SeedsHaveSerials : Type 0

@@ -1,8 +1,8 @@
 // What a disk reports about itself. Each report is put whole: the `Cut` knows the allocation length.
 ghost use Rattle.std.specs.Prelude.{◌≡◌, ◌≤◌, length};
 ghost use Rattle.sg_wire.specs.Cut.{Puts};
-ghost use Rattle.sg_pages.specs.Reports.{lists_unit, log_page_data, log_page_with, longest_report};
-ghost use Rattle.sg_pages.specs.Reports.{report_data};
+ghost use Rattle.sg_pages.specs.Reports.{extended_header_asked, lists_unit, log_page_data};
+ghost use Rattle.sg_pages.specs.Reports.{log_page_with, longest_report, report_data};
 
 use super::provisioning_pages::{MappingResources, provisioning_page};
 use sg_wire::{Cut, LONGEST_SUPPORT_REPORT, Profile, SupportReport};
@@ -72,6 +72,8 @@ pub enum Report {
     /// The functions of REPORT SUPPORTED TASK MANAGEMENT FUNCTIONS, and whether timeouts are asked for
     /// (SPC-4, 6.36).
     TaskManagementFunctions(bool),
+    /// The groups of REPORT TARGET PORT GROUPS, and whether the extended header is asked for (SPC-4, 6.37).
+    TargetPortGroups(bool),
     /// A page of LOG SENSE (SPC-4, 6.8).
     Log(LogPage),
     /// The lists of READ DEFECT DATA(10), by their byte of the CDB (SBC-3, 5.17).
@@ -92,6 +94,18 @@ impl Report {
         }
     }
 
+    /// The header that PARAMETER DATA FORMAT asks for: the extended one, or the one with only the length
+    /// (SPC-4, 6.37). None if it has another value.
+    pub fn extended_header(format: u8) -> Option<bool>
+        ensures { result ≡ extended_header_asked format }
+    {
+        match format {
+            0 => Some(false),
+            1 => Some(true),
+            _ => None,
+        }
+    }
+
     /// Writes the report of a disk of a profile with a pool.
     #[tactic(auto, unfolding(crate::specs::Reports::report_data))]
     pub fn write(self, profile: Profile, pool: MappingResources, cut: &mut Cut)
@@ -108,6 +122,12 @@ impl Report {
                 cut.put(&[0xD8, 0, 0, 0x0C, 0, 0, 0, 0, 0, 0, 0, 0, 0, 0, 0, 0]);
             }
             Report::TaskManagementFunctions(false) => cut.put(&[0xD8, 0, 0, 0]),
+            Report::TargetPortGroups(true) => cut.put(&[
+                0, 0, 0, 0x10, 0x10, 0, 0, 0, 0, 0x01, 0, 1, 0, 0, 0, 1, 0, 0, 0, 1,
+            ]),
+            Report::TargetPortGroups(false) => {
+                cut.put(&[0, 0, 0, 0x0C, 0, 0x01, 0, 1, 0, 0, 0, 1, 0, 0, 0, 1]);
+            }
             Report::Log(page) => page.write(profile, pool, cut),
             Report::DefectLists10(lists) => cut.put(&[0, lists, 0, 0]),
             Report::DefectLists12(lists) => cut.put(&[0, lists, 0, 0, 0, 0, 0, 0]),

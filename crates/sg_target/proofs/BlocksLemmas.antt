@@ -26,7 +26,7 @@ use Rattle.sg_target.proofs.MovedLemmas.{long_enough, moved-whole}
 use Rattle.sg_target.proofs.OrWriteLemmas.{length-block, length-or}
 use Rattle.sg_pages.specs.BlockDescriptor.{logical_block_length}
 use Rattle.sg_wire.specs.SupportedOperations.{requested_report}
-use Rattle.sg_pages.specs.Reports.{lists_unit, log_page_with}
+use Rattle.sg_pages.specs.Reports.{extended_header_asked, lists_unit, log_page_with}
 use Rattle.sg_pages.specs.declared.reports.Report.TheVariants as report
 use Rattle.sg_target.specs.Checks.{cdb_checks, checked_cdb, checked_operation}
 use Rattle.sg_target.specs.Checks.{checked_parse, not_ready, out_of_range}
@@ -236,6 +236,11 @@ command-sound config (command.ReportSupportedOperationCodes c) data_out =
     (ok_or (requested_report config.identity.profile c) (CheckCondition (InvalidFieldInCdb 2)))
     (λ requested. operation.ReturnReport (report.Commands requested) c.allocation_length)
     (λ requested. tt))
+command-sound config (command.ReportTargetPortGroups c) data_out =
+    requested-sound (demands config (command.ReportTargetPortGroups c) data_out) data_out
+    (when (ok_or (extended_header_asked c.format) (CheckCondition (InvalidFieldInCdb 1)))
+    (λ header. operation.ReturnReport (report.TargetPortGroups header) c.allocation_length)
+    (λ header. tt))
 command-sound config (command.ReportLuns c) data_out =
     requested-sound (demands config (command.ReportLuns c) data_out) data_out
     (when (ok_or (lists_unit c.select) (CheckCondition (InvalidFieldInCdb 2)))

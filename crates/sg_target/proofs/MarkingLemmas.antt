@@ -11,7 +11,7 @@ use Rattle.sg_wire.specs.declared.command.verify.ByteCheck.TheVariants as check
 use Rattle.sg_wire.specs.declared.extent.Extent.{Extent}
 use Rattle.sg_pages.specs.BlockDescriptor.{logical_block_length}
 use Rattle.sg_wire.specs.SupportedOperations.{requested_report}
-use Rattle.sg_pages.specs.Reports.{lists_unit, log_page_with}
+use Rattle.sg_pages.specs.Reports.{extended_header_asked, lists_unit, log_page_with}
 use Rattle.sg_pages.specs.declared.reports.Report.TheVariants as report
 use Rattle.sg_faults.specs.Faults.{have_room_after}
 use Rattle.sg_faults.specs.Meeting.{Seen}
@@ -106,6 +106,9 @@ unmarked config (command.ReportSupportedOperationCodes c) data_out other =
     sound-unmarked
     (ok_or (requested_report config.identity.profile c) (CheckCondition (InvalidFieldInCdb 2)))
     (λ requested. ReturnReport (report.Commands requested) c.allocation_length) (λ requested. refl)
+unmarked config (command.ReportTargetPortGroups c) data_out other =
+    sound-unmarked (ok_or (extended_header_asked c.format) (CheckCondition (InvalidFieldInCdb 1)))
+    (λ header. ReturnReport (report.TargetPortGroups header) c.allocation_length) (λ header. refl)
 unmarked config (command.ReportLuns c) data_out other =
     sound-unmarked (ok_or (lists_unit c.select) (CheckCondition (InvalidFieldInCdb 2)))
     (λ listed. ReturnLuns listed c.allocation_length) (λ listed. refl)

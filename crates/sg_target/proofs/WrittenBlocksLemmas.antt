@@ -13,7 +13,7 @@ use Rattle.sg_store.specs.Disk.{block, block_at, data_in, lies_in, replaced}
 use Rattle.sg_store.specs.Laws.{RemappingTakesWhatIsNeeded}
 use Rattle.sg_store.specs.LbaStatus.{status_in}
 use Rattle.sg_pages.specs.BlockDescriptor.{logical_block_length}
-use Rattle.sg_pages.specs.Reports.{lists_unit, log_page_with}
+use Rattle.sg_pages.specs.Reports.{extended_header_asked, lists_unit, log_page_with}
 use Rattle.sg_pages.specs.declared.reports.Report.TheVariants as report
 use Rattle.sg_target.specs.BlockCommands.{ored_block}
 use Rattle.sg_target.specs.CommandLaws.{CommandsWriteOnlyTheirBlocks, IsUntouched, blocks_written}
@@ -116,6 +116,10 @@ writes-these config (command.ReportSupportedOperationCodes c) data_out =
     (ok_or (requested_report config.identity.profile c) (CheckCondition (InvalidFieldInCdb 2)))
     (λ requested. operation.ReturnReport (report.Commands requested) c.allocation_length)
     (λ requested. (refl, refl))
+writes-these config (command.ReportTargetPortGroups c) data_out =
+    sound-none (ok_or (extended_header_asked c.format) (CheckCondition (InvalidFieldInCdb 1)))
+    (λ header. operation.ReturnReport (report.TargetPortGroups header) c.allocation_length)
+    (λ header. (refl, refl))
 writes-these config (command.ReportLuns c) data_out =
     sound-none (ok_or (lists_unit c.select) (CheckCondition (InvalidFieldInCdb 2)))
     (λ listed. operation.ReturnLuns listed c.allocation_length) (λ listed. (refl, refl))

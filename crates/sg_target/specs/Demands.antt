@@ -22,6 +22,7 @@ use Rattle.sg_wire.specs.declared.command.provisioning.Unmap.{Unmap}
 use Rattle.sg_wire.specs.SupportedOperations.{requested_report}
 use Rattle.sg_wire.specs.declared.command.report.ReportLuns.{ReportLuns}
 use Rattle.sg_wire.specs.declared.command.report.ReportSupportedOperationCodes.{ReportSupportedOperationCodes}
+use Rattle.sg_wire.specs.declared.command.report.ReportTargetPortGroups.{ReportTargetPortGroups}
 use Rattle.sg_wire.specs.declared.profile.Profile.{Profile}
 use Rattle.sg_wire.specs.declared.command.reservation.PersistentReserveOut.{PersistentReserveOut}
 use Rattle.sg_wire.specs.declared.command.verify.CompareAndWrite.{CompareAndWrite}
@@ -32,7 +33,7 @@ use Rattle.sg_wire.specs.FirstBytes.{first_bytes}
 use Rattle.sg_wire.specs.declared.extent.Extent.{Extent}
 use Rattle.sg_target.specs.BlockCommands.{BlocksOutFields, blocks_out, bytes_of, exchange_out}
 use Rattle.sg_pages.specs.BlockDescriptor.{logical_block_length}
-use Rattle.sg_pages.specs.Reports.{lists_unit, log_page_with}
+use Rattle.sg_pages.specs.Reports.{extended_header_asked, lists_unit, log_page_with}
 use Rattle.sg_pages.specs.declared.reports.Report.{Report}
 use Rattle.sg_pages.specs.declared.reports.Report.TheVariants as report
 use Rattle.sg_target.specs.Config.{ConfigFields, limits_for}
@@ -105,6 +106,13 @@ report_operation_codes profile c =
 -- (SPC-4, 6.36).
 abbrev pub short_allocation : (allocation_length : ℕ) → Option ℕ
 short_allocation n = if nat_lt n 4 then Some 6 else None
+
+-- REPORT TARGET PORT GROUPS has a PARAMETER DATA FORMAT, in byte 1, that is not reserved (SPC-4, 6.37).
+abbrev pub report_port_groups : ReportTargetPortGroups → Demands
+report_port_groups c =
+    takes_no_data None
+    (when_sound (ok_or (extended_header_asked c.format) (CheckCondition (InvalidFieldInCdb 1)))
+    (λ header. operation.ReturnReport (report.TargetPortGroups header) c.allocation_length))
 
 -- LOG SENSE asks for a page that the disk has.
 abbrev pub log_sense : LogSense → Demands
@@ -387,6 +395,7 @@ demands config (command.ReportSupportedOperationCodes c) data_out =
 demands config (command.ReportSupportedTaskManagementFunctions c) data_out =
     reports (short_allocation c.allocation_length) (report.TaskManagementFunctions c.timeouts)
     c.allocation_length
+demands config (command.ReportTargetPortGroups c) data_out = report_port_groups c
 demands config (command.SendDiagnostic c) data_out =
     takes_no_data (bad_self_test c) (Ok operation.Nothing)
 demands config (command.CompareAndWrite c) data_out = compare_and_write c data_out

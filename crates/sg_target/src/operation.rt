@@ -34,7 +34,7 @@ use crate::refusal::Refusal;
 use crate::reply::Reply;
 use crate::report::{
     check_log_sense, check_operation_codes, check_read_defect_data_10, check_read_defect_data_12,
-    check_report_luns, check_send_diagnostic, check_task_management,
+    check_report_luns, check_send_diagnostic, check_target_port_groups, check_task_management,
 };
 use crate::reservation::{check_reserve_in, check_reserve_out};
 use crate::start_stop::check_start_stop_unit;
@@ -287,6 +287,7 @@ pub(crate) fn operation_of<'a>(
         Command::ReportLuns(fields) => check_report_luns(fields),
         Command::ReportSupportedOperationCodes(fields) => check_operation_codes(config, &fields),
         Command::ReportSupportedTaskManagementFunctions(fields) => check_task_management(fields),
+        Command::ReportTargetPortGroups(fields) => check_target_port_groups(fields),
         Command::SendDiagnostic(fields) => check_send_diagnostic(fields),
         Command::PersistentReserveIn(fields) => Ok(check_reserve_in(fields)),
         Command::PersistentReserveOut(fields) => check_reserve_out(config, fields, data_out),

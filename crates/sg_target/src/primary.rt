@@ -16,9 +16,7 @@ use crate::operation::Operation;
 use crate::refusal::{Reason, Refusal};
 use crate::reply::{Reply, format_of};
 use crate::target::Target;
-use sg_pages::{
-    Identity, LONGEST_STANDARD_INQUIRY, VpdPage, write_standard_inquiry, write_vpd_page,
-};
+use sg_pages::{Identity, LONGEST_VPD_PAGE, VpdPage, write_standard_inquiry, write_vpd_page};
 use sg_store::Store;
 use sg_wire::{Cut, Format, Initiator, Inquiry, Profile, RequestSense};
 
@@ -66,9 +64,9 @@ impl<S: Store> Target<S> {
 
 // ---- INQUIRY
 
-/// The length of the longest data of INQUIRY, in bytes: the standard INQUIRY data of a disk of the
-/// extended profile. Each page is shorter.
-pub(crate) const LONGEST_INQUIRY_DATA: usize = LONGEST_STANDARD_INQUIRY;
+/// The length of the longest data of INQUIRY, in bytes: a page of a disk of the extended profile. The
+/// standard INQUIRY data is shorter.
+pub(crate) const LONGEST_INQUIRY_DATA: usize = LONGEST_VPD_PAGE;
 
 /// Where PAGE CODE is in the CDB.
 const PAGE_CODE_BYTE: u16 = 2;

@@ -1,12 +1,13 @@
 // What the disk reports about itself: REPORT LUNS, REPORT SUPPORTED OPERATION CODES, REPORT SUPPORTED TASK
-// MANAGEMENT FUNCTIONS, LOG SENSE and READ DEFECT DATA (SPC-4, 6; SBC-3, 5). SEND DIAGNOSTIC has nothing to
-// do but its checks.
+// MANAGEMENT FUNCTIONS, REPORT TARGET PORT GROUPS, LOG SENSE and READ DEFECT DATA (SPC-4, 6; SBC-3, 5).
+// SEND DIAGNOSTIC has nothing to do but its checks.
 ghost use Rattle.std.specs.Prelude.{◌≡◌, ◌≤◌, Err, Ok, [], length, min};
 ghost use Rattle.sg_pages.specs.Reports.{longest_report};
 ghost use Rattle.sg_wire.specs.FirstBytes.{first_bytes};
 ghost use Rattle.sg_target.specs.Checks.{requested};
 ghost use Rattle.sg_target.specs.Demands.{bad_defect_format, bad_self_test, defect_lists, log_sense};
-ghost use Rattle.sg_target.specs.Demands.{report_luns, report_operation_codes, reports};
+ghost use Rattle.sg_target.specs.Demands.{report_luns, report_operation_codes, report_port_groups};
+ghost use Rattle.sg_target.specs.Demands.{reports};
 ghost use Rattle.sg_target.specs.Demands.{short_allocation, takes_no_data};
 ghost use Rattle.sg_target.specs.MadeReplies.{ReturnsData};
 ghost use Rattle.sg_target.specs.PrimaryCommands.{returning_luns};
@@ -21,8 +22,8 @@ use sg_store::Store;
 use sg_units::UnitAttention;
 use sg_wire::{
     Initiator, LogSense, ReadDefectData10, ReadDefectData12, ReportLuns,
-    ReportSupportedOperationCodes, ReportSupportedTaskManagementFunctions, SendDiagnostic,
-    SupportReport, ThreeBits,
+    ReportSupportedOperationCodes, ReportSupportedTaskManagementFunctions, ReportTargetPortGroups,
+    SendDiagnostic, SupportReport, ThreeBits,
 };
 
 /// Refuses a field of the CDB.
@@ -104,6 +105,23 @@ pub(crate) fn check_task_management(
         report: Report::TaskManagementFunctions(fields.timeouts),
         allocation_length: fields.allocation_length,
     })
+}
+
+// ---- REPORT TARGET PORT GROUPS
+
+/// REPORT TARGET PORT GROUPS. PARAMETER DATA FORMAT is in byte 1.
+pub(crate) fn check_target_port_groups(
+    fields: ReportTargetPortGroups,
+) -> Result<Operation<'static>, Refusal>
+    ensures { result ≡ requested (report_port_groups fields) [] }
+{
+    match Report::extended_header(fields.format.number()) {
+        Some(header) => Ok(Operation::ReturnReport {
+            report: Report::TargetPortGroups(header),
+            allocation_length: fields.allocation_length,
+        }),
+        None => invalid_field(1),
+    }
 }
 
 // ---- LOG SENSE and SEND DIAGNOSTIC

@@ -3,7 +3,7 @@
 -- CDB.
 use Rattle.std.proofs.Common.{◌≡◌, ◌<◌, ◌≤◌, ℕ, zero, suc, ◌+◌, ◌-◌, ◌*◌, ◌/◌, ◌^◌, ◌%◌, ◌==◌, List}
 use Rattle.std.proofs.Common.{[], ◌∷◌, ◌++◌, map, Bool, true, false, Ok, None, ⊎_elim, eq-eqb, refl}
-use Rattle.std.proofs.Common.{sym, ap, ◌∙◌, min, max, arith}
+use Rattle.std.proofs.Common.{sym, ap, ◌∙◌, min, max, drop, arith}
 use Rattle.std.specs.Int.{bit_at}
 use Rattle.std.specs.Int.Bits.{and_self, and_zero_l, and_zero_r}
 use Rattle.std.specs.List.{list_all, flat_map, range_with_len}
@@ -12,7 +12,7 @@ use Rattle.std.proofs.lemmas.Bool.{and_parts, cases_lt, cond_both, eqb-true, ltb
 use Rattle.std.proofs.lemmas.Bool.Decides.{nat_tests}
 use Rattle.std.proofs.lemmas.Nat.{and_assoc, and_mask, or_disjoint, pow_pos, pow_below, shl-shr}
 use Rattle.std.proofs.lemmas.Nat.Bits.{and_high, bit_at_and, bit_at_or, bit_at-zero, same_from_bits}
-use Rattle.std.proofs.Math.Nat.{mod-eq_of_lt, div-one}
+use Rattle.std.proofs.Math.Nat.{add_comm, mod-eq_of_lt, div-one}
 use Rattle.byteorder.specs.Endian.{big_bytes, big_number}
 use Rattle.sg_wire.specs.declared.command.in_action.InAction.TheVariants.{ReadKeys}
 use Rattle.sg_wire.specs.declared.command.out_action.OutAction.TheVariants.{Clear}
@@ -22,13 +22,15 @@ use Rattle.sg_wire.specs.declared.command.page_control.PageControl.{PageControl}
 use Rattle.sg_wire.specs.declared.command.page_control.PageControl.TheVariants.{Current}
 use Rattle.sg_wire.specs.declared.command.page_control.PageControl.TheVariants.{Changeable}
 use Rattle.sg_wire.specs.declared.command.page_control.PageControl.TheVariants.{Default, Saved}
+use Rattle.sg_wire.specs.declared.command.report.ReportTargetPortGroups.{ReportTargetPortGroups}
+use Rattle.sg_wire.specs.declared.command.table.Name.TheVariants as name
 use Rattle.sg_wire.specs.declared.command.verify.ByteCheck.{ByteCheck}
 use Rattle.sg_wire.specs.declared.command.verify.ByteCheck.TheVariants.{Nothing, DataOut}
 use Rattle.sg_wire.specs.declared.command.verify.ByteCheck.TheVariants.{Reserved, OneBlock}
 use Rattle.sg_wire.specs.ByteCheck.{byte_check_code, byte_check_of}
 use Rattle.sg_wire.specs.PageControl.{page_control_code, page_control_of}
 use Rattle.sg_wire.specs.Commands.{reserve_in, reserve_out}
-use Rattle.sg_wire.specs.CdbDecoding.{command_in, first_bad, mask_of, masks, unless_bad}
+use Rattle.sg_wire.specs.CdbDecoding.{command_in, first_bad, mask_of, masks, service_action, unless_bad}
 use Rattle.sg_wire.specs.CdbEncoding.{cdb_of, joined, part_in}
 use Rattle.sg_wire.specs.Bits.{bits_of, has_bit}
 use Rattle.sg_wire.specs.CdbFields.{Field, Place, Value, blocks_of, field, mask_in}
@@ -42,6 +44,7 @@ use Rattle.sg_wire.specs.declared.profile.Profile.TheVariants.{Extended}
 use Rattle.sg_wire.proofs.LayoutLemmas.{number_again}
 use Rattle.sg_wire.proofs.FieldLemmas.{bit_of}
 use Rattle.sg_wire.proofs.ProfileLemmas.{read-alike}
+use Rattle.sg_wire.proofs.TableLemmas.{decodes}
 
 -- ---- numbers and masks
 
@@ -339,6 +342,18 @@ checked_again OneBlock = refl
 abbrev ReadsBack : Command → Type 0
 ReadsBack command = fits_cdb command ≡ true → command_in Extended (cdb_of command) ≡ Ok command
 
+-- a field beside a service action: together they are no literal, by which the row would be found
+format-read : (c : ReportTargetPortGroups) → ReadsBack (command.ReportTargetPortGroups c)
+unfolding command_in cdb_of
+format-read c h =
+    let l = layout (command.ReportTargetPortGroups c) in
+    let cdb = bytes_from l 0 12 in
+    let same : cdb_of (command.ReportTargetPortGroups c) ≡ cdb =
+    ap (λ b. 0xA3 ∷ b ∷ drop 2 cdb) (add_comm 10 (c.format * 32)) in
+    let its : service_action cdb ≡ 0x0A = and_mask (c.format * 32 + 10) 5 ∙ omega arith in
+    ap (command_in Extended) same ∙ decodes Extended cdb name.ReportTargetPortGroups its
+    ∙ decoded l h (command.ReportTargetPortGroups c) refl refl
+
 reads_back : (command : Command) → ReadsBack command
 unfolding command_in cdb_of
 reads_back (command.PersistentReserveIn c) h =
@@ -369,6 +384,7 @@ reads_back (command.Verify16 c) h = decoded (layout (command.Verify16 c)) h _ re
     (ap (λ check. command.Verify16 (record c { byte_check = check })) (checked_again c.byte_check))
 reads_back (command.WriteAndVerify16 c) h = decoded (layout (command.WriteAndVerify16 c)) h _ refl
     (ap (λ check. command.WriteAndVerify16 (record c { byte_check = check })) (checked_again c.byte_check))
+reads_back (command.ReportTargetPortGroups c) h = format-read c h
 reads_back command h = decoded (layout command) h command refl refl
 
 -- on each disk that has the command

@@ -1,7 +1,7 @@
 -- The code's table and the definition's table agree on each CDB.
 use Rattle.std.proofs.Common.{◌≡◌, ◌≢◌, ◌<◌, ◌≤◌, ℕ, ◌==◌, List, [], ◌∷◌, length, get_or, map, Bool}
 use Rattle.std.proofs.Common.{true, false, Option, Some, None, Ok, Err, Result, cond, refl, sym, subst}
-use Rattle.std.proofs.Common.{ap, eq-eqb, ◌∙◌, arith}
+use Rattle.std.proofs.Common.{ap, ◌∙◌, arith}
 use Rattle.std.proofs.lemmas.Bool.Decides.{nat_tests}
 use Rattle.std.specs.Borrow.{Bor}
 use Rattle.std.specs.List.{list_all}
@@ -32,6 +32,8 @@ use Rattle.sg_wire.specs.declared.command.table.Name.TheVariants as name
 use Rattle.sg_wire.specs.declared.command.table.Row.{Row}
 use Rattle.sg_wire.specs.declared.profile.Profile.{Profile}
 use Rattle.sg_wire.specs.declared.profile.Profile.TheVariants.{Extended}
+use Rattle.sg_wire.proofs.ActionLemmas.{first-of-three, first-of-two, is_its, is_no, none-of-three}
+use Rattle.sg_wire.proofs.ActionLemmas.{none-of-two, second-of-three, second-of-two, third-of-three}
 use Rattle.sg_wire.proofs.FieldLemmas.{same-found}
 use Rattle.sg_wire.proofs.ProfileLemmas.{first_opcode, has_row, none-in, rows-none, rows-same}
 
@@ -88,56 +90,7 @@ pub at_most_16 : (named : Name) → length (masks (layout_of named)) ≤ 16
 at_most_16 name.TestUnitReady = omega arith
 at_most_16 named = omega arith
 
--- ---- two commands of one operation code
-
-is_its : (action code : ℕ) → action ≡ code → (action == code) ≡ true
-is_its action code h = eq-eqb action code h
-
-is_no : (action code : ℕ) → action ≢ code → (action == code) ≡ false
-is_no action code h = grind (arith, nat_tests)
-
-module _ (cdb : List ℕ) (first second : Layout) where
-  abbrev found_of_two : Option Layout
-  found_of_two = find (has_action_of cdb) (first ∷ second ∷ [])
-
-  first-of-two : has_action_of cdb first ≡ true → found_of_two ≡ Some first
-  first-of-two e = ap (λ b. cond b (Some first) (find (has_action_of cdb) (second ∷ []))) e
-
-  second-of-two : has_action_of cdb first ≡ false → has_action_of cdb second ≡ true
-      → found_of_two ≡ Some second
-  second-of-two e f =
-      ap (λ b. cond b (Some first) (find (has_action_of cdb) (second ∷ []))) e
-      ∙ ap (λ b. cond b (Some second) None) f
-
-  none-of-two : has_action_of cdb first ≡ false → has_action_of cdb second ≡ false
-      → found_of_two ≡ None
-  none-of-two e f =
-      ap (λ b. cond b (Some first) (find (has_action_of cdb) (second ∷ []))) e
-      ∙ ap (λ b. cond b (Some second) None) f
-
--- and three
-
-module _ (cdb : List ℕ) (first second third : Layout) where
-  abbrev found_of_three : Option Layout
-  found_of_three = find (has_action_of cdb) (first ∷ second ∷ third ∷ [])
-
-  abbrev unless_first : Bool → Option Layout
-  unless_first is_first = cond is_first (Some first) (find (has_action_of cdb) (second ∷ third ∷ []))
-
-  first-of-three : has_action_of cdb first ≡ true → found_of_three ≡ Some first
-  first-of-three e = ap unless_first e
-
-  second-of-three : has_action_of cdb first ≡ false → has_action_of cdb second ≡ true
-      → found_of_three ≡ Some second
-  second-of-three e f = ap unless_first e ∙ first-of-two cdb second third f
-
-  third-of-three : has_action_of cdb first ≡ false → has_action_of cdb second ≡ false
-      → has_action_of cdb third ≡ true → found_of_three ≡ Some third
-  third-of-three e f g = ap unless_first e ∙ second-of-two cdb second third f g
-
-  none-of-three : has_action_of cdb first ≡ false → has_action_of cdb second ≡ false
-      → has_action_of cdb third ≡ false → found_of_three ≡ None
-  none-of-three e f g = ap unless_first e ∙ none-of-two cdb second third f g
+-- ---- commands of one operation code
 
 -- the row of a CDB by its service action
 abbrev IsFoundBy : List ℕ → Name → Type 0
@@ -156,14 +109,22 @@ status-found cdb h =
 codes-found : (cdb : List ℕ) → service_action cdb ≡ 0x0C
     → IsFoundBy cdb name.ReportSupportedOperationCodes
 codes-found cdb h =
-    first-of-two cdb (layout_of name.ReportSupportedOperationCodes)
-    (layout_of name.ReportSupportedTaskManagementFunctions) (is_its _ 0x0C h)
+    first-of-three cdb (layout_of name.ReportSupportedOperationCodes)
+    (layout_of name.ReportSupportedTaskManagementFunctions) (layout_of name.ReportTargetPortGroups)
+    (is_its _ 0x0C h)
 
 functions-found : (cdb : List ℕ) → service_action cdb ≡ 0x0D
     → IsFoundBy cdb name.ReportSupportedTaskManagementFunctions
 functions-found cdb h =
-    second-of-two cdb (layout_of name.ReportSupportedOperationCodes)
-    (layout_of name.ReportSupportedTaskManagementFunctions) (ap (λ n. n == 0x0C) h) (is_its _ 0x0D h)
+    second-of-three cdb (layout_of name.ReportSupportedOperationCodes)
+    (layout_of name.ReportSupportedTaskManagementFunctions) (layout_of name.ReportTargetPortGroups)
+    (ap (λ n. n == 0x0C) h) (is_its _ 0x0D h)
+
+port_groups-found : (cdb : List ℕ) → service_action cdb ≡ 0x0A → IsFoundBy cdb name.ReportTargetPortGroups
+port_groups-found cdb h =
+    third-of-three cdb (layout_of name.ReportSupportedOperationCodes)
+    (layout_of name.ReportSupportedTaskManagementFunctions) (layout_of name.ReportTargetPortGroups)
+    (ap (λ n. n == 0x0C) h) (ap (λ n. n == 0x0D) h) (is_its _ 0x0A h)
 
 block_erase-found : (cdb : List ℕ) → service_action cdb ≡ 0x02 → IsFoundBy cdb name.SanitizeBlockErase
 block_erase-found cdb h =
@@ -194,7 +155,7 @@ module _ (profile : Profile) (cdb : List ℕ) where
   unless_short_10 read = if nat_lt (length cdb) 10 then Err (Short (length cdb)) else read
 
   -- the name of a CDB's row decides its command
-  decodes : (named : Name) → HasAction cdb named
+  pub decodes : (named : Name) → HasAction cdb named
       → command_by_rows profile cdb (rows_in Extended (layout_of named).opcode)
       ≡ command_of_name profile named cdb
   unfolding command_with
@@ -209,6 +170,7 @@ module _ (profile : Profile) (cdb : List ℕ) where
   decodes name.ReportSupportedOperationCodes h = ap (unless_short_by 0xA3) (codes-found cdb h)
   decodes name.ReportSupportedTaskManagementFunctions h =
       ap (unless_short_by 0xA3) (functions-found cdb h)
+  decodes name.ReportTargetPortGroups h = ap (unless_short_by 0xA3) (port_groups-found cdb h)
   decodes name.SanitizeBlockErase h = ap (unless_short_by 0x48) (block_erase-found cdb h)
   decodes name.SanitizeCryptographicErase h =
       ap (unless_short_by 0x48) (cryptographic_erase-found cdb h)
@@ -262,6 +224,8 @@ agrees name.ReportSupportedOperationCodes rest h =
     (ap (λ found. Some (class_or_always (0xA3 ∷ rest) found)) (codes-found (0xA3 ∷ rest) h), refl)
 agrees name.ReportSupportedTaskManagementFunctions rest h =
     (ap (λ found. Some (class_or_always (0xA3 ∷ rest) found)) (functions-found (0xA3 ∷ rest) h), refl)
+agrees name.ReportTargetPortGroups rest h =
+    (ap (λ found. Some (class_or_always (0xA3 ∷ rest) found)) (port_groups-found (0xA3 ∷ rest) h), refl)
 agrees name.SanitizeBlockErase rest h =
     (ap (λ found. Some (class_or_always (0x48 ∷ rest) found)) (block_erase-found (0x48 ∷ rest) h), refl)
 agrees name.SanitizeCryptographicErase rest h = (
@@ -282,11 +246,12 @@ other_16 cdb h k =
     (is_no _ 0x12 k)
 
 pub other_maintenance : (cdb : List ℕ) → service_action cdb ≢ 0x0C → service_action cdb ≢ 0x0D
-    → IsNamedByNone cdb 0xA3
+    → service_action cdb ≢ 0x0A → IsNamedByNone cdb 0xA3
 unfolding IsNamedByNone
-other_maintenance cdb h k =
-    none-of-two cdb (layout_of name.ReportSupportedOperationCodes)
-    (layout_of name.ReportSupportedTaskManagementFunctions) (is_no _ 0x0C h) (is_no _ 0x0D k)
+other_maintenance cdb h k m =
+    none-of-three cdb (layout_of name.ReportSupportedOperationCodes)
+    (layout_of name.ReportSupportedTaskManagementFunctions) (layout_of name.ReportTargetPortGroups)
+    (is_no _ 0x0C h) (is_no _ 0x0D k) (is_no _ 0x0A m)
 
 pub other_sanitize : (cdb : List ℕ) → service_action cdb ≢ 0x02 → service_action cdb ≢ 0x03
     → service_action cdb ≢ 0x1F → IsNamedByNone cdb 0x48

@@ -87,6 +87,10 @@ report_task_management timeouts n = command.ReportSupportedTaskManagementFunctio
   allocation_length = n;
 })
 
+abbrev pub report_port_groups : (format allocation_length : ℕ) → Command
+report_port_groups format n =
+    command.ReportTargetPortGroups (record { format = format; allocation_length = n })
+
 abbrev pub send_diagnostic : (code : ℕ) (self_test : Bool) (list_length : ℕ) → Command
 send_diagnostic code self_test n =
     command.SendDiagnostic (record { code = code; self_test = self_test; list_length = n })

@@ -33,6 +33,7 @@ use Rattle.sg_wire.specs.declared.command.provisioning.WriteSame16.{WriteSame16}
 use Rattle.sg_wire.specs.declared.command.report.ReportLuns.{ReportLuns}
 use Rattle.sg_wire.specs.declared.command.report.ReportSupportedOperationCodes.{ReportSupportedOperationCodes}
 use Rattle.sg_wire.specs.declared.command.report.ReportSupportedTaskManagementFunctions as functions
+use Rattle.sg_wire.specs.declared.command.report.ReportTargetPortGroups.{ReportTargetPortGroups}
 use Rattle.sg_wire.specs.declared.command.reservation.PersistentReserveIn.{PersistentReserveIn}
 use Rattle.sg_wire.specs.declared.command.reservation.PersistentReserveOut.{PersistentReserveOut}
 use Rattle.sg_wire.specs.declared.command.start_stop.StartStopUnit.{StartStopUnit}
@@ -262,6 +263,10 @@ report_operation_codes c =
 abbrev report_task_management : functions.ReportSupportedTaskManagementFunctions → List Field
 report_task_management c = field (bit 2 7) c.timeouts ∷ field (bytes 6 9) c.allocation_length ∷ []
 
+-- PARAMETER DATA FORMAT, which shares its byte with the service action, and ALLOCATION LENGTH.
+abbrev report_port_groups : ReportTargetPortGroups → List Field
+report_port_groups c = field (bits 1 7 5) c.format ∷ field (bytes 6 9) c.allocation_length ∷ []
+
 -- STARTING LOGICAL BLOCK ADDRESS and ALLOCATION LENGTH.
 abbrev get_lba_status : GetLbaStatus → List Field
 get_lba_status c = field (bytes 2 9) c.start ∷ field (bytes 10 13) c.allocation_length ∷ []
@@ -321,6 +326,8 @@ layout (command.ReportSupportedOperationCodes c) =
 layout (command.ReportSupportedTaskManagementFunctions c) =
     extended 0xA3 (named 0x0D) Reads blocked (report_task_management c) no_bits
     make.report_task_management
+layout (command.ReportTargetPortGroups c) =
+    extended 0xA3 (named 0x0A) Always blocked (report_port_groups c) no_bits make.report_port_groups
 layout (command.SendDiagnostic c) =
     extended 0x1D none Writes blocked (send_diagnostic c) diagnostic_bits make.send_diagnostic
 layout (command.CompareAndWrite c) =
@@ -403,6 +410,7 @@ each_command =
     ∷ make.report_luns 0 0
     ∷ make.report_operation_codes false 0 0 0 0
     ∷ make.report_task_management false 0
+    ∷ make.report_port_groups 0 0
     ∷ make.send_diagnostic 0 false 0
     ∷ make.compare_and_write 0 0
     ∷ make.format_unit false false
@@ -465,6 +473,7 @@ is_block_command (command.LogSense c) = false
 is_block_command (command.ReportLuns c) = false
 is_block_command (command.ReportSupportedOperationCodes c) = false
 is_block_command (command.ReportSupportedTaskManagementFunctions c) = false
+is_block_command (command.ReportTargetPortGroups c) = false
 is_block_command (command.SendDiagnostic c) = false
 is_block_command (command.PersistentReserveIn c) = false
 is_block_command (command.PersistentReserveOut c) = false

@@ -46,6 +46,7 @@ command_named name.LogSense = make.log_sense 0 0 0
 command_named name.ReportLuns = make.report_luns 0 0
 command_named name.ReportSupportedOperationCodes = make.report_operation_codes false 0 0 0 0
 command_named name.ReportSupportedTaskManagementFunctions = make.report_task_management false 0
+command_named name.ReportTargetPortGroups = make.report_port_groups 0 0
 command_named name.SendDiagnostic = make.send_diagnostic 0 false 0
 command_named name.CompareAndWrite = make.compare_and_write 0 0
 command_named name.FormatUnit = make.format_unit false false

@@ -118,7 +118,7 @@ const SHOWN: [(&str, Option<&str>); 4] = [
     ("--show-disk=", Some("")),
 ];
 
-/// The words after the program's name, and the disk's serial number and locally assigned identifier.
+/// The words after the program's name, and the disk's serial number and local identifier.
 const NAMED: [(&str, &[u8; 8], u64); 7] = [
     ("", b"00000001", 1),
     ("--profile extended", b"00000001", 1),

@@ -3,8 +3,8 @@ use crate::command::operation_code;
 use sg_wire::{
     ByteCheck, CdbFault, Command, Extent10, Extent12, Extent16, FourBits, LogSense, PageCode,
     Profile, ReadDefectData10, ReadDefectData12, ReportLuns, ReportSupportedOperationCodes,
-    ReportSupportedTaskManagementFunctions, SendDiagnostic, StartStopUnit, ThreeBits, Verify10,
-    Verify12, Verify16, WriteAtomic16,
+    ReportSupportedTaskManagementFunctions, ReportTargetPortGroups, SendDiagnostic, StartStopUnit,
+    ThreeBits, Verify10, Verify12, Verify16, WriteAtomic16,
 };
 use std::test::Fail;
 
@@ -320,6 +320,29 @@ fn a_report_of_operation_codes_is_read_and_written(rt: HostRuntime) -> Result<()
     let cdb = [
         0xA3, 0x0C, 0x87, 0xFF, 0xFF, 0xFF, 0xFF, 0xFF, 0xFF, 0xFF, 0, 0,
     ];
+    assert!(rt; is_read_and_written(&cdb, largest));
+    Ok(())
+}
+
+#[test]
+fn a_report_of_target_port_groups_is_read_and_written(rt: HostRuntime) -> Result<(), Fail> {
+    let short = Command::ReportTargetPortGroups(ReportTargetPortGroups {
+        format: ThreeBits::new(0).ok_or("no format")?,
+        allocation_length: 0,
+    });
+    let extended = Command::ReportTargetPortGroups(ReportTargetPortGroups {
+        format: ThreeBits::new(1).ok_or("no format")?,
+        allocation_length: 0x0102_0304,
+    });
+    let largest = Command::ReportTargetPortGroups(ReportTargetPortGroups {
+        format: ThreeBits::new(7).ok_or("no format")?,
+        allocation_length: 0xFFFF_FFFF,
+    });
+    let cdb = [0xA3, 0x0A, 0, 0, 0, 0, 0, 0, 0, 0, 0, 0];
+    assert!(rt; is_read_and_written(&cdb, short));
+    let cdb = [0xA3, 0x2A, 0, 0, 0, 0, 1, 2, 3, 4, 0, 0];
+    assert!(rt; is_read_and_written(&cdb, extended));
+    let cdb = [0xA3, 0xEA, 0, 0, 0, 0, 0xFF, 0xFF, 0xFF, 0xFF, 0, 0];
     assert!(rt; is_read_and_written(&cdb, largest));
     Ok(())
 }

@@ -5,7 +5,7 @@ use sg_wire::{CdbFault, Class, Command, Profile};
 
 /// CDBs with a bit that no field has, which is the first fault of its byte; CDBs that end early; and
 /// MAINTENANCE IN with service actions that no command has.
-const FAULTS: [(&[u8], CdbFault); 36] = [
+const FAULTS: [(&[u8], CdbFault); 39] = [
     // PPC and SP of LOG SENSE.
     (&[0x4D, 0x02, 0, 0, 0, 0, 0, 0, 0, 0], CdbFault::Field(1)),
     (&[0x4D, 0x01, 0, 0, 0, 0, 0, 0, 0, 0], CdbFault::Field(1)),
@@ -46,6 +46,19 @@ const FAULTS: [(&[u8], CdbFault); 36] = [
     ),
     (
         &[0xA3, 0x0D, 0, 0, 0, 0, 0, 0, 0, 0, 0],
+        CdbFault::Short(11),
+    ),
+    // REPORT TARGET PORT GROUPS has no fields in bytes 2 and 10.
+    (
+        &[0xA3, 0x2A, 0x01, 0, 0, 0, 0, 0, 0, 0, 0, 0],
+        CdbFault::Field(2),
+    ),
+    (
+        &[0xA3, 0x0A, 0, 0, 0, 0, 0, 0, 0, 0, 0x80, 0],
+        CdbFault::Field(10),
+    ),
+    (
+        &[0xA3, 0x0A, 0, 0, 0, 0, 0, 0, 0, 0, 0],
         CdbFault::Short(11),
     ),
     // No command has these service actions.

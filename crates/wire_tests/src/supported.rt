@@ -49,6 +49,11 @@ const COMPARE_AND_WRITE: &[u8] = &[
     0x00, 0xFF, 0x00, 0x00,
 ];
 
+// REPORT TARGET PORT GROUPS shows PARAMETER DATA FORMAT and its service action in one byte.
+const TARGET_PORT_GROUPS: &[u8] = &[
+    0x00, 0x03, 0x00, 0x0C, 0xA3, 0xEA, 0x00, 0x00, 0x00, 0x00, 0xFF, 0xFF, 0xFF, 0xFF, 0x00, 0x00,
+];
+
 // The last service action of PERSISTENT RESERVE OUT, REGISTER AND IGNORE EXISTING KEY.
 const REGISTER_AND_IGNORE: &[u8] = &[
     0x00, 0x03, 0x00, 0x0A, 0x5F, 0x06, 0xFF, 0x00, 0x00, 0xFF, 0xFF, 0xFF, 0xFF, 0x00,
@@ -56,7 +61,7 @@ const REGISTER_AND_IGNORE: &[u8] = &[
 
 /// REPORTING OPTIONS, REQUESTED OPERATION CODE and REQUESTED SERVICE ACTION, and the data-in on a
 /// disk of the extended profile. The data-in is None if the disk refuses the options.
-const ROWS: [(u8, u8, u16, Option<&[u8]>); 20] = [
+const ROWS: [(u8, u8, u16, Option<&[u8]>); 21] = [
     (0b001, 0x28, 0x0000, Some(READ_10)),
     (0b001, 0x28, 0x0012, Some(READ_10)),
     (0b001, 0x91, 0x0000, Some(SYNCHRONIZE_CACHE_16)),
@@ -68,6 +73,7 @@ const ROWS: [(u8, u8, u16, Option<&[u8]>); 20] = [
     (0b001, 0xC1, 0x0000, Some(NOT_SUPPORTED)),
     (0b001, 0x9E, 0x0012, None),
     (0b010, 0x9E, 0x0012, Some(GET_LBA_STATUS)),
+    (0b010, 0xA3, 0x000A, Some(TARGET_PORT_GROUPS)),
     (0b010, 0x5F, 0x0006, Some(REGISTER_AND_IGNORE)),
     (0b010, 0x9E, 0x0013, Some(NOT_SUPPORTED)),
     (0b010, 0x9E, 0x0112, Some(NOT_SUPPORTED)),
@@ -143,12 +149,12 @@ fn the_base_commands_are_reported(rt: HostRuntime) {
 
 #[test]
 fn the_extended_commands_are_reported_with_timeouts(rt: HostRuntime) {
-    let mut buf = [0xEE; 1180];
-    let mut cut = Cut::new(&mut buf, 1180);
+    let mut buf = [0xEE; 1200];
+    let mut cut = Cut::new(&mut buf, 1200);
     let report = SupportReport::AllCommands { timeouts: true };
     report.write(Profile::Extended, &mut cut);
     let written = cut.written();
-    // 58 commands of 20 bytes
-    assert!(rt; written == 1164 && buf[..4] == [0x00, 0x00, 0x04, 0x88]);
+    // 59 commands of 20 bytes
+    assert!(rt; written == 1184 && buf[..4] == [0x00, 0x00, 0x04, 0x9C]);
     assert!(rt; buf[4..14] == [0x00, 0x00, 0x00, 0x00, 0x00, 0x02, 0x00, 0x06, 0x00, 0x0A]);
 }

@@ -10,12 +10,12 @@ use super::rows::{
     MODE_SELECT_10, MODE_SENSE_6, MODE_SENSE_10, ORWRITE_16, PERSISTENT_RESERVE_IN,
     PERSISTENT_RESERVE_OUT, PRE_FETCH_10, PRE_FETCH_16, READ_6, READ_10, READ_12, READ_16,
     READ_CAPACITY_10, READ_CAPACITY_16, READ_DEFECT_DATA_10, READ_DEFECT_DATA_12, REPORT_LUNS,
-    REPORT_SUPPORTED_OPERATION_CODES, REPORT_SUPPORTED_TASK_MANAGEMENT_FUNCTIONS, REQUEST_SENSE,
-    SANITIZE_BLOCK_ERASE, SANITIZE_CRYPTOGRAPHIC_ERASE, SANITIZE_EXIT_FAILURE_MODE,
-    SEND_DIAGNOSTIC, START_STOP_UNIT, SYNCHRONIZE_CACHE_10, SYNCHRONIZE_CACHE_16, TEST_UNIT_READY,
-    UNMAP, VERIFY_10, VERIFY_12, VERIFY_16, WRITE_6, WRITE_10, WRITE_12, WRITE_16,
-    WRITE_AND_VERIFY_10, WRITE_AND_VERIFY_12, WRITE_AND_VERIFY_16, WRITE_ATOMIC_16, WRITE_LONG_10,
-    WRITE_SAME_10, WRITE_SAME_16,
+    REPORT_SUPPORTED_OPERATION_CODES, REPORT_SUPPORTED_TASK_MANAGEMENT_FUNCTIONS,
+    REPORT_TARGET_PORT_GROUPS, REQUEST_SENSE, SANITIZE_BLOCK_ERASE, SANITIZE_CRYPTOGRAPHIC_ERASE,
+    SANITIZE_EXIT_FAILURE_MODE, SEND_DIAGNOSTIC, START_STOP_UNIT, SYNCHRONIZE_CACHE_10,
+    SYNCHRONIZE_CACHE_16, TEST_UNIT_READY, UNMAP, VERIFY_10, VERIFY_12, VERIFY_16, WRITE_6,
+    WRITE_10, WRITE_12, WRITE_16, WRITE_AND_VERIFY_10, WRITE_AND_VERIFY_12, WRITE_AND_VERIFY_16,
+    WRITE_ATOMIC_16, WRITE_LONG_10, WRITE_SAME_10, WRITE_SAME_16,
 };
 use super::table::{Name, Row};
 use super::{InAction, OutAction};
@@ -31,7 +31,7 @@ pub(super) enum Entry {
 }
 
 /// All commands, in the table's order.
-static ENTRIES: [Entry; 58] = [
+static ENTRIES: [Entry; 59] = [
     Entry::Named(Name::TestUnitReady),
     Entry::Named(Name::RequestSense),
     Entry::Named(Name::Inquiry),
@@ -43,6 +43,7 @@ static ENTRIES: [Entry; 58] = [
     Entry::Named(Name::ReportLuns),
     Entry::Named(Name::ReportSupportedOperationCodes),
     Entry::Named(Name::ReportSupportedTaskManagementFunctions),
+    Entry::Named(Name::ReportTargetPortGroups),
     Entry::Named(Name::SendDiagnostic),
     Entry::Named(Name::CompareAndWrite),
     Entry::Named(Name::FormatUnit),
@@ -97,7 +98,7 @@ impl Entry {
     #[tactic(auto, unfolding(crate::specs::Table::AreEntries, crate::specs::Table::layouts_of))]
     pub(super) fn each() -> &'static [Entry]
         ensures entries { AreEntries result.now }
-        ensures count { length result.now ≡ 58 }
+        ensures count { length result.now ≡ 59 }
     {
         &ENTRIES
     }
@@ -173,6 +174,7 @@ fn row_named(name: Name) -> &'static Row
         Name::ReportLuns => &REPORT_LUNS,
         Name::ReportSupportedOperationCodes => &REPORT_SUPPORTED_OPERATION_CODES,
         Name::ReportSupportedTaskManagementFunctions => &REPORT_SUPPORTED_TASK_MANAGEMENT_FUNCTIONS,
+        Name::ReportTargetPortGroups => &REPORT_TARGET_PORT_GROUPS,
         Name::SendDiagnostic => &SEND_DIAGNOSTIC,
         _ => block_row_named(name),
     }

@@ -1,5 +1,5 @@
-// What a logical unit reports of itself: REPORT LUNS, REPORT SUPPORTED OPERATION CODES and REPORT
-// SUPPORTED TASK MANAGEMENT FUNCTIONS (SPC-4, 6.33, 6.35 and 6.36).
+// What a logical unit reports of itself: REPORT LUNS, REPORT SUPPORTED OPERATION CODES, REPORT SUPPORTED
+// TASK MANAGEMENT FUNCTIONS and REPORT TARGET PORT GROUPS (SPC-4, 6.33 and 6.35 to 6.37).
 ghost use Rattle.std.specs.Prelude.{◌≡◌, true};
 ghost use Rattle.sg_wire.specs.CdbEncoding.{cdb_of};
 ghost use Rattle.sg_wire.specs.FieldRoom.{fits_cdb};
@@ -8,6 +8,7 @@ ghost use Rattle.sg_wire.specs.declared.command.table.Name.{Name};
 
 use super::rows::{
     REPORT_LUNS, REPORT_SUPPORTED_OPERATION_CODES, REPORT_SUPPORTED_TASK_MANAGEMENT_FUNCTIONS,
+    REPORT_TARGET_PORT_GROUPS,
 };
 use super::table::check_row;
 use super::{CdbFault, Command, ThreeBits};
@@ -50,6 +51,15 @@ pub struct ReportSupportedTaskManagementFunctions {
     pub allocation_length: u32,
 }
 
+/// The fields of REPORT TARGET PORT GROUPS (SPC-4, 6.37).
+#[derive(Clone, Copy, Debug, PartialEq, Eq)]
+pub struct ReportTargetPortGroups {
+    /// PARAMETER DATA FORMAT: the header that is asked for.
+    pub format: ThreeBits,
+    /// The allocation length, in bytes.
+    pub allocation_length: u32,
+}
+
 // ---- Decoding
 
 pub(super) fn decode_report_luns(cdb: &[u8]) -> Result<Command, CdbFault>
@@ -84,6 +94,16 @@ pub(super) fn decode_task_management(cdb: &[u8]) -> Result<Command, CdbFault>
         allocation_length: BigEndian::read_u32(&cdb[6..]),
     };
     Ok(Command::ReportSupportedTaskManagementFunctions(fields))
+}
+
+pub(super) fn decode_target_port_groups(cdb: &[u8]) -> Result<Command, CdbFault>
+    ensures { result ≡ command_by (layout_of Name.ReportTargetPortGroups) cdb.now }
+{
+    check_row(&REPORT_TARGET_PORT_GROUPS, cdb)?;
+    Ok(Command::ReportTargetPortGroups(ReportTargetPortGroups {
+        format: ThreeBits::high(cdb[1]),
+        allocation_length: BigEndian::read_u32(&cdb[6..]),
+    }))
 }
 
 // ---- Encoding
@@ -125,6 +145,19 @@ impl ReportSupportedTaskManagementFunctions {
     {
         let mut cdb = REPORT_SUPPORTED_TASK_MANAGEMENT_FUNCTIONS.begin();
         cdb[2] = if self.timeouts { TIMEOUTS } else { 0 };
+        BigEndian::write_u32(&mut cdb[6..], self.allocation_length);
+        CdbBytes::new(cdb, 12)
+    }
+}
+
+impl ReportTargetPortGroups {
+    #[tactic(auto, unfolding(crate::specs::CdbEncoding::cdb_of))]
+    pub(super) fn encode(self) -> CdbBytes
+        ensures cdb { result ≡ cdb_of (Command.ReportTargetPortGroups self) }
+        ensures fits { fits_cdb (Command.ReportTargetPortGroups self) ≡ true }
+    {
+        let mut cdb = REPORT_TARGET_PORT_GROUPS.begin();
+        cdb[1] += self.format.number() * 32;
         BigEndian::write_u32(&mut cdb[6..], self.allocation_length);
         CdbBytes::new(cdb, 12)
     }

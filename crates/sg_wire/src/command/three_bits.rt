@@ -1,4 +1,4 @@
-// Fields of three bits: SELF-TEST CODE, REPORTING OPTIONS and DEFECT LIST FORMAT.
+// Fields of three bits: SELF-TEST CODE, REPORTING OPTIONS, PARAMETER DATA FORMAT and DEFECT LIST FORMAT.
 use std::marker::Model;
 
 /// The number in a field of three bits, 0 to 7.

@@ -37,7 +37,7 @@ pub struct mdl_identity {
     pub revision: [u8; 4],
     /// The serial number.
     pub serial: [u8; 8],
-    /// The locally assigned identifier of the NAA designator, of at most 60 bits.
+    /// The local identifier: the number of the NAA designator, of at most 60 bits.
     pub local: u64,
 }
 

@@ -1,6 +1,7 @@
 use Rattle.std.proofs.Common.{◌∙◌, ◌++◌, length, ap, arith, length-append}
 use Rattle.sg_wire.specs.Cut.{answer_of}
 use Rattle.sg_wire.specs.CutAnswer.{put}
+use Rattle.sg_pages.specs.DataLengths.{unit_length}
 use Rattle.sg_pages.specs.VitalProductData.{port_descriptors, unit_descriptors}
 use Rattle.sg_pages.proofs.PageLemmas.{length-page, page-put, put-two}
 use Rattle.sg_pages.proofs.vital_product_data.write_device_identification.Goals as goal
@@ -12,6 +13,9 @@ returns-clause-at_most c =
     omega (
       arith,
       c.write_unit_descriptors.ensures.length,
+      c.unit_length.ensures.value,
+      c.unit_length.ensures.at_most,
+      ap unit_length c.profile-2.ensures,
       c.port_descriptors-port.ensures.at_most,
       ap length port,
       length-append (unit_descriptors i) (port_descriptors i.profile),
@@ -29,6 +33,9 @@ returns-clause-data c =
     (omega (
       arith,
       c.write_unit_descriptors.ensures.length,
+      c.unit_length.ensures.value,
+      c.unit_length.ensures.at_most,
+      ap unit_length c.profile-2.ensures,
       c.port_descriptors-port.ensures.at_most,
       ap length port,
       length-append (unit_descriptors i) (port_descriptors i.profile),

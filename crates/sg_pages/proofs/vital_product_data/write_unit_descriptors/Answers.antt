@@ -1,8 +1,5 @@
-use Rattle.std.proofs.Common.{◌≡◌, ◌∙◌, ◌++◌, length, ap, sym, arith, length-append}
-use Rattle.sg_wire.specs.Cut.{answer_of}
-use Rattle.sg_wire.specs.CutAnswer.{put}
-use Rattle.sg_pages.specs.VitalProductData.{locally_assigned}
-use Rattle.sg_pages.proofs.PageLemmas.{put-two, descriptor-put, length-descriptors, length-locally_assigned}
+use Rattle.std.proofs.Common.{◌≡◌, ◌++◌, length, arith, length-append}
+use Rattle.sg_pages.proofs.PageLemmas.{put-two, descriptor-put, length-descriptors}
 use Rattle.sg_pages.proofs.vital_product_data.write_unit_descriptors.Goals as goal
 
 pub returns-clause-length : goal.returns-clause-length
@@ -23,9 +20,7 @@ returns-clause-data c =
       length-append i.vendor (i.product ++ i.serial),
       length-append i.product i.serial,
     ) in
-    let local = c.locally_assigned.ensures ∙ ap locally_assigned c.local.ensures.value in
     let law = c.parts_are_put_in_turn.ensures in
     put-two law _ _ _ _ _
     (descriptor-put law _ _ _ _ _ _ _ names c.put.ensures n.names)
-    (descriptor-put law _ _ _ _ _ _ _ (sym (length-locally_assigned i.local)) c.put-2.ensures
-    (c.put-3.ensures ∙ ap (put (answer_of c.put-2.new.self)) local))
+    c.write_naa_descriptor.ensures
