@@ -48,6 +48,17 @@ static mdl_error execute_into(struct scsi_cmd *cmd, uint32_t initiator, uint8_t 
         scsi_get_out_length(cmd), buffer, length, reply);
 }
 
+/* Gives the initiator as much of data-in as fits into tgtd's buffer. */
+static void give_data_in(struct scsi_cmd *cmd, const uint8_t *bytes, const mdl_reply *reply)
+{
+    size_t length = scsi_get_in_length(cmd);
+
+    if (length > reply->data_in_length)
+        length = reply->data_in_length;
+    if (length > 0)
+        memcpy(scsi_get_in_buffer(cmd), bytes, length);
+}
+
 /* Executes a command. tgtd's buffer may be too short for its data-in: the initiator then gets what
  * fits in there. */
 static mdl_error execute_command(struct scsi_cmd *cmd, uint32_t initiator, mdl_reply *reply)
@@ -58,13 +69,18 @@ static mdl_error execute_command(struct scsi_cmd *cmd, uint32_t initiator, mdl_r
     if (error != MDL_BUFFER_TOO_SHORT)
         return error;
     error = execute_into(cmd, initiator, data_in, sizeof data_in, reply);
-    if (error && error != MDL_FLUSH_OWED)
-        return error;
-    if (length > reply->data_in_length)
-        length = reply->data_in_length;
-    if (length > 0)
-        memcpy(scsi_get_in_buffer(cmd), data_in, length);
+    if (!error || error == MDL_FLUSH_OWED)
+        give_data_in(cmd, data_in, reply);
     return error;
+}
+
+/* Executes a command of a port that has no number. */
+static void execute_without_disk(struct scsi_cmd *cmd, mdl_reply *reply)
+{
+    uint8_t bytes[MOST_ABSENT_DATA_IN];
+
+    execute_absent(cmd->scb, bytes, reply);
+    give_data_in(cmd, bytes, reply);
 }
 
 /* A line for a command and its reply, in the log of tgtd while its debug messages are on. The CDB
@@ -126,7 +142,7 @@ static int execute(int tid, struct scsi_cmd *cmd)
         return SAM_STAT_BUSY;
     }
     if (initiator == NO_NUMBER)
-        execute_absent(cmd, &reply);
+        execute_without_disk(cmd, &reply);
     else
         error = execute_of_session(cmd, initiator, &reply);
     if (error && error != MDL_FLUSH_OWED) {

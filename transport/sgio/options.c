@@ -1,12 +1,11 @@
-/* Not proved. The options of the server: pairs of a name and a value. */
+/* Not proved. The options of a server: pairs of a name and a value. */
 #include "options.h"
 
 #include <errno.h>
+#include <stdio.h>
 #include <stdlib.h>
 #include <string.h>
 #include <sys/random.h>
-
-#include "kept.h"
 
 /* A seed has at most 60 bits. This is none. */
 #define MOST_SEED ((UINT64_C(1) << 60) - 1)
@@ -135,20 +134,21 @@ static int make_identity(struct options *options, int is_new)
 
 /* Returns null, or what is wrong with the options that say which disk it is. A file's disk has all that
  * is not given. */
-static const char *check_sizes(int count, char **words, const struct options *options, int is_new,
-                               const char **word)
+static const char *check_sizes(int count, char **words, int needs_socket, const struct options *options,
+                               int is_new, const char **word)
 {
     static const char *const blocks[] = { "--blocks" }, *const pool[] = { "--pool" };
 
-    *word = is_new ? "--socket, --blocks or --pool" : "--socket";
-    if (!options->socket || (is_new && !(options->blocks && options->pool)))
+    *word = !needs_socket ? "--blocks or --pool" : is_new ? "--socket, --blocks or --pool" : "--socket";
+    if ((needs_socket && !options->socket) || (is_new && !(options->blocks && options->pool)))
         return "is missing, or 0";
     *word = "--blocks or --pool";
     return (!options->blocks && has_option(count, words, blocks, 1)) ||
            (!options->pool && has_option(count, words, pool, 1)) ? "is 0" : NULL;
 }
 
-const char *read_options(int count, char **words, struct options *options, const char **word)
+const char *read_options(int count, char **words, int needs_socket, struct options *options,
+                         const char **word)
 {
     static const char *const names[] = { "--seed", "--vendor", "--product", "--revision", "--serial",
                                          "--local" };
@@ -170,5 +170,19 @@ const char *read_options(int count, char **words, struct options *options, const
         return "there are no random bytes to make it of";
     /* The options are read again, because their texts and number replace those of the seed. */
     read_each(count, words, options, word);
-    return check_sizes(count, words, options, is_new, word);
+    return check_sizes(count, words, needs_socket, options, is_new, word);
+}
+
+int make_disk(const struct options *options, mdl_disk *disk, char *reason)
+{
+    const mdl_identity *identity = options->has_identity ? &options->identity : NULL;
+    const struct wanted wanted = { options->profile, options->blocks, (uint32_t)options->pool, identity };
+    mdl_error error;
+
+    if (options->disk)
+        return open_kept(disk, options->disk, &wanted, reason);
+    error = mdl_make_with_profile(disk, wanted.profile, wanted.blocks, wanted.pool, identity);
+    if (error)
+        snprintf(reason, REASON_LENGTH, "%s", text_of_error(error));
+    return !error;
 }

@@ -1,7 +1,8 @@
-/* Not proved. The options of the server, and numbers. */
+/* Not proved. The options of a server, its disk, and numbers. */
 #ifndef OPTIONS_H
 #define OPTIONS_H
 
+#include "kept.h"
 #include "mehdalung.h"
 
 struct options {
@@ -20,6 +21,11 @@ int read_number(const char *text, uint64_t most, uint64_t *number);
 
 /* Reads the words of a command line. Returns null, or what is wrong with them, with the word that it
  * is about in `word`. mdl_make and mdl_open decide which numbers of blocks a disk may have. */
-const char *read_options(int count, char **words, struct options *options, const char **word);
+const char *read_options(int count, char **words, int needs_socket, struct options *options,
+                         const char **word);
+
+/* Makes the disk, or opens it. Returns 0 if that fails, and writes why into `reason`, which has
+ * REASON_LENGTH bytes. */
+int make_disk(const struct options *options, mdl_disk *disk, char *reason);
 
 #endif

@@ -9,7 +9,6 @@
 #include <errno.h>
 #include <fcntl.h>
 #include <poll.h>
-#include <signal.h>
 #include <stdio.h>
 #include <stdlib.h>
 #include <string.h>
@@ -22,63 +21,9 @@
 #include "client.h"
 #include "kept.h"
 #include "options.h"
+#include "serving.h"
 
 enum { MOST_CLIENTS = 64, BACKLOG = 64, OTHER_DESCRIPTORS = 16 };
-
-/* A signal's handler writes a byte into this pipe, which poll looks at like a socket. */
-static int stop_pipe[2];
-
-static void stop(int signal_number)
-{
-    int kept = errno;
-
-    (void)signal_number;
-    if (write(stop_pipe[1], "", 1) < 0)
-        errno = 0; /* the pipe is full, so poll will see it anyway */
-    errno = kept;
-}
-
-/* A signal that the caller ignores stays ignored: a shell starts what is in the background so, and
- * its keyboard's SIGINT is not for us. */
-static int catch_signal(int signal_number)
-{
-    struct sigaction action;
-
-    if (sigaction(signal_number, NULL, &action))
-        return 0;
-    if (action.sa_handler == SIG_IGN)
-        return 1;
-    memset(&action, 0, sizeof action);
-    action.sa_handler = stop;
-    sigemptyset(&action.sa_mask);
-    return sigaction(signal_number, &action, NULL) == 0;
-}
-
-static int catch_signals(void)
-{
-    if (pipe(stop_pipe) || fcntl(stop_pipe[1], F_SETFL, O_NONBLOCK))
-        return 0;
-    return catch_signal(SIGTERM) && catch_signal(SIGINT) && catch_signal(SIGHUP);
-}
-
-/* A socket that nobody listens at was left by a server that was killed, and goes. */
-static int remove_stale(const struct sockaddr_un *address)
-{
-    struct stat status;
-    int probe, is_stale;
-
-    if (lstat(address->sun_path, &status))
-        return errno == ENOENT;
-    probe = socket(AF_UNIX, SOCK_STREAM, 0);
-    if (probe < 0)
-        return 0;
-    is_stale = S_ISSOCK(status.st_mode) &&
-               connect(probe, (const struct sockaddr *)address, sizeof *address) &&
-               errno == ECONNREFUSED;
-    close(probe);
-    errno = EADDRINUSE;
-    return is_stale && unlink(address->sun_path) == 0;
-}
 
 /* Listens at a path, only for this user. Returns -1 with errno where it can't. */
 static int listen_at(const char *path)
@@ -87,14 +32,7 @@ static int listen_at(const char *path)
     mode_t kept;
     int listener, failed;
 
-    memset(&address, 0, sizeof address);
-    address.sun_family = AF_UNIX;
-    if (strlen(path) >= sizeof address.sun_path) {
-        errno = ENAMETOOLONG;
-        return -1;
-    }
-    memcpy(address.sun_path, path, strlen(path));
-    if (!remove_stale(&address))
+    if (!claim_path(path, &address))
         return -1;
     listener = socket(AF_UNIX, SOCK_STREAM, 0);
     if (listener < 0 || fcntl(listener, F_SETFL, O_NONBLOCK))
@@ -133,8 +71,8 @@ static void set_polls(struct pollfd *polls, const struct client *clients)
     }
 }
 
-/* Serves until a signal. Returns 0 where poll fails. */
-static int serve(int listener, struct client *clients, mdl_disk *disk)
+/* Serves until a signal, which makes `stop` readable. Returns 0 where poll fails. */
+static int serve(int stop, int listener, struct client *clients, mdl_disk *disk)
 {
     struct pollfd polls[MOST_CLIENTS + 2];
     int at;
@@ -142,7 +80,7 @@ static int serve(int listener, struct client *clients, mdl_disk *disk)
     for (;;) {
         set_polls(polls, clients);
         polls[MOST_CLIENTS] = (struct pollfd){ listener, POLLIN, 0 };
-        polls[MOST_CLIENTS + 1] = (struct pollfd){ stop_pipe[0], POLLIN, 0 };
+        polls[MOST_CLIENTS + 1] = (struct pollfd){ stop, POLLIN, 0 };
         if (poll(polls, MOST_CLIENTS + 2, -1) < 0) {
             if (errno == EINTR)
                 continue;
@@ -177,11 +115,12 @@ static int fail(const char *what, const char *why)
 static int run(const struct options *options, mdl_disk *disk)
 {
     static struct client clients[MOST_CLIENTS];
-    int at, listener, is_served;
+    int at, stop, listener, is_served;
 
     if (!has_descriptors())
         return fail("descriptors", "the limit of open files is too low");
-    if (!catch_signals())
+    stop = catch_signals();
+    if (stop < 0)
         return fail("signals", strerror(errno));
     listener = listen_at(options->socket);
     if (listener < 0)
@@ -190,7 +129,7 @@ static int run(const struct options *options, mdl_disk *disk)
         clients[at].socket = -1;
     printf("listens at %s\n", options->socket);
     fflush(stdout);
-    is_served = serve(listener, clients, disk);
+    is_served = serve(stop, listener, clients, disk);
     for (at = 0; at < MOST_CLIENTS; at++)
         if (clients[at].socket >= 0)
             close_client(&clients[at]);
@@ -199,38 +138,18 @@ static int run(const struct options *options, mdl_disk *disk)
     return is_served ? 0 : fail("poll", "failed");
 }
 
-/* Makes the disk, or opens it. Returns 0 after a message. */
-static int make_disk(const struct options *options, mdl_disk *disk)
-{
-    const mdl_identity *identity = options->has_identity ? &options->identity : NULL;
-    const struct wanted wanted = { options->profile, options->blocks, (uint32_t)options->pool,
-                                   identity };
-    char reason[REASON_LENGTH];
-    mdl_error error;
-
-    if (options->disk) {
-        if (open_kept(disk, options->disk, &wanted, reason))
-            return 1;
-        fail("the disk", reason);
-        return 0;
-    }
-    error = mdl_make_with_profile(disk, wanted.profile, wanted.blocks, wanted.pool, identity);
-    if (error)
-        fail("the disk", text_of_error(error));
-    return !error;
-}
-
 int main(int count, char **words)
 {
     struct options options;
     mdl_disk disk = MDL_NONE;
-    const char *word, *fault = read_options(count, words, &options, &word);
+    char reason[REASON_LENGTH];
+    const char *word, *fault = read_options(count, words, 1, &options, &word);
     int status;
 
     if (fault)
         return fail(word, fault);
-    if (!make_disk(&options, &disk))
-        return 1;
+    if (!make_disk(&options, &disk, reason))
+        return fail("the disk", reason);
     status = run(&options, &disk);
     if (mdl_close(&disk))
         status = fail(options.disk, "the file may lack a part of what was changed");

@@ -1,10 +1,10 @@
-/* See absent.h. */
-#include <stdio.h>
-#include <string.h>
-
+/* Not proved. See absent.h. */
 #include "absent.h"
 
-enum { EVPD = 0x01, DESC = 0x01 };
+#include <string.h>
+
+/* Operation codes, and bits of byte 1 (SPC-4, 6.6, 6.33 and 6.39). */
+enum { REQUEST_SENSE = 0x03, INQUIRY = 0x12, REPORT_LUNS = 0xA0, EVPD = 0x01, DESC = 0x01 };
 
 /* SELECT REPORT of REPORT LUNS (SPC-4, 6.33). */
 enum { WITHOUT_WELL_KNOWN, ONLY_WELL_KNOWN, ALL_UNITS };
@@ -12,11 +12,10 @@ enum { WITHOUT_WELL_KNOWN, ONLY_WELL_KNOWN, ALL_UNITS };
 /* Standard INQUIRY data (SPC-4, 6.6.2): peripheral qualifier 011b with device type 1Fh, SPC-4, response data
  * format 2, 31 more bytes, and the names of the disk. */
 static const uint8_t inquiry_data[] = "\x7F\x00\x06\x02\x1F\x00\x00\x00SGMODEL THIN DISK       0100";
-enum { INQUIRY_LENGTH = 36 };
 
-_Static_assert(sizeof inquiry_data == INQUIRY_LENGTH + 1, "a zero follows the data");
+_Static_assert(sizeof inquiry_data == MOST_ABSENT_DATA_IN + 1, "a zero follows the data");
 
-/* A list of 8 bytes: LUN 0, which is tgtd's own. And a list of none. */
+/* A list of 8 bytes: LUN 0, where the target has a logical unit. And a list of none. */
 static const uint8_t lun_0[16] = { [3] = 8 }, no_lun[8];
 
 /* ILLEGAL REQUEST, LOGICAL UNIT NOT SUPPORTED, in both formats (SPC-4, 4.5). */
@@ -27,15 +26,10 @@ static const uint8_t not_supported_descriptor[8] = { 0x72, 0x05, 0x25 };
 static const uint8_t invalid_field[18] = { 0x70, [2] = 0x05, [7] = 0x0A, [12] = 0x24 };
 
 /* GOOD with data-in, cut at the allocation length. */
-static void give(struct scsi_cmd *cmd, mdl_reply *reply, const uint8_t *bytes, size_t length,
-                 size_t allocation)
+static void give(uint8_t *data_in, mdl_reply *reply, const uint8_t *bytes, size_t length, size_t allocation)
 {
-    size_t room = scsi_get_in_length(cmd);
-
     reply->data_in_length = length < allocation ? length : allocation;
-    length = reply->data_in_length < room ? reply->data_in_length : room;
-    if (length > 0)
-        memcpy(scsi_get_in_buffer(cmd), bytes, length);
+    memcpy(data_in, bytes, reply->data_in_length);
 }
 
 static void refuse(mdl_reply *reply, const uint8_t *sense)
@@ -45,49 +39,44 @@ static void refuse(mdl_reply *reply, const uint8_t *sense)
     memcpy(reply->sense, sense, sizeof invalid_field);
 }
 
-static void inquire(struct scsi_cmd *cmd, mdl_reply *reply)
+static void inquire(const uint8_t *cdb, uint8_t *data_in, mdl_reply *reply)
 {
-    const uint8_t *cdb = cmd->scb;
-
     if (cdb[1] & EVPD || cdb[2])
         refuse(reply, invalid_field);
     else
-        give(cmd, reply, inquiry_data, INQUIRY_LENGTH, (size_t)cdb[3] << 8 | cdb[4]);
+        give(data_in, reply, inquiry_data, MOST_ABSENT_DATA_IN, (size_t)cdb[3] << 8 | cdb[4]);
 }
 
-static void report_luns(struct scsi_cmd *cmd, mdl_reply *reply)
+static void report_luns(const uint8_t *cdb, uint8_t *data_in, mdl_reply *reply)
 {
-    const uint8_t *cdb = cmd->scb;
     size_t allocation = (size_t)cdb[6] << 24 | (size_t)cdb[7] << 16 | (size_t)cdb[8] << 8 | cdb[9];
 
     switch (cdb[2]) {
     case WITHOUT_WELL_KNOWN: case ALL_UNITS:
-        give(cmd, reply, lun_0, sizeof lun_0, allocation);
+        give(data_in, reply, lun_0, sizeof lun_0, allocation);
         break;
     case ONLY_WELL_KNOWN:
-        give(cmd, reply, no_lun, sizeof no_lun, allocation);
+        give(data_in, reply, no_lun, sizeof no_lun, allocation);
         break;
     default: refuse(reply, invalid_field);
     }
 }
 
-static void request_sense(struct scsi_cmd *cmd, mdl_reply *reply)
+static void request_sense(const uint8_t *cdb, uint8_t *data_in, mdl_reply *reply)
 {
-    const uint8_t *cdb = cmd->scb;
-
     if (cdb[1] & DESC)
-        give(cmd, reply, not_supported_descriptor, sizeof not_supported_descriptor, cdb[4]);
+        give(data_in, reply, not_supported_descriptor, sizeof not_supported_descriptor, cdb[4]);
     else
-        give(cmd, reply, not_supported_fixed, sizeof not_supported_fixed, cdb[4]);
+        give(data_in, reply, not_supported_fixed, sizeof not_supported_fixed, cdb[4]);
 }
 
-void execute_absent(struct scsi_cmd *cmd, mdl_reply *reply)
+void execute_absent(const uint8_t *cdb, uint8_t *data_in, mdl_reply *reply)
 {
     memset(reply, 0, sizeof *reply);
-    switch (cmd->scb[0]) {
-    case INQUIRY: inquire(cmd, reply); break;
-    case REPORT_LUNS: report_luns(cmd, reply); break;
-    case REQUEST_SENSE: request_sense(cmd, reply); break;
+    switch (cdb[0]) {
+    case INQUIRY: inquire(cdb, data_in, reply); break;
+    case REPORT_LUNS: report_luns(cdb, data_in, reply); break;
+    case REQUEST_SENSE: request_sense(cdb, data_in, reply); break;
     default: refuse(reply, not_supported_fixed);
     }
 }
