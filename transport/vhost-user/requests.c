@@ -1,0 +1,198 @@
+/* Not proved. See requests.h. */
+#include "requests.h"
+
+#include <stddef.h>
+#include <stdio.h>
+#include <string.h>
+
+#include "control.h"
+#include "held.h"
+
+/* No queue keeps the others waiting for longer than this many requests take. */
+enum { MOST_IN_A_ROUND = 64 };
+
+/* PERSISTENT RESERVE OUT with PREEMPT AND ABORT (SPC-4, 6.16). */
+enum { PERSISTENT_RESERVE_OUT = 0x5F, SERVICE_ACTION_BITS = 0x1F, PREEMPT_AND_ABORT = 0x05 };
+
+void report(struct port *port, const struct queue *queue, enum guest_fault fault)
+{
+    static const char *const texts[GUEST_FAULTS] = {
+        [CHAIN_LEAVES_TABLE] = "the index of a descriptor is outside its table",
+        [CHAIN_IS_TOO_LONG] = "a chain has more descriptors than its table",
+        [CHAIN_LEAVES_MEMORY] = "an address is outside the guest's memory",
+        [CHAIN_IS_UNORDERED] = "a device-readable descriptor comes after a device-writable one",
+        [CHAIN_HAS_BAD_TABLE] = "an indirect table is nested, not the last, or not whole",
+        [GUEST_HEADER_IS_SHORT] = "a request has no whole header, or no room for its response",
+        [GUEST_TYPE_IS_UNKNOWN] = "a request of the control queue has an unknown type",
+        [GUEST_RING_IS_BROKEN] = "an index of the available ring is impossible, so the queue stops",
+    };
+
+    if (port->reported >> fault & 1)
+        return;
+    port->reported |= 1u << fault;
+    fprintf(stderr, "serve: %s: queue %u: %s\n", port->path, queue->number, texts[fault]);
+}
+
+/* Answers a request that is none, as far as there is room for a response. */
+static void refuse(struct queue *queue, uint16_t head, const struct chain *chain)
+{
+    struct virtio_scsi_cmd_resp response = { .response = VIRTIO_SCSI_S_FAILURE };
+    uint32_t length = sizeof response;
+
+    if (chain->in_length < length)
+        length = (uint32_t)chain->in_length;
+    if (length < offsetof(struct virtio_scsi_cmd_resp, sense))
+        length = 0;
+    copy_in(chain, 0, &response, length);
+    put_used(queue, head, length);
+}
+
+static void let_out(struct queue *queue, uint16_t head, const struct chain *chain, const struct answer *answer)
+{
+    copy_in(chain, 0, &answer->response, sizeof answer->response);
+    put_used(queue, head, answer->length);
+}
+
+void end_waiting(struct unit *unit)
+{
+    static struct chain chain;
+    struct waiting *it = unit->waiting, *end = it + unit->waiting_count;
+    mdl_error error;
+
+    if (it == end)
+        return;
+    error = mdl_flush(&unit->disk);
+    if (error)
+        fprintf(stderr, "serve: the disk's file can't be written: %u commands fail\n", unit->waiting_count);
+    unit->waiting_count = 0;
+    for (; it < end; it++) {
+        if (read_chain(it->port->memory, &it->queue->ring, it->head, &chain) || !is_command(&chain)) {
+            put_used(it->queue, it->head, 0);
+            continue;
+        }
+        if (error)
+            fail_for_file(&unit->disk, &chain, &it->answer);
+        let_out(it->queue, it->head, &chain, &it->answer);
+    }
+}
+
+static void wait_for_flush(struct unit *unit, struct port *port, struct queue *queue, uint16_t head,
+                           const struct answer *answer)
+{
+    unit->waiting[unit->waiting_count++] = (struct waiting){ port, queue, head, *answer };
+    if (unit->waiting_count == MOST_WAITING)
+        end_waiting(unit);
+}
+
+static uint32_t registered(struct unit *unit)
+{
+    uint32_t mask = 0;
+
+    mdl_registered(&unit->disk, &mask);
+    return mask;
+}
+
+/* Executes a command. PREEMPT AND ABORT ends the held commands of initiators that lose their registrations
+ * (SPC-4, 5.13), after the answers that wait. */
+static enum fate execute(struct unit *unit, const struct port *port, const struct chain *chain,
+                         struct answer *answer)
+{
+    struct virtio_scsi_cmd_req request;
+    uint32_t before = 0;
+    enum fate fate;
+    int preempts;
+
+    copy_out(chain, 0, &request, sizeof request);
+    preempts = request.cdb[0] == PERSISTENT_RESERVE_OUT
+               && (request.cdb[1] & SERVICE_ACTION_BITS) == PREEMPT_AND_ABORT;
+    if (preempts) {
+        end_waiting(unit);
+        before = registered(unit);
+    }
+    fate = execute_command(&unit->disk, port->initiator, chain, answer);
+    if (preempts)
+        end_held_of(unit, before & ~registered(unit), VIRTIO_SCSI_S_ABORTED);
+    return fate;
+}
+
+static void serve_request(struct unit *unit, struct port *port, struct queue *queue, uint16_t head)
+{
+    static struct chain chain;
+    enum chain_fault fault = read_chain(port->memory, &queue->ring, head, &chain);
+    struct answer answer;
+
+    if (fault || !is_command(&chain)) {
+        report(port, queue, fault ? (enum guest_fault)fault : GUEST_HEADER_IS_SHORT);
+        refuse(queue, head, &chain);
+        return;
+    }
+    switch (execute(unit, port, &chain, &answer)) {
+    case FATE_ANSWERED: let_out(queue, head, &chain, &answer); break;
+    case FATE_WAITS: wait_for_flush(unit, port, queue, head, &answer); break;
+    case FATE_HELD:
+        if (!hold(unit, port, queue, head, answer.tag)) {
+            end_without_status(&chain, VIRTIO_SCSI_S_BUSY, &answer);
+            let_out(queue, head, &chain, &answer);
+        }
+        break;
+    }
+}
+
+/* Serves at most `most` requests of a queue. Returns 1 if it may have more. */
+static int serve_queue(struct unit *unit, struct port *port, struct queue *queue, unsigned most)
+{
+    uint16_t head;
+
+    for (; most > 0; most--)
+        switch (take_head(queue, &head)) {
+        case TAKEN_NONE: return 0;
+        case TAKEN_BROKEN:
+            queue->is_broken = 1;
+            report(port, queue, GUEST_RING_IS_BROKEN);
+            return 0;
+        case TAKEN_ONE:
+            if (queue->number == CONTROL_QUEUE)
+                serve_control(unit, port, queue, head);
+            else
+                serve_request(unit, port, queue, head);
+        }
+    return 1;
+}
+
+/* Nothing happens that the event queue would report: the guest's buffers stay there. */
+static int may_serve(const struct port *port, const struct queue *queue)
+{
+    return !port->is_paused && queue->is_running && !queue->is_broken && queue->number != EVENT_QUEUE;
+}
+
+void serve_all_requests(struct unit *unit)
+{
+    unsigned at, number;
+    struct port *port;
+
+    for (at = 0; at < unit->port_count; at++) {
+        port = &unit->ports[at];
+        for (number = EVENT_QUEUE + 1; number < MOST_QUEUES; number++)
+            if (may_serve(port, &port->queues[number]))
+                serve_queue(unit, port, &port->queues[number], port->queues[number].ring.size);
+    }
+    end_waiting(unit);
+}
+
+int serve_round(struct unit *unit)
+{
+    unsigned at, number;
+    struct queue *queue;
+    int is_more = 0;
+
+    for (at = 0; at < unit->port_count; at++)
+        for (number = 0; number < MOST_QUEUES; number++) {
+            queue = &unit->ports[at].queues[number];
+            if (!queue->is_pending || !may_serve(&unit->ports[at], queue))
+                continue;
+            queue->is_pending = serve_queue(unit, &unit->ports[at], queue, MOST_IN_A_ROUND);
+            is_more |= queue->is_pending;
+        }
+    end_waiting(unit);
+    return is_more;
+}

@@ -1,0 +1,156 @@
+/* Not proved. Serves a disk to guests of qemu, by vhost-user-scsi.
+ *
+ *     serve [--disk FILE] [--blocks N] [--pool N] [--profile NAME] [--seed N] [--vendor TEXT]
+ *           [--product TEXT] [--revision TEXT] [--serial TEXT] [--local N] SOCKET ..
+ *
+ * Each SOCKET is an initiator of the disk, from 0 on, and serves one guest at a time. The disk is in memory, or
+ * FILE keeps it. Blocks and pool have to be given, unless FILE has a disk. It prints a line for each socket
+ * when it listens, and ends with status 0 on SIGTERM, SIGINT or SIGHUP. A disk in memory is gone then, and one
+ * in a file is all there. The sockets are gone. */
+#include <errno.h>
+#include <poll.h>
+#include <sched.h>
+#include <stdio.h>
+#include <stdlib.h>
+#include <string.h>
+#include <sys/stat.h>
+
+#include <rte_eal.h>
+
+#include "guests.h"
+#include "requests.h"
+#include "serving.h"
+#include "sgio/options.h"
+
+/* How long to wait until guests can be told of used buffers that could not be told at once. */
+enum { MILLISECONDS_TO_CALL = 1 };
+
+static int fail(const char *what, const char *why)
+{
+    fprintf(stderr, "serve: %s: %s\n", what, why);
+    return 1;
+}
+
+/* Moves the sockets out of the words, which are pairs of an option and a value then. Returns null, or what is
+ * wrong. */
+static const char *take_sockets(int *count, char **words, struct unit *unit)
+{
+    int at, kept = 1;
+
+    for (at = 1; at < *count; at++)
+        if (strncmp(words[at], "--", 2) == 0) {
+            words[kept++] = words[at];
+            if (at + 1 < *count)
+                words[kept++] = words[++at];
+        } else if (unit->port_count == MDL_INITIATORS) {
+            return "the disk has no more than 8 initiators";
+        } else {
+            unit->ports[unit->port_count].initiator = unit->port_count;
+            unit->ports[unit->port_count++].path = words[at];
+        }
+    *count = kept;
+    return unit->port_count > 0 ? NULL : "there is no socket";
+}
+
+/* Begins DPDK without huge pages, devices and files, so that every user may. It would keep this thread on one
+ * processor. */
+static int begin_dpdk(void)
+{
+    static char core[32], *words[] = { "serve", "--no-huge", "--no-shconf", "--no-pci", "--no-telemetry",
+                                       "--iova-mode=va", "--log-level=error", core, NULL };
+    cpu_set_t processors;
+    int first = 0, is_begun;
+
+    if (sched_getaffinity(0, sizeof processors, &processors))
+        return 0;
+    while (first < CPU_SETSIZE && !CPU_ISSET(first, &processors))
+        first++;
+    snprintf(core, sizeof core, "--lcores=0@%d", first);
+    is_begun = rte_eal_init(sizeof words / sizeof words[0] - 1, words) >= 0;
+    return sched_setaffinity(0, sizeof processors, &processors) == 0 && is_begun;
+}
+
+/* Serves until a signal, which makes `stop` readable. Returns 0 if poll fails. */
+static int serve(struct guests *guests, int stop)
+{
+    struct pollfd polls[] = { { stop, POLLIN, 0 }, { guests->kicks, POLLIN, 0 } };
+    int is_more = 0, is_told = 1;
+
+    for (;;) {
+        if (poll(polls, 2, is_more ? 0 : is_told ? -1 : MILLISECONDS_TO_CALL) < 0) {
+            if (errno == EINTR)
+                continue;
+            return 0;
+        }
+        if (polls[0].revents)
+            return 1;
+        pthread_mutex_lock(&guests->lock);
+        take_kicks(guests);
+        is_more = serve_round(guests->unit);
+        is_told = call_guests(guests);
+        pthread_mutex_unlock(&guests->lock);
+    }
+}
+
+static int listen_at_all(struct guests *guests)
+{
+    struct unit *unit = guests->unit;
+    struct sockaddr_un address;
+    const char *failed;
+    mode_t kept;
+    unsigned at;
+
+    for (at = 0; at < unit->port_count; at++)
+        if (!claim_path(unit->ports[at].path, &address))
+            return fail(unit->ports[at].path, strerror(errno));
+    kept = umask(077);
+    failed = listen_for_guests(guests);
+    umask(kept);
+    if (failed)
+        return fail(failed, "the socket can't be made");
+    for (at = 0; at < unit->port_count; at++)
+        printf("listens at %s: initiator %u\n", unit->ports[at].path, at);
+    fflush(stdout);
+    return 0;
+}
+
+/* Listens, serves, and clears all away. */
+static int run(struct unit *unit)
+{
+    static struct guests guests;
+    int stop = catch_signals(), is_served;
+
+    if (stop < 0)
+        return fail("signals", strerror(errno));
+    if (!begin_dpdk())
+        return fail("DPDK", "does not begin");
+    if (!begin_guests(&guests, unit))
+        return fail("epoll", strerror(errno));
+    if (listen_at_all(&guests)) {
+        end_guests(&guests);
+        return 1;
+    }
+    is_served = serve(&guests, stop);
+    end_guests(&guests);
+    return is_served ? 0 : fail("poll", "failed");
+}
+
+int main(int count, char **words)
+{
+    static struct unit unit;
+    struct options options;
+    char reason[REASON_LENGTH];
+    const char *word = "SOCKET", *fault = take_sockets(&count, words, &unit);
+    int status;
+
+    if (!fault)
+        fault = read_options(count, words, 0, &options, &word);
+    if (fault)
+        return fail(word, fault);
+    if (!make_disk(&options, &unit.disk, reason))
+        return fail("the disk", reason);
+    status = run(&unit);
+    if (mdl_close(&unit.disk))
+        status = fail(options.disk, "the file may lack a part of what was changed");
+    return status;
+}
