@@ -33,7 +33,7 @@ static int read_guest(struct rte_vhost_memory *memory, uint64_t address, void *b
     for (; length > 0; address += part, to += part, length -= part) {
         part = length;
         from = translate(memory, address, &part);
-        if (!from || part == 0)
+        if (!from)
             return 0;
         read_once(to, from, part);
     }
@@ -72,7 +72,7 @@ static enum chain_fault add_pieces(struct rte_vhost_memory *memory, const struct
             return CHAIN_IS_TOO_LONG;
         part = left;
         bytes = translate(memory, address, &part);
-        if (!bytes || part == 0)
+        if (!bytes)
             return CHAIN_LEAVES_MEMORY;
         chain->pieces[chain->count++] = (struct iovec){ bytes, part };
         *(is_writable ? &chain->in_length : &chain->out_length) += part;
