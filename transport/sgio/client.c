@@ -61,19 +61,21 @@ static enum progress receive_request(struct client *client)
     return WHOLE;
 }
 
-static mdl_error let_happen(mdl_disk *disk, const uint8_t *bytes)
+static mdl_error let_happen(mdl_disk *disk, const mdl_happening *happening, const struct watcher *watcher)
 {
-    mdl_happening happening;
+    mdl_error error = mdl_happen(disk, happening);
 
-    get_happening(bytes, &happening);
-    return mdl_happen(disk, &happening);
+    if (!error && watcher)
+        watcher->happened(watcher->context, happening);
+    return error;
 }
 
 /* Executes a whole request, and leaves its reply to be sent, if it has one. */
-static void execute(struct client *client, mdl_disk *disk)
+static void execute(struct client *client, mdl_disk *disk, const struct watcher *watcher)
 {
     const struct request_header *request = &client->header;
     struct reply_header header;
+    mdl_happening happening = { .kind = MDL_POWER_CYCLE };
     mdl_reply reply;
     const uint8_t *cdb = client->request + REQUEST_HEADER_LENGTH;
 
@@ -82,10 +84,11 @@ static void execute(struct client *client, mdl_disk *disk)
     if (client->is_last)
         header.result = RESULT_MALFORMED;
     else if (request->kind == POWER_CYCLE)
-        header.result = (uint8_t)mdl_power_cycle(disk);
-    else if (request->kind == HAPPENING)
-        header.result = (uint8_t)let_happen(disk, client->request + REQUEST_HEADER_LENGTH);
-    else
+        header.result = (uint8_t)let_happen(disk, &happening, watcher);
+    else if (request->kind == HAPPENING) {
+        get_happening(client->request + REQUEST_HEADER_LENGTH, &happening);
+        header.result = (uint8_t)let_happen(disk, &happening, watcher);
+    } else
         header.result = (uint8_t)mdl_execute(disk, request->initiator, cdb, request->cdb_length,
                                              cdb + request->cdb_length, request->data_out_length,
                                              client->reply + REPLY_HEADER_LENGTH,
@@ -120,7 +123,7 @@ static enum progress send_reply(struct client *client)
 }
 
 /* One request at most, so that a client that sends without a pause keeps no other waiting. */
-int serve_client(struct client *client, mdl_disk *disk)
+int serve_client(struct client *client, mdl_disk *disk, const struct watcher *watcher)
 {
     enum progress progress;
 
@@ -128,7 +131,7 @@ int serve_client(struct client *client, mdl_disk *disk)
         progress = receive_request(client);
         if (progress != WHOLE)
             return progress != GONE;
-        execute(client, disk);
+        execute(client, disk, watcher);
     }
     progress = send_reply(client);
     return progress == TO_COME || (progress == WHOLE && !client->is_last);

@@ -15,6 +15,12 @@ struct client {
     size_t sent, to_send;   /* a reply is on its way if to_send is not 0 */
 };
 
+/* Is told of what clients have let happen to the disk. */
+struct watcher {
+    void (*happened)(void *context, const mdl_happening *happening);
+    void *context;
+};
+
 /* Takes memory for a client. Returns 0 if memory is refused, and then takes none. */
 int open_client(struct client *client, int socket);
 
@@ -22,7 +28,8 @@ int open_client(struct client *client, int socket);
 void close_client(struct client *client);
 
 /* Goes on with a client whose socket is ready: receives, executes what is whole, sends. Returns 0
- * if the client is gone, or if it sent something that is no request and has its reply. */
-int serve_client(struct client *client, mdl_disk *disk);
+ * if the client is gone, or if it sent something that is no request and has its reply. `watcher` may be
+ * null. */
+int serve_client(struct client *client, mdl_disk *disk, const struct watcher *watcher);
 
 #endif

@@ -10,6 +10,9 @@
 /* Sense keys (SPC-4, 4.5.6). */
 enum { RECOVERED_ERROR = 0x1, MISCOMPARE = 0xE };
 
+/* More than the longest transfer that qemu's configuration space allows, 65,535 blocks. */
+enum { LONGEST_DATA_OUT = 32 * 1024 * 1024 };
+
 /* The lengths of the two headers, with a CDB of 32 bytes and sense data of 96. qemu lets no driver change
  * them. */
 enum { REQUEST_LENGTH = sizeof(struct virtio_scsi_cmd_req), RESPONSE_LENGTH = sizeof(struct virtio_scsi_cmd_resp) };
@@ -94,7 +97,7 @@ static enum fate execute_elsewhere(const struct chain *chain, const uint8_t *cdb
 static enum fate execute_on_disk(mdl_disk *disk, uint32_t initiator, const struct chain *chain,
                                  const uint8_t *cdb, struct answer *answer)
 {
-    static uint8_t data_out[MOST_DATA_OUT], data_in[MDL_BUFFER_LENGTH];
+    static uint8_t data_out[LONGEST_DATA_OUT], data_in[MDL_BUFFER_LENGTH];
     size_t out = data_out_length(chain), room = sizeof data_in;
     mdl_reply reply;
     mdl_error error;
@@ -130,7 +133,7 @@ enum fate execute_command(mdl_disk *disk, uint32_t initiator, const struct chain
         end_without_status(chain, VIRTIO_SCSI_S_BAD_TARGET, answer);
         return FATE_ANSWERED;
     }
-    if ((out > 0 && in > 0) || out > MOST_DATA_OUT) {
+    if ((out > 0 && in > 0) || out > LONGEST_DATA_OUT) {
         end_without_status(chain, VIRTIO_SCSI_S_FAILURE, answer);
         return FATE_ANSWERED;
     }

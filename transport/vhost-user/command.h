@@ -7,9 +7,6 @@
 #include "chain.h"
 #include "mehdalung.h"
 
-/* More data-out than the longest transfer that qemu's configuration space allows, 65,535 blocks. */
-enum { MOST_DATA_OUT = 32 * 1024 * 1024 };
-
 struct answer {
     struct virtio_scsi_cmd_resp response;
     uint64_t tag;    /* the identifier of the command */

@@ -4,18 +4,21 @@
 #include <endian.h>
 
 #include "address.h"
+#include "events.h"
 #include "held.h"
 #include "requests.h"
 
 /* virtio's response FUNCTION COMPLETE, for which the header of Linux has no name. */
 enum { FUNCTION_COMPLETE = 0 };
 
-/* Lets a reset or a lost nexus happen to the disk. */
+/* Lets a reset or a lost nexus happen to the disk. Held commands end even if the disk's file fails. */
 static uint8_t happen(struct unit *unit, uint32_t kind, uint32_t initiator)
 {
     mdl_happening happening = { .kind = kind, .initiator = initiator };
+    mdl_error error = mdl_happen(&unit->disk, &happening);
 
-    return mdl_happen(&unit->disk, &happening) ? VIRTIO_SCSI_S_TARGET_FAILURE : FUNCTION_COMPLETE;
+    note_happening(unit, &happening);
+    return error ? VIRTIO_SCSI_S_TARGET_FAILURE : FUNCTION_COMPLETE;
 }
 
 /* A task management function of SAM-5, section 7. Only held commands have not ended before it. The disk has
@@ -26,7 +29,6 @@ static uint8_t perform(struct unit *unit, const struct port *port,
     enum address address = read_address(request->lun);
     uint32_t function = le32toh(request->subtype);
     uint64_t tag = le64toh(request->tag);
-    uint8_t response = FUNCTION_COMPLETE;
 
     /* This one addresses the target, whatever the logical unit is. */
     if (function == VIRTIO_SCSI_T_TMF_I_T_NEXUS_RESET && address == ADDRESS_OTHER_UNIT)
@@ -36,24 +38,17 @@ static uint8_t perform(struct unit *unit, const struct port *port,
     switch (function) {
     case VIRTIO_SCSI_T_TMF_ABORT_TASK:
         end_held(unit, port, &tag, VIRTIO_SCSI_S_ABORTED);
-        break;
+        return FUNCTION_COMPLETE;
     case VIRTIO_SCSI_T_TMF_ABORT_TASK_SET:
         end_held(unit, port, ANY_TAG, VIRTIO_SCSI_S_ABORTED);
-        break;
+        return FUNCTION_COMPLETE;
     case VIRTIO_SCSI_T_TMF_CLEAR_TASK_SET:
         end_held(unit, ANY_PORT, ANY_TAG, VIRTIO_SCSI_S_ABORTED);
-        break;
-    case VIRTIO_SCSI_T_TMF_I_T_NEXUS_RESET:
-        response = happen(unit, MDL_NEXUS_LOSS, port->initiator);
-        end_held(unit, port, ANY_TAG, VIRTIO_SCSI_S_RESET);
-        break;
-    case VIRTIO_SCSI_T_TMF_LOGICAL_UNIT_RESET:
-        response = happen(unit, MDL_LOGICAL_UNIT_RESET, 0);
-        end_held(unit, ANY_PORT, ANY_TAG, VIRTIO_SCSI_S_RESET);
-        break;
+        return FUNCTION_COMPLETE;
+    case VIRTIO_SCSI_T_TMF_I_T_NEXUS_RESET: return happen(unit, MDL_NEXUS_LOSS, port->initiator);
+    case VIRTIO_SCSI_T_TMF_LOGICAL_UNIT_RESET: return happen(unit, MDL_LOGICAL_UNIT_RESET, 0);
     default: return VIRTIO_SCSI_S_FUNCTION_REJECTED;
     }
-    return response;
 }
 
 /* Each request ends before the response of a function that may end it. */

@@ -13,11 +13,11 @@
 
 #include "held.h"
 
-/* Queues in indirect descriptors of any layout, and nothing else of virtio. VIRTIO_SCSI_F_INOUT is not there,
- * because the disk has no bidirectional command. */
-static const uint64_t features = 1ULL << VIRTIO_SCSI_F_CHANGE | 1ULL << VIRTIO_F_VERSION_1 | 1ULL << VIRTIO_F_ANY_LAYOUT |
-                                 1ULL << VIRTIO_RING_F_INDIRECT_DESC |
-                                 1ULL << VHOST_USER_F_PROTOCOL_FEATURES;
+/* Linux gives the device no buffer for events without VIRTIO_SCSI_F_HOTPLUG, though nothing is ever plugged.
+ * VIRTIO_SCSI_F_INOUT is not here, because the disk has no bidirectional command. */
+static const uint64_t features = 1ULL << VIRTIO_SCSI_F_HOTPLUG | 1ULL << VIRTIO_SCSI_F_CHANGE |
+                                 1ULL << VIRTIO_F_VERSION_1 | 1ULL << VIRTIO_F_ANY_LAYOUT |
+                                 1ULL << VIRTIO_RING_F_INDIRECT_DESC | 1ULL << VHOST_USER_F_PROTOCOL_FEATURES;
 static const uint64_t protocol_features = 1ULL << VHOST_USER_PROTOCOL_F_MQ |
                                           1ULL << VHOST_USER_PROTOCOL_F_REPLY_ACK;
 
@@ -124,8 +124,11 @@ static void pause_port(const struct guests *guests, struct port *port)
 
 static void resume_port(struct guests *guests, struct port *port)
 {
+    uint64_t negotiated = 0;
     unsigned number;
 
+    rte_vhost_get_negotiated_features(port->guest, &negotiated);
+    port->takes_events = negotiated >> VIRTIO_SCSI_F_CHANGE & 1;
     if (!port->has_memory || rte_vhost_get_mem_table(port->guest, &port->memory))
         port->memory = NULL;
     port->is_paused = 0;
@@ -228,6 +231,7 @@ static void leave_port(const struct guests *guests, struct port *port)
     for (number = 0; number < MOST_QUEUES; number++)
         port->queues[number] = (struct queue){ .number = (uint16_t)number };
     port->guest = NO_GUEST;
+    port->takes_events = port->owes_event = 0;
 }
 
 /* A guest that goes away is a lost I_T nexus (SAM-5, 6.3). */

@@ -6,6 +6,7 @@
 #include <string.h>
 
 #include "control.h"
+#include "events.h"
 #include "held.h"
 
 /* No queue keeps the others waiting for longer than this many requests take. */
@@ -138,31 +139,36 @@ static void serve_request(struct unit *unit, struct port *port, struct queue *qu
     }
 }
 
+int may_use(const struct port *port, const struct queue *queue)
+{
+    return !port->is_paused && queue->is_running && !queue->is_broken;
+}
+
+int take_from(struct port *port, struct queue *queue, uint16_t *head)
+{
+    enum taken taken = take_head(queue, head);
+
+    if (taken == TAKEN_BROKEN) {
+        queue->is_broken = 1;
+        report(port, queue, GUEST_RING_IS_BROKEN);
+    }
+    return taken == TAKEN_ONE;
+}
+
 /* Serves at most `most` requests of a queue. Returns 1 if it may have more. */
 static int serve_queue(struct unit *unit, struct port *port, struct queue *queue, unsigned most)
 {
     uint16_t head;
 
-    for (; most > 0; most--)
-        switch (take_head(queue, &head)) {
-        case TAKEN_NONE: return 0;
-        case TAKEN_BROKEN:
-            queue->is_broken = 1;
-            report(port, queue, GUEST_RING_IS_BROKEN);
+    for (; most > 0; most--) {
+        if (!take_from(port, queue, &head))
             return 0;
-        case TAKEN_ONE:
-            if (queue->number == CONTROL_QUEUE)
-                serve_control(unit, port, queue, head);
-            else
-                serve_request(unit, port, queue, head);
-        }
+        if (queue->number == CONTROL_QUEUE)
+            serve_control(unit, port, queue, head);
+        else
+            serve_request(unit, port, queue, head);
+    }
     return 1;
-}
-
-/* Nothing happens that the event queue would report: the guest's buffers stay there. */
-static int may_serve(const struct port *port, const struct queue *queue)
-{
-    return !port->is_paused && queue->is_running && !queue->is_broken && queue->number != EVENT_QUEUE;
 }
 
 void serve_all_requests(struct unit *unit)
@@ -173,26 +179,35 @@ void serve_all_requests(struct unit *unit)
     for (at = 0; at < unit->port_count; at++) {
         port = &unit->ports[at];
         for (number = EVENT_QUEUE + 1; number < MOST_QUEUES; number++)
-            if (may_serve(port, &port->queues[number]))
+            if (may_use(port, &port->queues[number]))
                 serve_queue(unit, port, &port->queues[number], port->queues[number].ring.size);
     }
     end_waiting(unit);
 }
 
+/* The event queue has the guest's buffers, and no requests. */
+static int serve_port(struct unit *unit, struct port *port)
+{
+    struct queue *queue = port->queues, *end = queue + MOST_QUEUES;
+    int is_more = 0;
+
+    deliver_event(port);
+    for (; queue < end; queue++) {
+        if (!queue->is_pending || !may_use(port, queue) || queue->number == EVENT_QUEUE)
+            continue;
+        queue->is_pending = serve_queue(unit, port, queue, MOST_IN_A_ROUND);
+        is_more |= queue->is_pending;
+    }
+    return is_more;
+}
+
 int serve_round(struct unit *unit)
 {
-    unsigned at, number;
-    struct queue *queue;
+    unsigned at;
     int is_more = 0;
 
     for (at = 0; at < unit->port_count; at++)
-        for (number = 0; number < MOST_QUEUES; number++) {
-            queue = &unit->ports[at].queues[number];
-            if (!queue->is_pending || !may_serve(&unit->ports[at], queue))
-                continue;
-            queue->is_pending = serve_queue(unit, &unit->ports[at], queue, MOST_IN_A_ROUND);
-            is_more |= queue->is_pending;
-        }
+        is_more |= serve_port(unit, &unit->ports[at]);
     end_waiting(unit);
     return is_more;
 }

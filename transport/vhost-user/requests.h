@@ -15,6 +15,13 @@ void serve_all_requests(struct unit *unit);
 /* Flushes the disk's file, and lets the answers out that wait for it. */
 void end_waiting(struct unit *unit);
 
+/* Returns 1 if a queue may be looked at now. */
+int may_use(const struct port *port, const struct queue *queue);
+
+/* Takes the next chain of a queue. Returns 0 if there is none. If the guest has broken the ring, the queue
+ * stops. */
+int take_from(struct port *port, struct queue *queue, uint16_t *head);
+
 /* Says on standard error what a guest does wrong, once for a connection. */
 void report(struct port *port, const struct queue *queue, enum guest_fault fault);
 

@@ -1,12 +1,13 @@
 /* Not proved. Serves a disk to guests of qemu, by vhost-user-scsi.
  *
  *     serve [--disk FILE] [--blocks N] [--pool N] [--profile NAME] [--seed N] [--vendor TEXT]
- *           [--product TEXT] [--revision TEXT] [--serial TEXT] [--local N] SOCKET ..
+ *           [--product TEXT] [--revision TEXT] [--serial TEXT] [--local N] [--socket PATH] SOCKET ..
  *
- * Each SOCKET is an initiator of the disk, from 0 on, and serves one guest at a time. The disk is in memory, or
- * FILE keeps it. Blocks and pool have to be given, unless FILE has a disk. It prints a line for each socket
- * when it listens, and ends with status 0 on SIGTERM, SIGINT or SIGHUP. A disk in memory is gone then, and one
- * in a file is all there. The sockets are gone. */
+ * Each SOCKET is an initiator of the disk, from 0 on, and serves one guest at a time. PATH is a socket for
+ * `happen`, `power` and `join` of transport/sgio. The disk is in memory, or FILE keeps it. Blocks and pool have
+ * to be given, unless FILE has a disk. It prints a line for each socket when it listens, and ends with status
+ * 0 on SIGTERM, SIGINT or SIGHUP. A disk in memory is gone then, and one in a file is all there. The sockets
+ * are gone. */
 #include <errno.h>
 #include <poll.h>
 #include <sched.h>
@@ -17,9 +18,11 @@
 
 #include <rte_eal.h>
 
+#include "events.h"
 #include "guests.h"
 #include "requests.h"
 #include "serving.h"
+#include "sgio/clients.h"
 #include "sgio/options.h"
 
 /* How long to wait until guests can be told of used buffers that could not be told at once. */
@@ -70,21 +73,31 @@ static int begin_dpdk(void)
     return sched_setaffinity(0, sizeof processors, &processors) == 0 && is_begun;
 }
 
-/* Serves until a signal, which makes `stop` readable. Returns 0 if poll fails. */
-static int serve(struct guests *guests, int stop)
+/* What happens by a client of transport/sgio. */
+static void note(void *unit, const mdl_happening *happening)
 {
-    struct pollfd polls[] = { { stop, POLLIN, 0 }, { guests->kicks, POLLIN, 0 } };
+    note_happening(unit, happening);
+}
+
+/* Serves until a signal, which makes `stop` readable. Returns 0 if poll fails. */
+static int serve(struct guests *guests, struct clients *clients, int stop)
+{
+    struct pollfd polls[CLIENT_POLLS + 2];
     int is_more = 0, is_told = 1;
 
     for (;;) {
-        if (poll(polls, 2, is_more ? 0 : is_told ? -1 : MILLISECONDS_TO_CALL) < 0) {
+        set_client_polls(clients, polls);
+        polls[CLIENT_POLLS] = (struct pollfd){ stop, POLLIN, 0 };
+        polls[CLIENT_POLLS + 1] = (struct pollfd){ guests->kicks, POLLIN, 0 };
+        if (poll(polls, CLIENT_POLLS + 2, is_more ? 0 : is_told ? -1 : MILLISECONDS_TO_CALL) < 0) {
             if (errno == EINTR)
                 continue;
             return 0;
         }
-        if (polls[0].revents)
+        if (polls[CLIENT_POLLS].revents)
             return 1;
         pthread_mutex_lock(&guests->lock);
+        serve_clients(clients, polls, &guests->unit->disk);
         take_kicks(guests);
         is_more = serve_round(guests->unit);
         is_told = call_guests(guests);
@@ -114,11 +127,28 @@ static int listen_at_all(struct guests *guests)
     return 0;
 }
 
+/* Without a path there are no clients. */
+static int listen_for_clients(struct clients *clients, struct unit *unit, const char *path)
+{
+    static struct watcher watcher;
+
+    watcher = (struct watcher){ note, unit };
+    if (!path)
+        no_clients(clients);
+    else if (open_clients(clients, path))
+        printf("listens at %s: transport/sgio\n", path);
+    else
+        return fail(path, strerror(errno));
+    clients->watcher = &watcher;
+    return 0;
+}
+
 /* Listens, serves, and clears all away. */
-static int run(struct unit *unit)
+static int run(struct unit *unit, const char *path)
 {
     static struct guests guests;
-    int stop = catch_signals(), is_served;
+    static struct clients clients;
+    int stop = catch_signals(), is_served = 0;
 
     if (stop < 0)
         return fail("signals", strerror(errno));
@@ -126,13 +156,16 @@ static int run(struct unit *unit)
         return fail("DPDK", "does not begin");
     if (!begin_guests(&guests, unit))
         return fail("epoll", strerror(errno));
-    if (listen_at_all(&guests)) {
-        end_guests(&guests);
+    if (listen_for_clients(&clients, unit, path))
         return 1;
+    if (!listen_at_all(&guests)) {
+        is_served = serve(&guests, &clients, stop);
+        if (!is_served)
+            fail("poll", "failed");
     }
-    is_served = serve(&guests, stop);
     end_guests(&guests);
-    return is_served ? 0 : fail("poll", "failed");
+    close_clients(&clients);
+    return !is_served;
 }
 
 int main(int count, char **words)
@@ -149,7 +182,7 @@ int main(int count, char **words)
         return fail(word, fault);
     if (!make_disk(&options, &unit.disk, reason))
         return fail("the disk", reason);
-    status = run(&unit);
+    status = run(&unit, options.socket);
     if (mdl_close(&unit.disk))
         status = fail(options.disk, "the file may lack a part of what was changed");
     return status;

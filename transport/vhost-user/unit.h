@@ -27,6 +27,8 @@ struct port {
     int guest;          /* rte_vhost's number of the connection, or NO_GUEST */
     int is_paused;      /* the front end changes queues or memory now */
     int has_memory;     /* the front end has shared the guest's memory */
+    int takes_events;   /* the guest has negotiated VIRTIO_SCSI_F_CHANGE */
+    int owes_event;     /* the disk has grown, and the guest has not been told */
     unsigned reported;  /* a bit for each guest_fault that was reported */
     struct rte_vhost_memory *memory; /* the guest's, or null */
     struct queue queues[MOST_QUEUES];

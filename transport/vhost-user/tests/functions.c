@@ -3,6 +3,7 @@
 #include <string.h>
 
 #include "driver.h"
+#include "events.h"
 #include "held.h"
 #include "requests.h"
 #include "stub.h"
@@ -292,6 +293,61 @@ static void answers_wait_for_a_flush(void)
              response_to((unsigned)tag, 1)->sense[12] == 0x44);
 }
 
+/* Lets something happen to the disk that no guest asks for. */
+static void happens(uint32_t kind, uint32_t initiator)
+{
+    note_happening(&unit, &(mdl_happening){ .kind = kind, .initiator = initiator });
+    serve_all();
+}
+
+/* Held commands end by what ends commands, and by nothing else (SAM-5, 6.3). */
+static void happenings_end_held_commands(void)
+{
+    static const uint32_t resets[] = { MDL_POWER_CYCLE, MDL_LOGICAL_UNIT_RESET, MDL_TARGET_RESET };
+    static const uint32_t others[] = { MDL_ATTENTION, MDL_GROW, MDL_ARM, MDL_DISARM, MDL_DISARM_ALL };
+    unsigned it;
+
+    for (it = 0; it < 3; it++) {
+        hold_three();
+        happens(resets[it], 0);
+        WANT(has_ended(0, 2, VIRTIO_SCSI_S_RESET) && has_ended(0, 1, VIRTIO_SCSI_S_RESET));
+        WANT(has_ended(1, 1, VIRTIO_SCSI_S_RESET));
+    }
+    hold_three();
+    for (it = 0; it < 5; it++)
+        happens(others[it], 0);
+    WANT(nothing_has_ended(0) && nothing_has_ended(1));
+    happens(MDL_NEXUS_LOSS, 1);
+    WANT(nothing_has_ended(0) && has_ended(1, 1, VIRTIO_SCSI_S_RESET));
+    happens(MDL_NEXUS_LOSS, 0);
+    WANT(has_ended(0, 2, VIRTIO_SCSI_S_RESET) && has_ended(0, 1, VIRTIO_SCSI_S_RESET));
+}
+
+/* Growth is an event for each guest that takes events, once and as soon as it has a buffer. */
+static void growth_is_an_event(void)
+{
+    const struct element small = { REGION_2, sizeof(struct virtio_scsi_event) - 1, IN };
+    const struct element buffer = { REGION_2, sizeof(struct virtio_scsi_event), IN };
+    static const uint8_t event[] = { 3, 0, 0, 0, 1, 0, 0, 0, 0, 0, 0, 0, 0x2A, 0x09, 0, 0 };
+    uint32_t first, length;
+
+    unit.ports[1].takes_events = 1;
+    offer_chain(0, EVENT_QUEUE, 0, &buffer, 1);
+    happens(MDL_LOGICAL_UNIT_RESET, 0);
+    happens(MDL_GROW, 0);
+    WANT(!take_used(0, EVENT_QUEUE, &first, &length) && !take_used(1, EVENT_QUEUE, &first, &length));
+    offer_chain(1, EVENT_QUEUE, 3, &small, 1);
+    offer_chain(1, EVENT_QUEUE, 4, &buffer, 1);
+    offer_chain(1, EVENT_QUEUE, 5, &buffer, 1);
+    serve_all();
+    WANT(take_used(1, EVENT_QUEUE, &first, &length) && first == 3 && length == 0);
+    WANT(unit.ports[1].reported == 1u << GUEST_HEADER_IS_SHORT);
+    WANT(take_used(1, EVENT_QUEUE, &first, &length) && first == 4 && length == sizeof event);
+    WANT(memcmp(at(1, REGION_2), event, sizeof event) == 0);
+    serve_all();
+    WANT(!take_used(1, EVENT_QUEUE, &first, &length));
+}
+
 /* No more than MOST_WAITING answers wait at a time, and each comes once. */
 static void many_answers_wait(void)
 {
@@ -323,6 +379,7 @@ void test_functions(void)
         functions_are_complete, functions_have_an_address, held_commands_end, preempted_commands_end,
         held_commands_wait_for_their_queue, held_commands_are_few, commands_end_before_functions,
         no_event_is_reported, unknown_requests_fail, answers_wait_for_a_flush, many_answers_wait,
+        happenings_end_held_commands, growth_is_an_event,
     };
     unsigned it;
 
