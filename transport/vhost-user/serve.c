@@ -15,6 +15,7 @@
 #include <stdlib.h>
 #include <string.h>
 #include <sys/stat.h>
+#include <unistd.h>
 
 #include <rte_eal.h>
 
@@ -55,8 +56,27 @@ static const char *take_sockets(int *count, char **words, struct unit *unit)
     return unit->port_count > 0 ? NULL : "there is no socket";
 }
 
-/* Begins DPDK without huge pages, devices and files, so that every user may. It would keep this thread on one
- * processor. */
+/* DPDK wants a folder, into which it puts nothing here. With its own choice two users would be in the way of
+ * one another. */
+static int begin_in_folder(int count, char **words)
+{
+    static const char *const made[] = { "/dpdk/rte", "/dpdk", "" };
+    char folder[] = "/tmp/mehdalung-XXXXXX", path[sizeof folder + sizeof "/dpdk/rte"];
+    int is_begun;
+    unsigned at;
+
+    if (!mkdtemp(folder) || setenv("RUNTIME_DIRECTORY", folder, 1))
+        return 0;
+    is_begun = rte_eal_init(count, words) >= 0;
+    for (at = 0; at < sizeof made / sizeof made[0]; at++) {
+        snprintf(path, sizeof path, "%s%s", folder, made[at]);
+        rmdir(path);
+    }
+    return is_begun;
+}
+
+/* Begins DPDK without huge pages, devices and shared files, so that every user may. It would keep this thread on
+ * one processor. */
 static int begin_dpdk(void)
 {
     static char core[32], *words[] = { "serve", "--no-huge", "--no-shconf", "--no-pci", "--no-telemetry",
@@ -69,7 +89,7 @@ static int begin_dpdk(void)
     while (first < CPU_SETSIZE && !CPU_ISSET(first, &processors))
         first++;
     snprintf(core, sizeof core, "--lcores=0@%d", first);
-    is_begun = rte_eal_init(sizeof words / sizeof words[0] - 1, words) >= 0;
+    is_begun = begin_in_folder(sizeof words / sizeof words[0] - 1, words);
     return sched_setaffinity(0, sizeof processors, &processors) == 0 && is_begun;
 }
 
