@@ -98,6 +98,8 @@ static void run_queue(struct guests *guests, struct port *port, struct queue *qu
     if (!watch(guests->kicks, queue->ring.kickfd, (uint16_t)(port - guests->unit->ports), queue->number))
         return;
     queue->is_running = queue->is_pending = 1;
+    if (port->queue_count <= queue->number)
+        port->queue_count = queue->number + 1u;
     eventfd_write(guests->news, 1);
 }
 
@@ -115,7 +117,7 @@ static void pause_port(const struct guests *guests, struct port *port)
 {
     unsigned number;
 
-    for (number = 0; number < MOST_QUEUES; number++)
+    for (number = 0; number < port->queue_count; number++)
         stop_queue(guests, port, &port->queues[number]);
     free(port->memory);
     port->memory = NULL;
@@ -232,6 +234,7 @@ static void leave_port(const struct guests *guests, struct port *port)
         port->queues[number] = (struct queue){ .number = (uint16_t)number };
     port->guest = NO_GUEST;
     port->takes_events = port->owes_event = 0;
+    port->queue_count = 0;
 }
 
 /* A guest that goes away is a lost I_T nexus (SAM-5, 6.3). */
@@ -302,7 +305,7 @@ int call_guests(struct guests *guests)
     int is_done = 1;
 
     for (at = 0; at < unit->port_count; at++)
-        for (number = 0; number < MOST_QUEUES; number++) {
+        for (number = 0; number < unit->ports[at].queue_count; number++) {
             queue = &unit->ports[at].queues[number];
             if (!queue->owes_call || !queue->is_running)
                 continue;

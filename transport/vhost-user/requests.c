@@ -178,7 +178,7 @@ void serve_all_requests(struct unit *unit)
 
     for (at = 0; at < unit->port_count; at++) {
         port = &unit->ports[at];
-        for (number = EVENT_QUEUE + 1; number < MOST_QUEUES; number++)
+        for (number = EVENT_QUEUE + 1; number < port->queue_count; number++)
             if (may_use(port, &port->queues[number]))
                 serve_queue(unit, port, &port->queues[number], port->queues[number].ring.size);
     }
@@ -188,7 +188,7 @@ void serve_all_requests(struct unit *unit)
 /* The event queue has the guest's buffers, and no requests. */
 static int serve_port(struct unit *unit, struct port *port)
 {
-    struct queue *queue = port->queues, *end = queue + MOST_QUEUES;
+    struct queue *queue = port->queues, *end = queue + port->queue_count;
     int is_more = 0;
 
     deliver_event(port);

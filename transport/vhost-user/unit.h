@@ -31,6 +31,7 @@ struct port {
     int owes_event;     /* the disk has grown, and the guest has not been told */
     unsigned reported;  /* a bit for each guest_fault that was reported */
     struct rte_vhost_memory *memory; /* the guest's, or null */
+    unsigned queue_count;            /* no queue from this number on has run for this guest */
     struct queue queues[MOST_QUEUES];
 };
 

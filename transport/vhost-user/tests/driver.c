@@ -70,6 +70,7 @@ void begin_guests_of_two_ports(void)
         unit.ports[port].path = paths[port];
         unit.ports[port].initiator = port;
         unit.ports[port].memory = make_memory();
+        unit.ports[port].queue_count = QUEUES;
         for (number = 0; number < MOST_QUEUES; number++)
             unit.ports[port].queues[number].number = (uint16_t)number;
         for (number = 0; number < QUEUES; number++)
