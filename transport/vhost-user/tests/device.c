@@ -10,6 +10,7 @@ int main(int count, char **words)
     test_commands();
     test_broken_guests();
     test_functions();
+    test_front_ends();
     test_random_guests(count > 1 ? (unsigned)strtoul(words[1], NULL, 10) : 0);
     printf("%lu checks\n", checks);
     return 0;

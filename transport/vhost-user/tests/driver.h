@@ -76,6 +76,7 @@ void serve_all(void);
 void test_commands(void);
 void test_broken_guests(void);
 void test_functions(void);
+void test_front_ends(void);
 void test_random_guests(unsigned rounds);
 
 #endif
