@@ -15,7 +15,10 @@ enum { LONGEST_DATA_OUT = 32 * 1024 * 1024 };
 
 /* The lengths of the two headers, with a CDB of 32 bytes and sense data of 96. qemu lets no driver change
  * them. */
-enum { REQUEST_LENGTH = sizeof(struct virtio_scsi_cmd_req), RESPONSE_LENGTH = sizeof(struct virtio_scsi_cmd_resp) };
+enum {
+    REQUEST_LENGTH = sizeof(struct virtio_scsi_cmd_req),
+    RESPONSE_LENGTH = sizeof(struct virtio_scsi_cmd_resp)
+};
 
 _Static_assert(REQUEST_LENGTH == 51 && RESPONSE_LENGTH == 108, "virtio 1.2, 5.6.6.1");
 _Static_assert(MDL_SENSE_LENGTH <= VIRTIO_SCSI_SENSE_SIZE, "sense data has room");
@@ -101,6 +104,7 @@ static enum fate execute_on_disk(mdl_disk *disk, uint32_t initiator, const struc
     size_t out = data_out_length(chain), room = sizeof data_in;
     mdl_reply reply;
     mdl_error error;
+    uint8_t response;
 
     if (room > data_in_length(chain))
         room = data_in_length(chain);
@@ -108,8 +112,8 @@ static enum fate execute_on_disk(mdl_disk *disk, uint32_t initiator, const struc
     error = mdl_execute_unflushed(disk, initiator, cdb, VIRTIO_SCSI_CDB_SIZE, data_out, out, data_in, room,
                                   &reply);
     if (error && error != MDL_FLUSH_OWED) {
-        end_without_status(chain, error == MDL_BUFFER_TOO_SHORT ? VIRTIO_SCSI_S_OVERRUN : VIRTIO_SCSI_S_FAILURE,
-                           answer);
+        response = error == MDL_BUFFER_TOO_SHORT ? VIRTIO_SCSI_S_OVERRUN : VIRTIO_SCSI_S_FAILURE;
+        end_without_status(chain, response, answer);
         return FATE_ANSWERED;
     }
     if (reply.status == MDL_NO_REPLY)

@@ -31,8 +31,8 @@ void note_happening(struct unit *unit, const mdl_happening *happening)
     }
 }
 
-/* Writes the event into a buffer of the guest. Returns 0 if it does not fit in there. Linux knows LUN 0 only in
- * the form of peripheral device addressing here (virtscsi_handle_param_change). */
+/* Writes the event into a buffer of the guest. Returns 0 if it does not fit in there. Linux knows LUN 0 only
+ * in the form of peripheral device addressing here (virtscsi_handle_param_change). */
 static int write_event(struct port *port, struct queue *queue, uint16_t head)
 {
     static struct chain chain;

@@ -81,16 +81,18 @@ static int is_usable(const struct rte_vhost_memory *memory, const struct rte_vho
 {
     uint64_t size = ring->size;
 
-    return size > 0 && (size & (size - 1)) == 0 && ring->kickfd >= 0 && ring->desc && ring->avail && ring->used &&
+    return size > 0 && (size & (size - 1)) == 0 &&
            is_mapped(memory, ring->desc, size * sizeof(struct vring_desc), 16) &&
            is_mapped(memory, ring->avail, sizeof(struct vring_avail) + size * sizeof(uint16_t), 2) &&
-           is_mapped(memory, ring->used, sizeof(struct vring_used) + size * sizeof(struct vring_used_elem), 4);
+           is_mapped(memory, ring->used,
+                     sizeof(struct vring_used) + size * sizeof(struct vring_used_elem), 4);
 }
 
-/* Lets a queue run that the front end has started. librte_vhost has its indexes meanwhile. */
+/* Lets a queue run that the front end has started. librte_vhost has had its indexes until now. A paused port
+ * has no memory. */
 static void run_queue(struct guests *guests, struct port *port, struct queue *queue)
 {
-    if (port->is_paused || !port->memory || !queue->is_ready || queue->is_running ||
+    if (!port->memory || !queue->is_ready || queue->is_running ||
         rte_vhost_get_vhost_vring(port->guest, queue->number, &queue->ring) ||
         !is_usable(port->memory, &queue->ring) ||
         rte_vhost_get_vring_base(port->guest, queue->number, &queue->next_avail, &queue->next_used))

@@ -10,7 +10,7 @@
 struct guests {
     pthread_mutex_t lock; /* of everything here, and of the unit */
     struct unit *unit;
-    int kicks;            /* an epoll of the queues' eventfds, which is readable if there is something to do */
+    int kicks;            /* an epoll of the queues' eventfds, readable if there is something to do */
     int news;             /* an eventfd in it: a queue has begun to run */
 };
 

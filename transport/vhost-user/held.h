@@ -1,5 +1,5 @@
-/* Not proved. Commands that never get a reply, because a fault is armed (MDL_NO_REPLY). Their descriptors stay
- * with the device until something ends them. */
+/* Not proved. Commands that never get a reply, because a fault is armed (MDL_NO_REPLY). Their descriptors
+ * stay with the device until something ends them. */
 #ifndef HELD_H
 #define HELD_H
 

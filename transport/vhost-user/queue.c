@@ -23,8 +23,9 @@ enum taken take_head(struct queue *queue, uint16_t *head)
 void put_used(struct queue *queue, uint16_t head, uint32_t length)
 {
     struct vring_used *used = queue->ring.used;
+    const struct vring_used_elem element = { htole32(head), htole32(length) };
 
-    used->ring[queue->next_used % queue->ring.size] = (struct vring_used_elem){ htole32(head), htole32(length) };
+    used->ring[queue->next_used % queue->ring.size] = element;
     queue->next_used++;
     __atomic_store_n(&used->idx, htole16(queue->next_used), __ATOMIC_RELEASE);
     queue->owes_call = 1;

@@ -48,7 +48,8 @@ static void refuse(struct queue *queue, uint16_t head, const struct chain *chain
     put_used(queue, head, length);
 }
 
-static void let_out(struct queue *queue, uint16_t head, const struct chain *chain, const struct answer *answer)
+static void let_out(struct queue *queue, uint16_t head, const struct chain *chain,
+                    const struct answer *answer)
 {
     copy_in(chain, 0, &answer->response, sizeof answer->response);
     put_used(queue, head, answer->length);

@@ -4,10 +4,10 @@
  *           [--product TEXT] [--revision TEXT] [--serial TEXT] [--local N] [--socket PATH] SOCKET ..
  *
  * Each SOCKET is an initiator of the disk, from 0 on, and serves one guest at a time. PATH is a socket for
- * `happen`, `power` and `join` of transport/sgio. The disk is in memory, or FILE keeps it. Blocks and pool have
- * to be given, unless FILE has a disk. It prints a line for each socket when it listens, and ends with status
- * 0 on SIGTERM, SIGINT or SIGHUP. A disk in memory is gone then, and one in a file is all there. The sockets
- * are gone. */
+ * `happen`, `power` and `join` of transport/sgio. The disk is in memory, or FILE keeps it. Blocks and
+ * pool have to be given, unless FILE has a disk. It prints a line for each socket when it listens, and
+ * ends with status 0 on SIGTERM, SIGINT or SIGHUP. A disk in memory is gone then, and one in a file is
+ * all there. The sockets are gone. */
 #include <errno.h>
 #include <poll.h>
 #include <sched.h>
@@ -75,8 +75,8 @@ static int begin_in_folder(int count, char **words)
     return is_begun;
 }
 
-/* Begins DPDK without huge pages, devices and shared files, so that every user may. It would keep this thread on
- * one processor. */
+/* Begins DPDK without huge pages, devices and shared files, so that every user may. It would keep this
+ * thread on one processor. */
 static int begin_dpdk(void)
 {
     static char core[32], *words[] = { "serve", "--no-huge", "--no-shconf", "--no-pci", "--no-telemetry",

@@ -35,7 +35,7 @@ struct port {
     struct queue queues[MOST_QUEUES];
 };
 
-/* A command that the disk never replies to. It ends by a task management function, a reset or a lost nexus. */
+/* A command that the disk never replies to. Task management, a reset or a lost nexus ends it. */
 struct held {
     struct held *next;
     struct port *port;

@@ -1,5 +1,6 @@
 /* Not proved. What a guest gets for chains and rings that no driver makes (virtio 1.2, 2.7): nothing is
- * executed, each chain comes back, and no byte of its memory changes except those that the device may write. */
+ * executed, each chain comes back, and no byte of its memory changes except those that the device may
+ * write. */
 #include <string.h>
 
 #include "driver.h"
@@ -39,7 +40,8 @@ static uint32_t serve_elements(const struct element *elements, unsigned count, e
 static void headers_are_short(void)
 {
     const struct element shorter = { REQUEST, HEADER - 1, OUT };
-    const struct { uint32_t room, written; } rooms[] = { { 0, 0 }, { 1, 0 }, { 11, 0 }, { 12, 12 }, { 107, 107 } };
+    const struct { uint32_t room, written; } rooms[] = { { 0, 0 }, { 1, 0 }, { 11, 0 }, { 12, 12 },
+                                                         { 107, 107 } };
     const struct element of_request[] = { shorter, answer }, only_answer[] = { answer };
     struct element of_answer[] = { header, answer };
     unsigned it;
@@ -58,7 +60,8 @@ static void addresses_are_outside(void)
 {
     const struct element places[] = {
         { 0, 512, IN }, { REGION_0 - 1, 512, IN }, { HOLE, 1, IN }, { REGION_2 + REGION_2_LENGTH, 1, IN },
-        { UINT64_MAX, 512, IN }, { UINT64_MAX - 511, 512, IN }, { HOLE - 1, 2, IN }, { HOLE - 11, UINT32_MAX, IN },
+        { UINT64_MAX, 512, IN }, { UINT64_MAX - 511, 512, IN }, { HOLE - 1, 2, IN },
+        { HOLE - 11, UINT32_MAX, IN },
     };
     struct element elements[] = { header, answer, header };
     unsigned it;

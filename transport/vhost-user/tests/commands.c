@@ -5,9 +5,10 @@
 #include "driver.h"
 #include "stub.h"
 
-enum { HEADER = sizeof(struct virtio_scsi_cmd_req), ANSWER = sizeof(struct virtio_scsi_cmd_resp), BLOCK = 512 };
+enum { HEADER = sizeof(struct virtio_scsi_cmd_req), ANSWER = sizeof(struct virtio_scsi_cmd_resp) };
 
-static const uint8_t test_unit_ready[6], read_10[10] = { 0x28, [5] = 7, [8] = 2 }, write_10[10] = { 0x2A, [8] = 2 };
+static const uint8_t test_unit_ready[6], read_10[10] = { 0x28, [5] = 7, [8] = 2 };
+static const uint8_t write_10[10] = { 0x2A, [8] = 2 };
 
 static void fill(uint8_t *bytes, size_t length, uint8_t seed)
 {
@@ -44,7 +45,8 @@ static void commands_arrive(void)
 /* Data-in fills the pieces in their order, and the rest is the residual. A piece may lie in two regions. */
 static void data_in_arrives(void)
 {
-    const struct element data[] = { { REGION_2, 100, IN }, { REGION_1 - 24, 200, IN }, { REGION_2 + 200, 1000, IN } };
+    const struct element data[] = { { REGION_2, 100, IN }, { REGION_1 - 24, 200, IN },
+                                    { REGION_2 + 200, 1000, IN } };
     const struct virtio_scsi_cmd_resp *response;
     uint8_t got[1300];
 
@@ -65,8 +67,6 @@ static void data_in_arrives(void)
     response = ask(0, data, 3, ANSWER);
     WANT(response->response == VIRTIO_SCSI_S_OVERRUN && response->resid == 1300 && response->status == 0);
     WANT(response->sense_len == 0);
-    /* The header of the request and of the response may be in pieces, too. */
-    stub.reply.data_in_length = 0;
 }
 
 /* Data-out comes in its order. What the CDB does not ask for is the residual. */
@@ -244,8 +244,9 @@ static void errors_fail(void)
 void test_commands(void)
 {
     static void (*const tests[])(void) = {
-        commands_arrive, data_in_arrives, data_out_arrives, refused_data_out_is_left, sense_comes_with_data_in,
-        both_directions_fail, too_much_data_out_fails, addresses_are_read, other_units_are_absent, errors_fail,
+        commands_arrive, data_in_arrives, data_out_arrives, refused_data_out_is_left,
+        sense_comes_with_data_in, both_directions_fail, too_much_data_out_fails, addresses_are_read,
+        other_units_are_absent, errors_fail,
     };
     unsigned it;
 

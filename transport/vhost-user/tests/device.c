@@ -1,5 +1,5 @@
-/* Not proved. Tries the device without a guest and without the library: its requests, what a broken guest gets,
- * and task management.
+/* Not proved. Tries the device without a guest and without the library: its requests, what a broken guest
+ * gets, task management, and what front ends do.
  *     device [ROUNDS]    also serves so many rounds of random chains.
  * If something is not as it should be, it prints a line and has status 1. Otherwise it prints how many things
  * it has looked at. */

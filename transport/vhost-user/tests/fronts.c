@@ -56,7 +56,8 @@ static void begin(void)
 static void end(void)
 {
     end_guests(&guests);
-    WANT(vhost.sockets == 0 && !unit.held && unit.ports[0].guest == NO_GUEST && unit.ports[1].guest == NO_GUEST);
+    WANT(vhost.sockets == 0 && !unit.held);
+    WANT(unit.ports[0].guest == NO_GUEST && unit.ports[1].guest == NO_GUEST);
     close(guests.kicks);
     close(guests.news);
     close(kick);
@@ -99,7 +100,7 @@ static void features_are_few(void)
     WANT(vhost.features == wanted);
 }
 
-/* One guest at a time at each socket. One that goes away is a lost nexus of its initiator, and no other is. */
+/* One guest at a time at each socket. A guest that goes away is a lost nexus of its initiator. */
 static void guests_come_and_go(void)
 {
     vhost.paths[2] = "second";
@@ -129,6 +130,11 @@ static void queues_need_memory(void)
     WANT(queue->is_running && queue->is_pending && queue->next_avail == 7 && queue->next_used == 5);
     message(FIRST, RESET_OWNER);
     WANT(!queue->is_running && vhost.tables == 1);
+    message(FIRST, SET_MEM_TABLE);
+    WANT(queue->is_running);
+    before(FIRST, SET_MEM_TABLE);
+    message(FIRST, SET_FEATURES);
+    WANT(!queue->is_running && vhost.tables == 2);
 }
 
 /* Rings that are not wholly in memory, are not aligned, or have no size of virtio (virtio 1.2, 2.7). */
@@ -182,7 +188,8 @@ static void kicks_are_taken(void)
     WANT(queue->is_pending);
 }
 
-/* During a message, and after one that has failed, nobody looks at the memory. The indexes are librte_vhost's. */
+/* During a message, and after one that has failed, nobody looks at the memory. The indexes are
+ * librte_vhost's. */
 static void messages_pause(void)
 {
     struct queue *queue = start_queue();
@@ -216,7 +223,8 @@ static void guests_are_told(void)
     WANT(call_guests(&guests) && call_guests(&guests) && vhost.calls == 3);
 }
 
-/* A queue that is disabled ends its held commands by FAILURE (virtio 1.2, 5.6.6.1). One that is gone has none. */
+/* A queue that is disabled ends its held commands by FAILURE (virtio 1.2, 5.6.6.1). One that is gone has
+ * none. */
 static void stopped_queues_hold_nothing(void)
 {
     struct queue *queue = start_queue();
@@ -245,6 +253,7 @@ static void stopped_queues_hold_nothing(void)
 /* A queue with a broken ring runs again when the driver has started it again. */
 static void broken_queues_start_again(void)
 {
+    static struct port other;
     struct queue *queue = start_queue();
 
     queue->is_broken = 1;
@@ -253,9 +262,13 @@ static void broken_queues_start_again(void)
     vhost.device->vring_state_changed(FIRST, REQUESTS, 0);
     vhost.device->vring_state_changed(FIRST, REQUESTS, 1);
     WANT(!queue->is_broken && queue->is_running);
+    queue->next_avail = 3;
+    vhost.device->vring_state_changed(FIRST, REQUESTS, 1);
+    WANT(queue->is_running && queue->next_avail == 3);
+    other = unit.ports[1];
     vhost.device->vring_state_changed(FIRST, MOST_QUEUES, 1);
     vhost.device->vring_state_changed(SECOND, REQUESTS, 1);
-    WANT(!unit.ports[1].queues[REQUESTS].is_ready);
+    WANT(memcmp(&unit.ports[1], &other, sizeof other) == 0);
 }
 
 /* Events are only for a guest that has negotiated them. */

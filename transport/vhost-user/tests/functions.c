@@ -30,7 +30,8 @@ static const struct virtio_scsi_cmd_resp *response_to(unsigned port, uint64_t ta
 /* Makes a command available, whose first descriptor is twice its tag. */
 static void send(unsigned port, uint64_t tag, const uint8_t *cdb, unsigned length)
 {
-    const struct element elements[] = { { place_of(tag), HEADER, OUT }, { place_of(tag) + 0x100, ANSWER, IN } };
+    const struct element elements[] = { { place_of(tag), HEADER, OUT },
+                                        { place_of(tag) + 0x100, ANSWER, IN } };
 
     put_request(port, tag, cdb, length);
     memcpy(at(port, place_of(tag)), at(port, REQUEST), HEADER);
@@ -351,6 +352,7 @@ static void growth_is_an_event(void)
 /* No more than MOST_WAITING answers wait at a time, and each comes once. */
 static void many_answers_wait(void)
 {
+    const struct element elements[] = { { place_of(0), HEADER, OUT }, { place_of(0) + 0x100, ANSWER, IN } };
     unsigned port, number, it, count = 0;
     uint32_t first, length;
 
@@ -358,8 +360,7 @@ static void many_answers_wait(void)
     for (port = 0; port < 2; port++) {
         send(port, 0, test_unit_ready, 6);
         for (number = REQUESTS; number < QUEUES; number++) {
-            put_table(unit.ports[port].queues[number].ring.desc, 0,
-                      (const struct element[]){ { place_of(0), HEADER, OUT }, { place_of(0) + 0x100, ANSWER, IN } }, 2);
+            put_table(unit.ports[port].queues[number].ring.desc, 0, elements, 2);
             for (it = number == REQUESTS; it < QUEUE_SIZE; it++)
                 offer(port, number, 0);
         }

@@ -15,8 +15,8 @@ enum { MOST_SERVED = 100 };
 /* Often near an end of a region. If the guest is not wild, it is none of the rings. */
 static uint64_t random_address(int is_wild)
 {
-    static const uint64_t places[] = { REQUEST, RESPONSE, REGION_1, HOLE, REGION_2, REGION_2 + REGION_2_LENGTH, 0,
-                                       UINT64_MAX, REGION_0 };
+    static const uint64_t places[] = { REQUEST, RESPONSE, REGION_1, HOLE, REGION_2,
+                                       REGION_2 + REGION_2_LENGTH, 0, UINT64_MAX, REGION_0 };
     uint64_t place = places[below(&seed, is_wild ? 9 : 8)];
 
     return place + (below(&seed, 2) ? below(&seed, 0x10000) : 0) - below(&seed, 300);

@@ -1,5 +1,5 @@
-/* Not proved. Stands for the library: each command gets the reply that a test has chosen, and what was asked is
- * kept. So a test can have each status, length and error. */
+/* Not proved. Stands for the library: each command gets the reply that a test has chosen, and what was asked
+ * is kept. So a test can have each status, length and error. */
 #ifndef STUB_H
 #define STUB_H
 
