@@ -81,7 +81,7 @@ static enum chain_fault add_pieces(struct rte_vhost_memory *memory, const struct
     return CHAIN_IS_WHOLE;
 }
 
-/* Goes on in the table of an indirect descriptor (virtio 1.2, 2.7.5.3), where the flag WRITE means nothing. */
+/* Goes on in the table of an indirect descriptor (virtio 1.2, 2.7.5.3). Its flag WRITE means nothing. */
 static enum chain_fault enter_table(const struct vring_desc *descriptor, struct table *table)
 {
     uint32_t length = descriptor->len / sizeof(struct vring_desc);

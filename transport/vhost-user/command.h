@@ -23,7 +23,8 @@ enum fate {
 /* Returns 1 if a chain has a whole header and room for a response. */
 int is_command(const struct chain *chain);
 
-/* Executes the command of such a chain for an initiator. Data-in is in the chain then, the response not. */
+/* Executes the command of such a chain for an initiator. Data-in is in the chain then. The response is
+ * only in the answer. */
 enum fate execute_command(mdl_disk *disk, uint32_t initiator, const struct chain *chain,
                           struct answer *answer);
 
