@@ -459,6 +459,7 @@ impl<S: Store, D: Device> KeptDisk<S, D> {
     /// file afresh.
     fn has_to_write(&self, is_needed: bool) -> bool
         ensures needed { is_needed ≡ true → result ≡ true }
+        ensures owner { self.now.compacts ≡ true → result ≡ is_needed }
         ensures long { self.now.compacts ≡ false → is_long self.now ≡ true → result ≡ true }
         ensures only { result ≡ true → is_needed ≡ false → is_long self.now ≡ true }
     {

@@ -3,7 +3,7 @@
 -- parameters).
 use Rattle.std.specs.Prelude.{ℕ, List, [], ◌∷◌}
 use Rattle.sg_wire.specs.Fields.{Field, field, fields_bytes}
-use Rattle.sg_pages.specs.TargetPort.{relative_port}
+use Rattle.sg_wire.specs.TargetPort.{relative_target_port}
 
 -- ---- Extended INQUIRY Data (SPC-4, 7.8.7), from byte 4 of the page on
 
@@ -75,7 +75,7 @@ abbrev reserved_bytes : Field
 reserved_bytes = field 2 0
 
 abbrev port_identifier : Field
-port_identifier = field 2 relative_port
+port_identifier = field 2 relative_target_port
 
 -- INITIATOR PORT TRANSPORTID LENGTH 0, bytes 10 and 11, after two reserved bytes: the port is a
 -- target port only.

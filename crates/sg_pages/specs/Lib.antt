@@ -15,7 +15,6 @@ pub mod MultiByteField
 pub mod ProvisioningPages
 pub mod Reports
 pub mod SeedLaws
-pub mod TargetPort
 pub mod VitalProductData
 -- A module that only private contracts cite.
 pub mod SentValues

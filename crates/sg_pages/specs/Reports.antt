@@ -6,6 +6,7 @@ use Rattle.std.specs.Prelude.{Bool, true, false, if◌then◌else◌, Option, So
 use Rattle.std.specs.List.{flat_map, list_any}
 use Rattle.sg_wire.specs.Fields.{Field, field, fields_bytes}
 use Rattle.sg_wire.specs.SupportedOperations.{longest_support_report, report_data as support_data}
+use Rattle.sg_wire.specs.TargetPort.{relative_target_port, target_port_group}
 use Rattle.sg_wire.specs.declared.profile.Profile.{Profile}
 use Rattle.sg_pages.specs.declared.reports.LogPage.{LogPage}
 use Rattle.sg_pages.specs.declared.reports.LogPage.TheVariants.{SupportedPages, SupportedSubpages}
@@ -13,7 +14,6 @@ use Rattle.sg_pages.specs.declared.reports.LogPage.TheVariants.{LogicalBlockProv
 use Rattle.sg_pages.specs.declared.reports.LogPage.TheVariants.{InformationalExceptions}
 use Rattle.sg_pages.specs.declared.provisioning_pages.MappingResources.{MappingResources}
 use Rattle.sg_pages.specs.ProvisioningPages.{resource_parameters}
-use Rattle.sg_pages.specs.TargetPort.{port_group, relative_port}
 use Rattle.sg_pages.specs.declared.reports.Report.{Report}
 use Rattle.sg_pages.specs.declared.reports.Report.TheVariants.{LogicalUnits, TaskManagementFunctions}
 use Rattle.sg_pages.specs.declared.reports.Report.TheVariants.{TargetPortGroups}
@@ -91,12 +91,12 @@ status = field 1 0 ∷ field 1 0 ∷ field 1 0 ∷ []
 
 -- TARGET PORT COUNT, byte 7, and the one port: two obsolete bytes, and RELATIVE TARGET PORT IDENTIFIER.
 abbrev target_ports : List Field
-target_ports = field 1 1 ∷ field 2 0 ∷ field 2 relative_port ∷ []
+target_ports = field 1 1 ∷ field 2 0 ∷ field 2 relative_target_port ∷ []
 
 -- The target port group descriptor. TARGET PORT GROUP is in bytes 2 and 3.
 abbrev group_descriptor : List Field
 group_descriptor =
-    access_state ∷ supported_states ∷ field 2 port_group ∷ status ++ target_ports
+    access_state ∷ supported_states ∷ field 2 target_port_group ∷ status ++ target_ports
 
 -- RETURN DATA LENGTH, and what it counts.
 abbrev target_port_groups : (extended_header : Bool) → List Field

@@ -3,6 +3,7 @@ use Rattle.std.specs.Prelude.{ℕ, ◌+◌, ◌*◌, List, [], ◌∷◌, ◌++�
 use Rattle.std.specs.Prelude.{Option, Some, None}
 use Rattle.std.specs.List.{flat_map}
 use Rattle.sg_wire.specs.Fields.{Field, field, fields_bytes}
+use Rattle.sg_wire.specs.TargetPort.{relative_target_port}
 use Rattle.sg_units.specs.Registrations.{max_registrations}
 use Rattle.sg_units.specs.Reservations.{holds}
 use Rattle.sg_units.specs.ReservationType.{code_of}
@@ -28,10 +29,6 @@ abbrev pub transport_id_length : ℕ
 transport_id_length = 24
 
 -- ---- A full status descriptor
-
--- The one port of the disk.
-abbrev pub relative_target_port : ℕ
-relative_target_port = 1
 
 -- R_HOLDER: a registrant holds the reservation, if any is held. Under an all registrants type each
 -- registrant holds it.
