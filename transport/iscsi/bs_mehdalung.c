@@ -20,13 +20,11 @@
 #include "kept.h"
 #include "kept_ports.h"
 #include "numbers.h"
+#include "preempting.h"
 #include "waiting.h"
 
 /* The length of the longest CDB of a command of the disk. */
 enum { TRACED_CDB = 16 };
-
-/* The bits of byte 1 that are SERVICE ACTION. */
-enum { SERVICE_ACTION_BITS = 0x1F };
 
 static uint8_t data_in[MDL_BUFFER_LENGTH];
 
@@ -107,8 +105,7 @@ static void trace(struct scsi_cmd *cmd, int initiator, const mdl_reply *reply)
  * of initiators that lose their registrations (SPC-4, 5.13). */
 static mdl_error execute_of_session(struct scsi_cmd *cmd, int initiator, mdl_reply *reply)
 {
-    int preempts = cmd->scb[0] == PERSISTENT_RESERVE_OUT
-                   && (cmd->scb[1] & SERVICE_ACTION_BITS) == PR_OUT_PREEMPT_AND_ABORT;
+    int preempts = is_preempt_and_abort(cmd->scb, (size_t)cmd->scb_len);
     uint32_t lost = preempts ? registered_initiators(cmd->dev) : 0;
     mdl_error error;
     int other;

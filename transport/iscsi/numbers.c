@@ -6,6 +6,7 @@
 #include "numbers.h"
 #include "driver.h"
 #include "kept_ports.h"
+#include "preempting.h"
 #include "waiting.h"
 
 /* PTPL_A in the capabilities of PERSISTENT RESERVE IN, and APTPL in the list of PERSISTENT RESERVE OUT
@@ -45,10 +46,7 @@ static unsigned numbers_with_session(struct scsi_lu *lu)
 
 uint32_t registered_initiators(struct scsi_lu *lu)
 {
-    uint32_t mask = 0;
-
-    mdl_registered(&unit_of(lu)->disk, &mask);
-    return mask;
+    return registered_mask(&unit_of(lu)->disk);
 }
 
 void log_number(const struct scsi_lu *lu, int number, const struct port *port)

@@ -9,6 +9,8 @@
 #include <sys/types.h>
 #include <unistd.h>
 
+#include "preempting.h"
+
 enum progress { WHOLE, TO_COME, GONE };
 
 int open_client(struct client *client, int socket)
@@ -70,6 +72,22 @@ static mdl_error let_happen(mdl_disk *disk, const mdl_happening *happening, cons
     return error;
 }
 
+static mdl_error execute_command(struct client *client, mdl_disk *disk, const struct watcher *watcher,
+                                 mdl_reply *reply)
+{
+    const struct request_header *request = &client->header;
+    const uint8_t *cdb = client->request + REQUEST_HEADER_LENGTH;
+    int preempts = watcher && is_preempt_and_abort(cdb, request->cdb_length);
+    uint32_t before = preempts ? registered_mask(disk) : 0;
+    mdl_error error = mdl_execute(disk, request->initiator, cdb, request->cdb_length,
+                                  cdb + request->cdb_length, request->data_out_length,
+                                  client->reply + REPLY_HEADER_LENGTH, MDL_BUFFER_LENGTH, reply);
+
+    if (preempts)
+        watcher->preempted(watcher->context, before & ~registered_mask(disk));
+    return error;
+}
+
 /* Executes a whole request, and leaves its reply to be sent, if it has one. */
 static void execute(struct client *client, mdl_disk *disk, const struct watcher *watcher)
 {
@@ -77,7 +95,6 @@ static void execute(struct client *client, mdl_disk *disk, const struct watcher 
     struct reply_header header;
     mdl_happening happening = { .kind = MDL_POWER_CYCLE };
     mdl_reply reply;
-    const uint8_t *cdb = client->request + REQUEST_HEADER_LENGTH;
 
     memset(&header, 0, sizeof header);
     memset(&reply, 0, sizeof reply);
@@ -89,10 +106,7 @@ static void execute(struct client *client, mdl_disk *disk, const struct watcher 
         get_happening(client->request + REQUEST_HEADER_LENGTH, &happening);
         header.result = (uint8_t)let_happen(disk, &happening, watcher);
     } else
-        header.result = (uint8_t)mdl_execute(disk, request->initiator, cdb, request->cdb_length,
-                                             cdb + request->cdb_length, request->data_out_length,
-                                             client->reply + REPLY_HEADER_LENGTH,
-                                             MDL_BUFFER_LENGTH, &reply);
+        header.result = (uint8_t)execute_command(client, disk, watcher, &reply);
     header.status = reply.status;
     header.tag = client->is_last ? 0 : request->tag;
     header.sense_length = reply.sense_length;

@@ -15,9 +15,11 @@ struct client {
     size_t sent, to_send;   /* a reply is on its way if to_send is not 0 */
 };
 
-/* Is told of what clients have let happen to the disk. */
+/* Is told of what clients have let happen to the disk, and of initiators in a mask that have lost their
+ * registrations by a client's PREEMPT AND ABORT. */
 struct watcher {
     void (*happened)(void *context, const mdl_happening *happening);
+    void (*preempted)(void *context, uint32_t initiators);
     void *context;
 };
 

@@ -105,10 +105,11 @@ enum chain_fault read_chain(struct rte_vhost_memory *memory, const struct rte_vh
     chain->out_count = chain->count = 0;
     for (;;) {
         fault = read_descriptor(memory, &table, at, &descriptor);
-        if (!fault && count++ == table.length)
+        if (!fault && (count == table.length || count == MOST_PIECES))
             fault = CHAIN_IS_TOO_LONG;
         if (fault)
             return fault;
+        count++;
         if (descriptor.flags & VRING_DESC_F_INDIRECT) {
             fault = enter_table(&descriptor, &table);
             at = count = 0;

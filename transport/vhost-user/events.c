@@ -53,8 +53,12 @@ static int write_event(struct port *port, struct queue *queue, uint16_t head)
 void deliver_event(struct port *port)
 {
     struct queue *queue = &port->queues[EVENT_QUEUE];
+    unsigned most;
     uint16_t head;
 
-    while (port->owes_event && may_use(port, queue) && take_from(port, queue, &head))
+    if (!may_use(port, queue))
+        return;
+    /* A guest that goes on giving buffers that are too short keeps nobody waiting. */
+    for (most = queue->ring.size; most > 0 && port->owes_event && take_from(port, queue, &head); most--)
         port->owes_event = !write_event(port, queue, head);
 }

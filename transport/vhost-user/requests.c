@@ -8,12 +8,10 @@
 #include "control.h"
 #include "events.h"
 #include "held.h"
+#include "preempting.h"
 
 /* No queue keeps the others waiting for longer than this many requests take. */
 enum { MOST_IN_A_ROUND = 64 };
-
-/* PERSISTENT RESERVE OUT with PREEMPT AND ABORT (SPC-4, 6.16). */
-enum { PERSISTENT_RESERVE_OUT = 0x5F, SERVICE_ACTION_BITS = 0x1F, PREEMPT_AND_ABORT = 0x05 };
 
 void report(struct port *port, const struct queue *queue, enum guest_fault fault)
 {
@@ -86,14 +84,6 @@ static void wait_for_flush(struct unit *unit, struct port *port, struct queue *q
         end_waiting(unit);
 }
 
-static uint32_t registered(struct unit *unit)
-{
-    uint32_t mask = 0;
-
-    mdl_registered(&unit->disk, &mask);
-    return mask;
-}
-
 /* Executes a command. PREEMPT AND ABORT ends the held commands of initiators that lose their registrations
  * (SPC-4, 5.13), after the answers that wait. */
 static enum fate execute(struct unit *unit, const struct port *port, const struct chain *chain,
@@ -105,15 +95,14 @@ static enum fate execute(struct unit *unit, const struct port *port, const struc
     int preempts;
 
     copy_out(chain, 0, &request, sizeof request);
-    preempts = request.cdb[0] == PERSISTENT_RESERVE_OUT
-               && (request.cdb[1] & SERVICE_ACTION_BITS) == PREEMPT_AND_ABORT;
+    preempts = is_preempt_and_abort(request.cdb, sizeof request.cdb);
     if (preempts) {
         end_waiting(unit);
-        before = registered(unit);
+        before = registered_mask(&unit->disk);
     }
     fate = execute_command(&unit->disk, port->initiator, chain, answer);
     if (preempts)
-        end_held_of(unit, before & ~registered(unit), VIRTIO_SCSI_S_ABORTED);
+        end_held_of(unit, before & ~registered_mask(&unit->disk), VIRTIO_SCSI_S_ABORTED);
     return fate;
 }
 

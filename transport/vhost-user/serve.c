@@ -21,6 +21,7 @@
 
 #include "events.h"
 #include "guests.h"
+#include "held.h"
 #include "requests.h"
 #include "serving.h"
 #include "sgio/clients.h"
@@ -99,6 +100,12 @@ static void note(void *unit, const mdl_happening *happening)
     note_happening(unit, happening);
 }
 
+/* A client of transport/sgio has taken registrations by PREEMPT AND ABORT. */
+static void end_preempted(void *unit, uint32_t initiators)
+{
+    end_held_of(unit, initiators, VIRTIO_SCSI_S_ABORTED);
+}
+
 /* Serves until a signal, which makes `stop` readable. Returns 0 if poll fails. */
 static int serve(struct guests *guests, struct clients *clients, int stop)
 {
@@ -152,7 +159,7 @@ static int listen_for_clients(struct clients *clients, struct unit *unit, const 
 {
     static struct watcher watcher;
 
-    watcher = (struct watcher){ note, unit };
+    watcher = (struct watcher){ note, end_preempted, unit };
     if (!path)
         no_clients(clients);
     else if (open_clients(clients, path))

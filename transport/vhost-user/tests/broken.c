@@ -162,18 +162,32 @@ static void tables_are_broken(void)
     serve_elements(&indirect, 1, (enum guest_fault)CHAIN_HAS_BAD_TABLE);
 }
 
-/* More pieces than there is room for, in one indirect table. */
-static void chains_are_long(void)
+/* Makes an indirect table of one descriptor again and again, and a header and an answer at its end. */
+static void put_long_table(struct vring_desc *table, uint32_t length, struct element again)
 {
-    const uint32_t length = MOST_PIECES + 1;
-    const struct element indirect = { REGION_2, length * OF_DESCRIPTOR, INDIRECT };
-    struct vring_desc *table = (struct vring_desc *)at(0, REGION_2);
     unsigned it;
 
-    for (it = 0; it < length; it++)
-        put_table(table, it, &(struct element){ REQUEST, 1, OUT }, 1), table[it].flags = VRING_DESC_F_NEXT,
-            table[it].next = (uint16_t)(it + 1);
+    for (it = 0; it < length; it++) {
+        put_table(table, it, it == length - 1 ? &answer : it == length - 2 ? &header : &again, 1);
+        table[it].flags |= it == length - 1 ? 0 : VRING_DESC_F_NEXT;
+        table[it].next = (uint16_t)(it + 1);
+    }
+}
+
+/* One descriptor more than a chain may have, each of a byte or of none, and a loop in a table of 4 GiB. */
+static void chains_are_long(void)
+{
+    struct vring_desc *table = (struct vring_desc *)at(0, REGION_2);
+    const uint32_t length = MOST_PIECES + 1;
+    const struct element indirect = { REGION_2, length * OF_DESCRIPTOR, INDIRECT };
+    const struct element endless = { REGION_2, UINT32_MAX - OF_DESCRIPTOR + 1, INDIRECT };
+
+    put_long_table(table, length, (struct element){ REQUEST, 1, OUT });
     WANT(serve_elements(&indirect, 1, (enum guest_fault)CHAIN_IS_TOO_LONG) == 0);
+    put_long_table(table, length, (struct element){ REQUEST, 0, OUT });
+    WANT(serve_elements(&indirect, 1, (enum guest_fault)CHAIN_IS_TOO_LONG) == 0);
+    table[0].next = 0;
+    WANT(serve_elements(&endless, 1, (enum guest_fault)CHAIN_IS_TOO_LONG) == 0);
 }
 
 /* A queue with an impossible index stops, and the others go on. */
