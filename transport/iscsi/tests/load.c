@@ -10,16 +10,15 @@
  *     BEGIN END INITIATOR ACTION KEY ACTION-KEY TYPE STATUS GENERATION KEYS
  * END is 0 if no answer came. ACTION is a service action of PERSISTENT RESERVE OUT, or 16 for READ
  * KEYS. */
-#include <inttypes.h>
 #include <signal.h>
 #include <stdio.h>
 #include <stdlib.h>
 #include <string.h>
 #include <sys/mman.h>
 #include <sys/wait.h>
-#include <time.h>
 #include <unistd.h>
 
+#include "reservations.h"
 #include "session.h"
 #include "tests/below.h"
 
@@ -29,20 +28,11 @@ enum {
     BLOCKS = 64, /* of each session */
     MOST_BLOCKS = 8,
     EVENTS = 1 << 15,
-    READ_KEYS = 16,
     COMMANDS_OF_A_RESET = 16,
     SECONDS_TO_END = 20
 };
 
 #define NOTHING_PENDING UINT64_MAX
-
-/* A reservation command. */
-struct event {
-    uint64_t begin, end;
-    uint8_t action, key, action_key, type, status;
-    uint32_t generation;
-    uint8_t keys[SESSIONS], key_count;
-};
 
 /* The results of a session, which stay even if it is killed. */
 struct record {
@@ -57,14 +47,6 @@ static struct session *session;
 static unsigned self;
 static uint64_t state;
 static struct answer answer;
-
-static uint64_t now(void)
-{
-    struct timespec time;
-
-    clock_gettime(CLOCK_MONOTONIC, &time);
-    return (uint64_t)time.tv_sec * 1000000000 + (uint64_t)time.tv_nsec;
-}
 
 static void fail(const char *what)
 {
@@ -216,26 +198,21 @@ static void ask(void)
 }
 
 /* Sends a reservation command and notes it, unless a unit attention comes in its place. */
-static void note_event(const struct request *request, struct event *event)
+static void note_event(struct event *event)
 {
     struct record *record = &records[self];
     struct event *slot = &record->events[record->event_count];
-    size_t at;
+    uint8_t list[RESERVATION_LIST];
+    struct request request = request_of_event(event, list);
 
     event->begin = now();
     *slot = *event;
     record->event_count++;
-    execute(request);
-    if (is_unit_attention()) {
+    execute(&request);
+    if (is_unit_attention())
         record->event_count--;
-        return;
-    }
-    for (at = 8; at + 8 <= answer.data_in_length; at += 8)
-        slot->keys[slot->key_count++] = answer.data_in[at + 7];
-    if (answer.data_in_length >= 4)
-        slot->generation = (uint32_t)answer.data_in[2] << 8 | answer.data_in[3];
-    slot->status = (uint8_t)answer.status;
-    slot->end = now();
+    else
+        note_answer(slot, &answer);
 }
 
 /* Each session has two keys of its own. */
@@ -250,29 +227,16 @@ static void reserve(void)
     static const uint8_t types[] = { 1, 3, 5, 6 };
     static uint8_t key;
     struct event event = { .action = actions[below(&state, sizeof actions)] };
-    struct request request = { .cdb = { 0x5E, [8] = 8 + 8 * SESSIONS }, .cdb_length = 10 };
-    uint8_t list[24] = { 0 };
 
     if (records[self].event_count + 1 >= EVENTS)
         return;
     event.type = types[below(&state, sizeof types)];
-    request.direction = DATA_IN;
-    request.length = request.cdb[8];
     if (event.action != READ_KEYS) {
         event.key = below(&state, 8) ? key : 0;
         if (below(&state, 4))
             event.action_key = key_of(event.action == 4 ? below(&state, SESSIONS) : self);
-        request.cdb[0] = 0x5F;
-        request.cdb[1] = event.action;
-        request.cdb[2] = event.type;
-        request.cdb[8] = sizeof list;
-        list[7] = event.key;
-        list[15] = event.action_key;
-        request.direction = DATA_OUT;
-        request.length = sizeof list;
-        request.data_out = list;
     }
-    note_event(&request, &event);
+    note_event(&event);
     if ((event.action == 0 || event.action == 6) && answer.status == MDL_GOOD)
         key = event.action_key;
 }
@@ -345,21 +309,12 @@ static int write_history(const char *name)
     FILE *out = fopen(name, "w");
     unsigned number;
     unsigned long at;
-    int key;
 
     if (!out)
         return 1;
     for (number = 0; number < SESSIONS; number++)
-        for (at = 0; at < records[number].event_count; at++) {
-            const struct event *event = &records[number].events[at];
-
-            fprintf(out, "%" PRIu64 " %" PRIu64 " %u %u %u %u %u %u %u", event->begin, event->end,
-                    number, event->action, event->key, event->action_key, event->type,
-                    event->status, event->generation);
-            for (key = 0; key < event->key_count; key++)
-                fprintf(out, " %u", event->keys[key]);
-            putc('\n', out);
-        }
+        for (at = 0; at < records[number].event_count; at++)
+            write_event(out, number, &records[number].events[at]);
     return fclose(out);
 }
 
@@ -379,27 +334,9 @@ static void come_back(const char *url, unsigned port)
 /* READ KEYS, as the last event of the history. */
 static void note_keys(void)
 {
-    struct request request = { .cdb = { 0x5E, [8] = 8 + 8 * SESSIONS }, .cdb_length = 10,
-                               .direction = DATA_IN, .length = 8 + 8 * SESSIONS };
     struct event event = { .action = READ_KEYS };
 
-    note_event(&request, &event);
-}
-
-/* Registers, ignoring an existing key, and clears all. Where six others are registered it can't. */
-static int clear_reservations(void)
-{
-    static const uint8_t new_key[24] = { [15] = 1 }, key[24] = { [7] = 1 };
-    struct request request = { .cdb = { 0x5F, 6, [8] = sizeof key }, .cdb_length = 10,
-                               .direction = DATA_OUT, .length = sizeof key, .data_out = new_key };
-
-    execute(&request);
-    if (answer.status != MDL_GOOD)
-        return 0;
-    request.cdb[1] = 3;
-    request.data_out = key;
-    execute(&request);
-    return answer.status == MDL_GOOD;
+    note_event(&event);
 }
 
 /* Notes the keys at the end, and reads all blocks when the reservations are cleared. */
@@ -410,7 +347,7 @@ static void look(const char *url)
 
     come_back(url, port);
     note_keys();
-    while (!clear_reservations()) {
+    while (!clear_reservations(session)) {
         session_log_out(session);
         if (++port == SESSIONS)
             fail("reservations can't be cleared");

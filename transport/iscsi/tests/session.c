@@ -155,13 +155,25 @@ int session_send(struct session *session, const struct request *request, uint8_t
     return 1;
 }
 
-int session_serve(struct session *session)
+/* Waits until something can be sent or received, and does it. Returns 1, or 0 if nothing can in this time.
+ * If the session is lost, it returns -1. */
+static int serve(struct session *session, int milliseconds)
 {
     struct pollfd descriptor = { .fd = iscsi_get_fd(session->context),
                                  .events = (short)iscsi_which_events(session->context) };
+    int ready = poll(&descriptor, 1, milliseconds);
 
-    return poll(&descriptor, 1, TIMEOUT_SECONDS * 1000) != 1
-           || iscsi_service(session->context, descriptor.revents);
+    return ready == 1 && iscsi_service(session->context, descriptor.revents) ? -1 : ready;
+}
+
+int session_serve(struct session *session)
+{
+    return serve(session, TIMEOUT_SECONDS * 1000) != 1;
+}
+
+int session_serve_for(struct session *session, int milliseconds)
+{
+    return serve(session, milliseconds) < 0;
 }
 
 /* The number of answers and responses that have come, and that of the last response among them. */
@@ -204,14 +216,18 @@ struct command *session_begin(struct session *session, const struct request *req
                               int keeps_data_in)
 {
     struct iscsi_data data = { request->length, (unsigned char *)(uintptr_t)request->data_out };
-    struct command *command = calloc(1, sizeof *command);
+    struct command *command = malloc(sizeof *command);
 
     if (!command)
         return NULL;
+    /* Not by calloc, which clears a buffer of 1 MiB. */
+    command->received = 0;
     command->answer.status = NO_REPLY;
+    command->answer.sense_length = command->answer.data_in_length = 0;
+    command->answer.residual = 0;
     command->task = task_of(request);
-    if (keeps_data_in && request->direction == DATA_IN)
-        command->buffered = request->length;
+    command->buffered = keeps_data_in && request->direction == DATA_IN ? request->length : 0;
+    memset(command->answer.data_in, 0, command->buffered);
     if (command->task
         && (command->buffered == 0
             || !scsi_task_add_data_in_buffer(command->task, (int)request->length,
@@ -253,6 +269,11 @@ const struct answer *session_settle(struct session *session, const struct comman
         if (session_ping(session))
             break;
     return &command->answer;
+}
+
+const struct answer *session_answer(const struct command *command)
+{
+    return command->task ? NULL : &command->answer;
 }
 
 int session_was_first(const struct command *command)

@@ -54,6 +54,9 @@ int session_send(struct session *session, const struct request *request, uint8_t
 /* Waits until something can be sent or received, and does it. Returns 1 if the session is lost. */
 int session_serve(struct session *session);
 
+/* The same, for so many milliseconds at most. Returns 1 only if the session is lost. */
+int session_serve_for(struct session *session, int milliseconds);
+
 /* Sends a NOP-Out and waits for its reply. Returns 1 if the session is lost. After a login tgtd
  * allows only two commands, until it has replied to something. */
 int session_ping(struct session *session);
@@ -71,6 +74,9 @@ struct command *session_begin(struct session *session, const struct request *req
  * replied to a later NOP-Out, twice, because it may have to ask for data-out first. Its answer then
  * has the status NO_REPLY. */
 const struct answer *session_settle(struct session *session, const struct command *command);
+
+/* The answer to a command that was sent, or null if none has come yet. */
+const struct answer *session_answer(const struct command *command);
 
 /* Returns 1 if the answer to a command came before the response of the last task management function. */
 int session_was_first(const struct command *command);
