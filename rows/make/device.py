@@ -20,7 +20,7 @@ from provisioning import Provisioning
 from sense import CheckCondition, Sense, invalid_field_in_cdb
 
 GOOD, CHECK_CONDITION, RESERVATION_CONFLICT = 0x00, 0x02, 0x18  # SAM-5, the table of statuses
-INITIATORS = range(8)
+INITIATORS = reservations.INITIATORS
 # A pending unit attention does not stop these (SPC-4, 6.39, 6.6.1 and 6.33).
 REQUEST_SENSE, INQUIRY, REPORT_LUNS = 0x03, 0x12, 0xA0
 UNBLOCKED = {

@@ -10,7 +10,7 @@ from device import PROFILES
 from layouts import LAYOUTS, OPERATION_CODES
 from modes import CHANGEABLE, DEFAULT
 from random_words import attention_words, fault_words, show_line, tool_line
-from reservations import TYPES
+from reservations import ALL_TG_PT, SPEC_I_PT, TYPES, transport_id
 
 INITIATORS = (0, 0, 0, 0, 1, 1, 1, 2, 2, 3, 4, 5, 6, 7)
 # Some commands are more frequent in a script: of reservations, mode pages, provisioning, blocks,
@@ -247,7 +247,7 @@ class Script:
             return self.format_header(8 if values["longlist"] else 4) if values["fmtdata"] else b""
         if command.startswith("MODE SELECT"):
             return self.mode_list(4 if command.endswith("(6)") else 8)
-        return self.reserve_list() if "list_length" in values else b""
+        return self.reserve_list(command) if "list_length" in values else b""
 
     def nearly_equal(self, data):
         """Bytes to compare with blocks, which WRITE and `fill` fill with one byte each."""
@@ -256,12 +256,30 @@ class Script:
             data[self.random.choice((0, 255, 511, len(data) - 1))] ^= 1
         return bytes(data)
 
-    def reserve_list(self):
+    def reserve_list(self, command):
         """The list of PERSISTENT RESERVE OUT: most keys are 0 or 1, so many are the right ones."""
         key, action_key = self.random.choice((0, 1, 1, 1)), self.random.choice((0, 1, 1, 1, 2))
         flags = self.random.randrange(256) if self.is_rare(0.03) else self.random.choice((0, 1))
+        more = b""
+        if self.profile == "extended":
+            flags |= ALL_TG_PT if self.is_rare(0.2) else 0
+            if self.is_rare(0.2 if command == "REGISTER" else 0.02):
+                flags |= SPEC_I_PT
+                key, more = self.random.choice((0, 0, 0, 1)), self.transport_ids()
         return (key.to_bytes(8, "big") + action_key.to_bytes(8, "big")
-                + bytes([0, 0, 0, 0, flags, 0, 0, 0]))
+                + bytes([0, 0, 0, 0, flags, 0, 0, 0]) + more)
+
+    def transport_ids(self):
+        """TransportIDs after their length, now and then with a wrong bit, cut or with a wrong length."""
+        count = self.random.choice((0, 1, 1, 1, 2, 2, 3, 5, 8, 9))
+        named = self.random.choices(INITIATORS, k=count)
+        data = bytearray(b"".join(map(transport_id, named)))
+        if data and self.is_rare(0.25):
+            data[self.random.randrange(len(data))] ^= 1 << self.random.randrange(8)
+        if self.is_rare(0.05):
+            data = data[:self.random.randrange(len(data) + 1)]
+        length = len(data) + (self.random.choice((1, 4, 24)) if self.is_rare(0.05) else 0)
+        return length.to_bytes(4, "big") + data
 
     def format_header(self, length):
         """The header of FORMAT UNIT, now and then with a bit that the disk does not support."""

@@ -24,14 +24,25 @@ EXCLUSIVE = (
     EXCLUSIVE_ACCESS, EXCLUSIVE_ACCESS_REGISTRANTS_ONLY, EXCLUSIVE_ACCESS_ALL_REGISTRANTS)
 TYPES = (WRITE_EXCLUSIVE, *SHARED, EXCLUSIVE_ACCESS)
 
+INITIATORS = range(8)
 MOST_REGISTRANTS = 6
 LIST_LENGTH = 24
+# With SPEC_I_PT the list goes on with TRANSPORTID PARAMETER DATA LENGTH and the TransportIDs.
+TRANSPORT_IDS_LENGTH_AT, TRANSPORT_IDS_AT, TRANSPORT_ID_LENGTH = 24, 28, 24
 # SCOPE and TYPE have to be valid, whoever holds the reservation. On an extended disk those of a RELEASE
 # matter only if the caller holds it (SPC-4, 5.13, releasing).
 NEED_TYPE = {"base": ("RESERVE", "RELEASE"), "extended": ("RESERVE",)}
 # SPC-4, 6.15.4: none is told, or what a reservation of another initiator allows (011b)
 ALLOW_COMMANDS = {"base": 0, "extended": 3}
 SPEC_I_PT, ALL_TG_PT, APTPL = 0x08, 0x04, 0x01  # of list byte 20
+# The flags that the service actions that register refuse. The other service actions refuse SPEC_I_PT.
+REFUSED_FLAGS = {
+    "base": {"REGISTER": SPEC_I_PT | ALL_TG_PT,
+             "REGISTER AND IGNORE EXISTING KEY": SPEC_I_PT | ALL_TG_PT},
+    "extended": {"REGISTER": 0},
+}
+# SPC-4, 6.15.4: SIP_C and ATP_C, if SPEC_I_PT and ALL_TG_PT are supported, and PTPL_C
+CAPABLE = {"base": 0x01, "extended": 0x08 | 0x04 | 0x01}
 
 
 class Conflict(Exception):
@@ -41,6 +52,7 @@ class Conflict(Exception):
 class Reservations:
     def __init__(self):
         self.keys = {}  # of the registrants, in the order in which they were registered
+        self.of_all_ports = {}  # whether their last REGISTER had ALL_TG_PT
         self.type = None  # of the reservation that is held, if any
         self.taker = None  # the registrant that took it: its one holder, unless all are
         self.generation = 0
@@ -65,6 +77,11 @@ class Reservations:
         if self.type in SHARED and initiator in self.keys:
             return True
         return reservation_class == "reads" and self.type not in EXCLUSIVE
+
+    def register(self, initiator, key, all_tg_pt):
+        """SPC-4, 5.13 (registering): a registrant keeps its place in the order."""
+        self.keys[initiator] = key
+        self.of_all_ports[initiator] = all_tg_pt
 
     def count_change(self):
         """SPC-4, 6.15.2 (PRGENERATION)"""
@@ -117,12 +134,12 @@ def read_reservation(device, _initiator, command, _data_out):
 
 
 def report_capabilities(device, _initiator, command, _data_out):
-    """SPC-4, 6.15.4: PTPL_C, then TMV, ALLOW COMMANDS and PTPL_A, then a mask with a bit for each
-    type"""
+    """SPC-4, 6.15.4: SIP_C, ATP_C and PTPL_C, then TMV, ALLOW COMMANDS and PTPL_A, then a mask with a
+    bit for each type"""
     persists = 0x01 if device.reservations.aptpl else 0
     mask = sum(1 << kind for kind in TYPES).to_bytes(2, "little")
     flags = 0x80 | ALLOW_COMMANDS[device.profile] << 4 | persists
-    data = bytes([0, 8, 0x01, flags]) + mask + bytes(2)
+    data = bytes([0, 8, CAPABLE[device.profile], flags]) + mask + bytes(2)
     return data[:command["allocation_length"]]
 
 
@@ -134,15 +151,19 @@ def read_full_status(device, _initiator, command, _data_out):
 
 
 def full_status_descriptor(state, registrant):
-    """With the TransportID of a SAS initiator port (SPC-4, 7.6.4)"""
+    """ALL_TG_PT and R_HOLDER are bits of one byte."""
     holds = registrant in state.holders()
-    transport_id = bytearray(24)
-    transport_id[0] = 0x06
-    transport_id[4:12] = (0x30 << 56 | 0x0100 | registrant).to_bytes(8, "big")
-    port, length = 1, len(transport_id)
+    flags = (0x02 if state.of_all_ports[registrant] else 0) | (0x01 if holds else 0)
+    port, name = 1, transport_id(registrant)
     return (state.keys[registrant].to_bytes(8, "big") + bytes(4)
-            + bytes([0x01 if holds else 0, state.type if holds else 0]) + bytes(4)
-            + port.to_bytes(2, "big") + length.to_bytes(4, "big") + transport_id)
+            + bytes([flags, state.type if holds else 0]) + bytes(4)
+            + port.to_bytes(2, "big") + len(name).to_bytes(4, "big") + name)
+
+
+def transport_id(initiator):
+    """The TransportID of a SAS initiator port (SPC-4, 7.6.4)"""
+    address = 0x30 << 56 | 0x0100 | initiator
+    return bytes([0x06, 0, 0, 0]) + address.to_bytes(8, "big") + bytes(12)
 
 
 # ------------------------------------------------------------------------- PERSISTENT RESERVE OUT
@@ -156,7 +177,10 @@ class Request:
         self.state = device.reservations
         self.key = int.from_bytes(parameters[0:8], "big")
         self.action_key = int.from_bytes(parameters[8:16], "big")
+        self.spec_i_pt = bool(parameters[20] & SPEC_I_PT)
+        self.all_tg_pt = bool(parameters[20] & ALL_TG_PT)
         self.aptpl = bool(parameters[20] & APTPL)
+        self.transport_ids = parameters[TRANSPORT_IDS_AT:]
         self.registered_before = list(self.state.keys)
 
     def notify(self, initiators, code):
@@ -175,15 +199,33 @@ def persistent_reserve_out(device, caller, command, data_out):
     if command.name in NEED_TYPE[device.profile]:
         check_scope_and_type(command)
     parameters = need_data_out(device, data_out, command["list_length"])
-    if len(parameters) != LIST_LENGTH:
-        raise parameter_list_length_error()
-    registers = command.name in ("REGISTER", "REGISTER AND IGNORE EXISTING KEY")
-    if parameters[20] & (SPEC_I_PT | (ALL_TG_PT if registers else 0)):
+    check_length(device, command, parameters)
+    if parameters[20] & REFUSED_FLAGS[device.profile].get(command.name, SPEC_I_PT):
         raise invalid_field_in_parameter_list(20)
     request = Request(device, caller, command, parameters)
     check_key(request)
     ACTIONS[command.name](request)
     return b""
+
+
+def check_length(device, command, parameters):
+    """SPC-4, 6.16.3: without SPEC_I_PT a list has 24 bytes. With it, a list of REGISTER has the length of
+    its TransportIDs, too, and has room for one of each initiator. A base disk takes no such list, and an
+    extended disk refuses SPEC_I_PT of another service action, not its length."""
+    has_more = len(parameters) >= LIST_LENGTH and parameters[20] & SPEC_I_PT
+    if device.profile == "base" or not has_more:
+        fits = len(parameters) == LIST_LENGTH
+    else:
+        fits = command.name != "REGISTER" or has_whole_transport_ids(parameters)
+    if not fits:
+        raise parameter_list_length_error()
+
+
+def has_whole_transport_ids(parameters):
+    """TRANSPORTID PARAMETER DATA LENGTH counts the bytes after it. There are not too many of them."""
+    length = len(parameters) - TRANSPORT_IDS_AT
+    said = int.from_bytes(parameters[TRANSPORT_IDS_LENGTH_AT:TRANSPORT_IDS_AT], "big")
+    return 0 <= length <= TRANSPORT_ID_LENGTH * len(INITIATORS) and length == said
 
 
 def check_scope_and_type(command):
@@ -210,19 +252,49 @@ def register(request):
     """SPC-4, 5.13 (registering; unregistering) and 6.16. A REGISTER that leaves an initiator
     unregistered does nothing."""
     state, caller = request.state, request.caller
+    if request.spec_i_pt:
+        register_together(request)
+        return
     if caller not in state.keys:
         if request.action_key == 0:
             return
         if len(state.keys) == MOST_REGISTRANTS:
             raise CheckCondition(ILLEGAL_REQUEST, INSUFFICIENT_REGISTRATION_RESOURCES)
     if request.action_key:
-        state.keys[caller] = request.action_key  # a known caller keeps its place
+        state.register(caller, request.action_key, request.all_tg_pt)
     else:
         ended = state.remove([caller])
         if ended in SHARED:
             request.notify(state.keys, RESERVATIONS_RELEASED)
     state.aptpl = request.aptpl
     state.count_change()
+
+
+def register_together(request):
+    """SPC-4, 5.13 (registering) and 6.16.3 (SPEC_I_PT): the caller and all initiators that the list
+    names are registered, or none is. A registrant is passed over."""
+    state = request.state
+    if request.caller in state.keys or request.action_key == 0:
+        raise invalid_field_in_parameter_list(20)
+    named = dict.fromkeys([request.caller, *named_initiators(request.transport_ids)])
+    new = [initiator for initiator in named if initiator not in state.keys]
+    if len(state.keys) + len(new) > MOST_REGISTRANTS:
+        raise CheckCondition(ILLEGAL_REQUEST, INSUFFICIENT_REGISTRATION_RESOURCES)
+    for initiator in new:
+        state.register(initiator, request.action_key, request.all_tg_pt)
+    state.aptpl = request.aptpl
+    state.count_change()
+
+
+def named_initiators(transport_ids):
+    """The initiators that TransportIDs name, in their order (SPC-4, 7.6.4). A reserved bit that is set
+    is an error, too."""
+    names = {transport_id(initiator): initiator for initiator in INITIATORS}
+    for at in range(0, len(transport_ids), TRANSPORT_ID_LENGTH):
+        name = bytes(transport_ids[at:at + TRANSPORT_ID_LENGTH])
+        if name not in names:
+            raise invalid_field_in_parameter_list(TRANSPORT_IDS_AT + at)
+        yield names[name]
 
 
 def reserve(request):

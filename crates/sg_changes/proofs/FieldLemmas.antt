@@ -1,8 +1,10 @@
 -- The fields of records are exact formats.
-use Rattle.std.proofs.Common.{◌≡◌, ℕ, Bool, cond, eqb, List, [], ◌∷◌, Option, Some}
-use Rattle.std.proofs.Common.{refl, sym, ap, ◌∙◌, inl, inr, arith}
+use Rattle.std.proofs.Common.{◌≡◌, ◌+◌, ◌-◌, ℕ, Bool, true, false, ◌&&◌, cond, eqb, List, [], ◌∷◌}
+use Rattle.std.proofs.Common.{Option, Some, None, refl, sym, ap, ◌∙◌, inl, inr, arith}
+use Rattle.std.specs.Prelude.{nat_le, nat_lt}
 use Rattle.std.specs.List.{find}
-use Rattle.std.proofs.lemmas.Bool.{cases_Bool, eqb-true}
+use Rattle.std.proofs.lemmas.Bool.{and_parts, cases_Bool, eqb-true}
+use Rattle.std.proofs.lemmas.Bool.Decides.{nat_tests}
 use Rattle.sg_units.specs.Registrations.{max_registrations}
 use Rattle.sg_units.specs.ReservationType.{code_of, each_type, type_of}
 use Rattle.sg_units.specs.declared.types.ReservationType.{ReservationType}
@@ -15,9 +17,11 @@ use Rattle.sg_wire.specs.Initiator.{initiator_count}
 use Rattle.sg_changes.specs.ExtentFormat.{extent}
 use Rattle.sg_changes.specs.Format.{Format, IsExact, number, pair, coded}
 use Rattle.sg_changes.specs.Format.{counted, optional}
-use Rattle.sg_changes.specs.ReservationFormat.{initiator, persistent, registration, reservation}
+use Rattle.sg_changes.specs.ReservationFormat.{all_tg_pt, initiator, persistent, registrant}
+use Rattle.sg_changes.specs.ReservationFormat.{registrant_code}
+use Rattle.sg_changes.specs.ReservationFormat.{registrant_of, registration, reservation}
 use Rattle.sg_changes.specs.ReservationFormat.{reservation_type, reservations}
-use Rattle.sg_changes.proofs.FormatLemmas.{coded_exact, number_exact, pair_exact}
+use Rattle.sg_changes.proofs.FormatLemmas.{coded_exact, number_exact, pair_exact, pair_parts}
 use Rattle.sg_changes.proofs.ManyLemmas.{counted_exact, number_below_exact}
 use Rattle.sg_changes.proofs.ManyLemmas.{optional_exact}
 
@@ -60,12 +64,65 @@ initiator-exact : IsExact initiator
 unfolding initiator
 initiator-exact = number_below_exact initiator_count
 
+-- a registrant and its code, without ALL_TG_PT and with it
+low-code : (n : ℕ) → nat_lt n initiator_count ≡ true → registrant_code (n, false) ≡ Some n
+low-code n h = rw h refl
+
+high-code : (n : ℕ) → (nat_le all_tg_pt n && nat_lt (n - all_tg_pt) initiator_count) ≡ true
+    → registrant_code (n - all_tg_pt, true) ≡ Some n
+high-code n h =
+    let parts = and_parts (nat_le all_tg_pt n) (nat_lt (n - all_tg_pt) initiator_count) h in
+    let there : n - all_tg_pt + all_tg_pt ≡ n = grind (arith, nat_tests) in
+    rw parts.1 (ap Some there)
+
+low-of : (i : ℕ) → nat_lt i initiator_count ≡ true → registrant_of i ≡ Some (i, false)
+low-of i h = rw h refl
+
+high-of : (i : ℕ) → nat_lt i initiator_count ≡ true → registrant_of (i + all_tg_pt) ≡ Some (i, true)
+high-of i h =
+    let low : nat_lt (i + all_tg_pt) initiator_count ≡ false = grind (arith, nat_tests) in
+    let again : i + all_tg_pt - all_tg_pt ≡ i = omega arith in
+    let high : (nat_le all_tg_pt (i + all_tg_pt)
+    && nat_lt (i + all_tg_pt - all_tg_pt) initiator_count) ≡ true = grind (arith, nat_tests) in
+    rw (low, high) (ap (λ k. Some (k, true)) again)
+
+registrant-there : (n : ℕ) (r : ℕ × Bool) → registrant_of n ≡ Some r → registrant_code r ≡ Some n
+registrant-there n r e = by-tests (nat_lt n initiator_count)
+    (nat_le all_tg_pt n && nat_lt (n - all_tg_pt) initiator_count) refl refl e
+  where
+    by-tests : (low high : Bool) → nat_lt n initiator_count ≡ low
+        → (nat_le all_tg_pt n && nat_lt (n - all_tg_pt) initiator_count) ≡ high
+        → cond low (Some (n, false)) (cond high (Some (n - all_tg_pt, true)) None) ≡ Some r
+        → registrant_code r ≡ Some n
+    by-tests true high l h is = ap registrant_code (sym (pair_parts (n, false) r is)) ∙ low-code n l
+    by-tests false true l h is =
+        ap registrant_code (sym (pair_parts (n - all_tg_pt, true) r is)) ∙ high-code n h
+    by-tests false false l h is = absurd cc
+
+registrant-back : (r : ℕ × Bool) (n : ℕ) → registrant_code r ≡ Some n → registrant_of n ≡ Some r
+registrant-back (i, all) n e = by-tests (nat_lt i initiator_count) all refl e
+  where
+    by-tests : (low ports : Bool) → nat_lt i initiator_count ≡ low
+        → cond low (Some (cond ports (i + all_tg_pt) i)) None ≡ Some n
+        → registrant_of n ≡ Some (i, ports)
+    by-tests true true l is =
+        let same : i + all_tg_pt ≡ n = cc in ap registrant_of (sym same) ∙ high-of i l
+    by-tests true false l is = let same : i ≡ n = cc in ap registrant_of (sym same) ∙ low-of i l
+    by-tests false ports l is = absurd cc
+
+registrant-exact : IsExact registrant
+unfolding registrant
+registrant-exact =
+    coded_exact registrant_of registrant_code (number 1) (number_exact 1) registrant-there
+    (λ n r e. registrant-back r n e)
+
 registration-exact : IsExact registration
 unfolding registration
 registration-exact =
-    renamed_exact (λ p. record { initiator = p.0; key = p.1 }) (λ r. (r.initiator, r.key))
-    (pair initiator (number 8)) (pair_exact initiator (number 8) initiator-exact (number_exact 8)) (λ p. refl)
-    (λ r. refl)
+    renamed_exact (λ p. record { initiator = p.0.0; key = p.1; all_tg_pt = p.0.1 })
+    (λ r. ((r.initiator, r.all_tg_pt), r.key))
+    (pair registrant (number 8))
+    (pair_exact registrant (number 8) registrant-exact (number_exact 8)) (λ p. refl) (λ r. refl)
 
 type-again : (type : ReservationType) → type_of (code_of type) ≡ Some type
 type-again WriteExclusive = refl

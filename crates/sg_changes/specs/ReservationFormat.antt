@@ -1,5 +1,6 @@
 -- The bytes of registrations and a reservation that persist through a power loss.
-use Rattle.std.specs.Prelude.{ℕ, Option, Some}
+use Rattle.std.specs.Prelude.{ℕ, ◌+◌, ◌-◌, nat_le, nat_lt, Bool, true, false, ◌&&◌}
+use Rattle.std.specs.Prelude.{Option, Some, None, if◌then◌else◌}
 use Rattle.sg_units.specs.Registrations.{max_registrations}
 use Rattle.sg_units.specs.ReservationType.{code_of, type_of}
 use Rattle.sg_units.specs.declared.registrations.Registration.{Registration}
@@ -13,12 +14,29 @@ use Rattle.sg_changes.specs.Format.{Format, number, number_below, pair, coded, o
 unfoldable pub initiator : Format ℕ
 initiator = number_below initiator_count
 
--- INITIATOR 1, KEY 8.
+-- REGISTRANT 1: the number of an initiator. With ALL_TG_PT it has 80h more.
+abbrev pub all_tg_pt : ℕ
+all_tg_pt = 0x80
+
+abbrev pub registrant_of : ℕ → Option (ℕ × Bool)
+registrant_of n =
+    if nat_lt n initiator_count then Some (n, false)
+    else (if nat_le all_tg_pt n && nat_lt (n - all_tg_pt) initiator_count then Some (n - all_tg_pt, true)
+    else None)
+
+abbrev pub registrant_code : ℕ × Bool → Option ℕ
+registrant_code r =
+    if nat_lt r.0 initiator_count then Some (if r.1 then r.0 + all_tg_pt else r.0) else None
+
+unfoldable pub registrant : Format (ℕ × Bool)
+registrant = coded registrant_of registrant_code (number 1)
+
+-- REGISTRANT 1, KEY 8.
 unfoldable pub registration : Format Registration
 registration =
-    coded (λ p. Some (record { initiator = p.0; key = p.1 }))
-    (λ (r : Registration). Some (r.initiator, r.key))
-    (pair initiator (number 8))
+    coded (λ p. Some (record { initiator = p.0.0; key = p.1; all_tg_pt = p.0.1 }))
+    (λ (r : Registration). Some ((r.initiator, r.all_tg_pt), r.key))
+    (pair registrant (number 8))
 
 -- TYPE 1: the code of one of the six types.
 unfoldable pub reservation_type : Format ReservationType

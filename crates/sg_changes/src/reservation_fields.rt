@@ -4,13 +4,17 @@ ghost use Rattle.std.specs.Prelude.{◌≡◌, ◌≤◌};
 ghost use Rattle.sg_units.specs.Registrations.{max_registrations};
 ghost use Rattle.sg_changes.specs.Format.{counted_at, many_at, optional_at};
 ghost use Rattle.sg_changes.specs.Reading.{Gives, restored_to};
-ghost use Rattle.sg_changes.specs.ReservationFormat.{initiator, registration, reservation};
+ghost use Rattle.sg_changes.specs.ReservationFormat.{initiator, registrant, registration};
+ghost use Rattle.sg_changes.specs.ReservationFormat.{reservation};
 ghost use Rattle.sg_changes.specs.ReservationFormat.{reservation_type, reservations};
 
 use crate::fields::{flag_at, u8_at, u64_at};
 use arrayvec::ArrayVec;
 use sg_units::{Registration, Reservation, ReservationType, Reservations};
 use sg_wire::Initiator;
+
+/// Added to the number of an initiator whose registration is for every target port.
+pub(crate) const ALL_TG_PT: u8 = 0x80;
 
 /// The most registrations that a disk has room for.
 const MAX_REGISTRATIONS: usize = 6;
@@ -24,15 +28,35 @@ fn initiator_at(bytes: &[u8]) -> Option<(Initiator, &[u8])>
     Some((initiator, rest))
 }
 
+/// A registrant, and whether its registration is for every target port.
+#[tactic(auto, unfolding(crate::specs::ReservationFormat::registrant))]
+fn registrant_at(bytes: &[u8]) -> Option<((Initiator, bool), &[u8])>
+    ensures { Gives (λ f. (f.0, f.1.now)) result (registrant.at bytes.now) }
+{
+    let (code, rest) = u8_at(bytes)?;
+    if let Some(initiator) = Initiator::new(code) {
+        return Some(((initiator, false), rest));
+    }
+    let initiator = Initiator::new(code.checked_sub(ALL_TG_PT)?)?;
+    Some(((initiator, true), rest))
+}
+
 #[tactic(auto, unfolding(crate::specs::ReservationFormat::registration))]
 fn registration_at(bytes: &[u8]) -> Option<(Registration, &[u8])>
     ensures { Gives (λ f. (f.0, f.1.now)) result (registration.at bytes.now) }
 {
-    let Some((initiator, rest)) = initiator_at(bytes) else {
+    let Some(((initiator, all_tg_pt), rest)) = registrant_at(bytes) else {
         return None;
     };
     let (key, rest) = u64_at(rest)?;
-    Some((Registration { initiator, key }, rest))
+    Some((
+        Registration {
+            initiator,
+            key,
+            all_tg_pt,
+        },
+        rest,
+    ))
 }
 
 /// `count` registrations.

@@ -3,10 +3,12 @@ ghost use Rattle.std.specs.Prelude.{◌≡◌, ◌*◌, ◌≤◌, length};
 ghost use Rattle.sg_units.specs.Registrations.{max_registrations};
 ghost use Rattle.sg_changes.specs.Change.{persistent_of};
 ghost use Rattle.sg_changes.specs.Format.{counted, many, optional};
-ghost use Rattle.sg_changes.specs.ReservationFormat.{initiator, registration, reservation};
+ghost use Rattle.sg_changes.specs.ReservationFormat.{initiator, registrant, registration};
+ghost use Rattle.sg_changes.specs.ReservationFormat.{reservation};
 ghost use Rattle.sg_changes.specs.ReservationFormat.{reservation_type, reservations};
 ghost use Rattle.sg_changes.specs.Writing.{Takes};
 
+use crate::reservation_fields::ALL_TG_PT;
 use crate::sink::Sink;
 use crate::writing::{put_flag, put_u8, put_u64};
 use sg_units::{Registration, Reservation, ReservationType, Reservations};
@@ -20,12 +22,25 @@ fn put_initiator<S: Sink>(sink: &mut S, who: Initiator)
     put_u8(sink, who.number());
 }
 
+#[tactic(auto, unfolding(crate::specs::ReservationFormat::registrant))]
+fn put_registrant<S: Sink>(sink: &mut S, who: Initiator, all_tg_pt: bool)
+    requires { 1 ≤ S.room sink.old }
+    ensures { Takes S.contents S.room registrant 1 sink.old sink.new (who, all_tg_pt) }
+{
+    let code = if all_tg_pt {
+        who.number() + ALL_TG_PT
+    } else {
+        who.number()
+    };
+    put_u8(sink, code);
+}
+
 #[tactic(auto, unfolding(crate::specs::ReservationFormat::registration))]
 fn put_registration<S: Sink>(sink: &mut S, one: Registration)
     requires { 9 ≤ S.room sink.old }
     ensures { Takes S.contents S.room registration 9 sink.old sink.new one }
 {
-    put_initiator(sink, one.initiator);
+    put_registrant(sink, one.initiator, one.all_tg_pt);
     put_u64(sink, one.key);
 }
 

@@ -23,13 +23,13 @@ use Rattle.sg_target.specs.declared.refusal.Refusal.TheVariants.{Conflict, Check
 use Rattle.sg_target.specs.declared.refusal.Refusal.TheVariants.{Busy, TaskSetFull, NoReply}
 use Rattle.sg_target.specs.declared.refusal.Refusal.TheVariants.{DeferredError}
 use Rattle.sg_target.proofs.LiftLemmas.{asked, not_good}
-use Rattle.sg_fencing.specs.Registrants.{RegistersItself, is_registrant}
+use Rattle.sg_fencing.specs.Registrants.{Registers, is_registrant}
 use Rattle.sg_fencing.specs.WithFaults.{IsDenied, IsKeptAway}
 use Rattle.sg_fencing.proofs.AccessLemmas.{asked-is-allowed, checks-refuse}
 use Rattle.sg_fencing.proofs.FaultUnseenLemmas.{unseen-with-faults}
 use Rattle.sg_fencing.proofs.FaultsLeftLemmas.{faults-left}
 use Rattle.sg_fencing.proofs.OperationLemmas.{class_for}
-use Rattle.sg_fencing.proofs.RegisteringLemmas.{registers-itself}
+use Rattle.sg_fencing.proofs.RegisteringLemmas.{registers-it}
 use Rattle.sg_fencing.proofs.StandingLemmas.{outcome-stands}
 
 -- ---- What is denied
@@ -121,15 +121,15 @@ module _ (Stands : ReservationState → Type 0) (state : State) (j : ℕ)
       outcome-stands Stands state j same (effect_of state j (first_blocks n (Fill extent block))) same
   writing-stands n _ h = absurd (false≢true h)
 
-pub registers-itself-with-faults : FaultsOnlyDropOrShorten → (disk : Armed) (i j : ℕ)
+pub registers-it-with-faults : FaultsOnlyDropOrShorten → (disk : Armed) (i j : ℕ)
     → is_registrant disk.state i ≡ false → (cdb data_out : List ℕ)
     → is_registrant (armed_step disk j cdb data_out).after.state i ≡ true
-    → RegistersItself disk.state i j cdb data_out
-registers-itself-with-faults drops disk i j unknown cdb data_out =
+    → Registers disk.state i j cdb data_out
+registers-it-with-faults drops disk i j unknown cdb data_out =
     left-by drops disk j cdb data_out
-    (λ after. is_registrant after i ≡ true → RegistersItself disk.state i j cdb data_out)
+    (λ after. is_registrant after i ≡ true → Registers disk.state i j cdb data_out)
     (λ known. absurd (false≢true (sym unknown ∙ known)))
-    (λ known. registers-itself disk.state i j unknown cdb data_out known)
+    (λ known. registers-it disk.state i j unknown cdb data_out known)
     (λ part known.
     let still = writing-stands (λ r. is_registered r.registrations i ≡ false) disk.state j unknown
     part.blocks part.operation part.writes in

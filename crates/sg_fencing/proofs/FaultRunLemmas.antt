@@ -1,11 +1,14 @@
 -- Lists of events on a disk with armed faults.
-use Rattle.std.proofs.Common.{◌≡◌, ◌⊎◌, inl, inr, ◌==◌, ℕ, suc, false, List, [], ◌∷◌, length}
+use Rattle.std.proofs.Common.{◌≡◌, ◌⊎◌, inl, inr, ℕ, suc, true, false, List, [], ◌∷◌}
 use Rattle.std.proofs.Common.{Some, Result, Ok, refl, sym, ap, ◌∙◌, subst}
 use Rattle.std.proofs.lemmas.Bool.{false_from_ne_true, false≢true}
+use Rattle.sg_wire.specs.CdbDecoding.{command_of}
 use Rattle.sg_wire.specs.Laws.{CommandsHaveTheirClass}
 use Rattle.sg_units.specs.Laws.{OneKeyEach, OthersAreRefused}
 use Rattle.sg_wire.specs.FirstBytes.{first_bytes}
-use Rattle.sg_wire.specs.OutList.{list_length, out_list}
+use Rattle.sg_wire.specs.OutList.{out_list}
+use Rattle.sg_wire.specs.Profile.{rules_of}
+use Rattle.sg_target.specs.ReservationCommands.{has_list_length}
 use Rattle.sg_wire.specs.declared.command.CdbFault.{CdbFault}
 use Rattle.sg_wire.specs.declared.command.Command.{Command}
 use Rattle.sg_wire.specs.declared.command.Command.TheVariants.{PersistentReserveOut}
@@ -25,13 +28,14 @@ use Rattle.sg_target.specs.declared.operation.Operation.{Operation}
 use Rattle.sg_target.specs.declared.refusal.Reason.TheVariants.{ParameterListLengthError}
 use Rattle.sg_target.specs.declared.refusal.Refusal.TheVariants.{CheckCondition}
 use Rattle.sg_target.proofs.LiftLemmas.{asked}
-use Rattle.sg_fencing.specs.Registrants.{IsPreempted, is_registrant, preempted_key}
-use Rattle.sg_fencing.specs.WithFaults.{IsFencedOut, NeverRegistersItself, StaysFencedOut}
+use Rattle.sg_fencing.specs.Registrants.{IsPreempted, asks_to_register, is_registrant, preempted_key}
+use Rattle.sg_fencing.specs.Registrants.{rules_for}
+use Rattle.sg_fencing.specs.WithFaults.{IsFencedOut, IsNeverRegistered, StaysFencedOut}
 use Rattle.sg_fencing.proofs.FaultLemmas.{kept-away, left-without-writing}
-use Rattle.sg_fencing.proofs.FaultLemmas.{registers-itself-with-faults}
+use Rattle.sg_fencing.proofs.FaultLemmas.{registers-it-with-faults}
 use Rattle.sg_fencing.proofs.OperationLemmas.{listed}
 use Rattle.sg_fencing.proofs.OthersLemmas.{Keeps, same}
-use Rattle.sg_fencing.proofs.OutsiderLemmas.{IsOutside, outsider-keeps, shut}
+use Rattle.sg_fencing.proofs.OutsiderLemmas.{IsOutside, outsider-spares, shut}
 use Rattle.sg_fencing.proofs.PowerLemmas.{unknown-after}
 use Rattle.sg_fencing.proofs.PreemptLemmas.{preempt-unregisters}
 
@@ -45,10 +49,11 @@ fenced-out drops stays refuses classes disk j h w cdb data_out =
     record {
       kept = kept-away stays disk j cdb data_out classes _ no.writes no.reads;
       others =
-          λ i apart. let other : j ≡ i → ⊥ = λ e. apart (sym e) in
+          λ i apart spared. let other : j ≡ i → ⊥ = λ e. apart (sym e) in
           (left-without-writing drops disk j cdb data_out (λ (after : State). Keeps disk.state after i)
           (same disk.state i)
-          (outsider-keeps refuses classes disk.state i j other h w cdb data_out) classes no.writes).left;
+          (outsider-spares refuses classes disk.state i j other h w cdb data_out spared) classes
+          no.writes).left;
     }
 
 -- ---- Over events
@@ -60,20 +65,21 @@ record IsUnknown (disk : Armed) (i : ℕ) : Type 0 where
 
 module _ (drops : FaultsOnlyDropOrShorten) (limits : LimitsAreKept) (i : ℕ) where
   unknown-call : (disk : Armed) (call : Call) → IsUnknown disk i
-      → (call.initiator ≡ i → is_registrant (armed_step_of disk call).after.state i ≡ false)
+      → (asks_to_register (rules_for disk.state) call.initiator i (command_of call.cdb.now) call.data_out.now
+      ≡ true → is_registrant (armed_step_of disk call).after.state i ≡ false)
       → IsUnknown (armed_step_of disk call).after i
-  unknown-call disk call h own = record {
+  unknown-call disk call h asking = record {
     within = limits.armed disk call.initiator call.cdb.now call.data_out.now h.within;
     unknown =
         false_from_ne_true _
         (λ known.
-        let its = registers-itself-with-faults drops disk i call.initiator h.unknown call.cdb.now
+        let its = registers-it-with-faults drops disk i call.initiator h.unknown call.cdb.now
         call.data_out.now known in
-        false≢true (sym (own its.own) ∙ known));
+        false≢true (sym (asking its.asks) ∙ known));
   }
 
   unknown-still : (disk : Armed) (events : List Event) → IsUnknown disk i
-      → NeverRegistersItself i disk events → IsUnknown (after_events armed_disk disk events) i
+      → IsNeverRegistered i disk events → IsUnknown (after_events armed_disk disk events) i
   unknown-still disk [] h never = h
   unknown-still disk (event.Call call ∷ events) h never =
       unknown-still (armed_step_of disk call).after events
@@ -105,7 +111,8 @@ whole : (config : ConfigFields) (command : Command) (data_out : List ℕ) (opera
 whole config (PersistentReserveOut c) data_out operation e key h n =
     let list = first_bytes c.list_length data_out in
     subst (λ (o : Operation). first_blocks n o ≡ o)
-    (listed c.action c.scope_type (length list == list_length) (out_list list)
+    (listed c.action c.scope_type (has_list_length (rules_of config.identity.profile) c.action list)
+    (out_list list)
     (CheckCondition ParameterListLengthError) operation e)
     refl
 whole config _ data_out operation e key h n = cc

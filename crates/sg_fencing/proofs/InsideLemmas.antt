@@ -1,15 +1,12 @@
 -- Lists of commands of registrants and others. While a reservation is held, the commands of
 -- initiators that are not registered may be left out.
 use Rattle.std.proofs.Common.{◌≡◌, ℕ, suc, Bool, true, false, cond, not, List, [], ◌∷◌}
-use Rattle.std.proofs.Common.{filter, Result, Ok, Err, refl, sym, ap, ◌∙◌, subst, arith}
+use Rattle.std.proofs.Common.{filter, Ok, Err, refl, sym, ap, ◌∙◌, subst, arith}
 use Rattle.std.specs.List.{zip}
 use Rattle.std.specs.Result.{result_map_both}
 use Rattle.std.proofs.lemmas.Bool.{false≢true}
 use Rattle.sg_wire.specs.Laws.{CommandsHaveTheirClass}
 use Rattle.sg_wire.specs.CdbDecoding.{command_of}
-use Rattle.sg_wire.specs.declared.command.CdbFault.{CdbFault}
-use Rattle.sg_wire.specs.declared.command.Command.{Command}
-use Rattle.sg_wire.specs.declared.command.Command.TheVariants.{PersistentReserveOut}
 use Rattle.sg_wire.specs.declared.command.out_action.OutAction.{OutAction}
 use Rattle.sg_wire.specs.declared.out_list.OutList.{OutList}
 use Rattle.sg_units.specs.Attentions.{pending_for}
@@ -35,8 +32,7 @@ use Rattle.sg_fencing.specs.Registrants.{StaysUnregistered, is_registrant, rules
 use Rattle.sg_fencing.proofs.AgreeLemmas.{AreSame, steps-agree, with_attentions}
 use Rattle.sg_fencing.proofs.AlikeLemmas.{StepsAgree, with_others}
 use Rattle.sg_fencing.proofs.FencedRunLemmas.{answers_in}
-use Rattle.sg_fencing.proofs.OperationLemmas.{is_of_kind}
-use Rattle.sg_fencing.proofs.OthersLemmas.{Keeps, same-stopped}
+use Rattle.sg_fencing.proofs.OthersLemmas.{Keeps, any_kind, of-any-kind, same-stopped}
 use Rattle.sg_fencing.proofs.OutsiderLemmas.{IsOutside, outsider-keeps}
 use Rattle.sg_fencing.proofs.RegistrationLemmas.{IsIdle, outcome-idle}
 use Rattle.sg_fencing.proofs.StandingLemmas.{EffectStands, step-stands}
@@ -56,10 +52,7 @@ module _ (state : State) (j : ℕ) (unknown : is_registrant state j ≡ false) w
   changing-stays (Ok change) k = k.shown change refl
   changing-stays (Err fault) k = tt
 
-  abbrev any_action : OutAction → Bool
-  any_action action = true
-
-  reserving-stays : (action : OutAction) (scope_type : ℕ) (list : OutList) → any_action action ≡ true
+  reserving-stays : (action : OutAction) (scope_type : ℕ) (list : OutList) → any_kind action list ≡ true
       → EffectStands Same state j (λ _. refl)
       (when_sound (reservation_change state j action scope_type list) (changing_reservations state j))
   unfolding reservation_change
@@ -67,16 +60,11 @@ module _ (state : State) (j : ℕ) (unknown : is_registrant state j ≡ false) w
       changing-stays (outcome (rules_for state) state.reservations j action scope_type list)
       (outcome-idle (rules_for state) state.reservations j unknown action scope_type list)
 
-  of-any-kind : (parsed : Result Command CdbFault) → is_of_kind any_action parsed ≡ true
-  of-any-kind (Ok (PersistentReserveOut c)) = refl
-  of-any-kind (Ok _) = refl
-  of-any-kind (Err fault) = refl
-
   reservations-stay : (cdb data_out : List ℕ) → is_registrant (step state j cdb data_out).state j ≡ false
       → (step state j cdb data_out).state.reservations ≡ state.reservations
   reservations-stay cdb data_out =
-      step-stands Same state j (λ _. refl) any_action reserving-stays cdb data_out
-      (of-any-kind (command_of cdb))
+      step-stands Same state j (λ _. refl) any_kind reserving-stays cdb data_out
+      (of-any-kind (command_of cdb) data_out)
 
 -- nothing has changed except unit attentions of j
 record LeavesOthers (j : ℕ) (before after : State) : Type 0 where
@@ -94,7 +82,7 @@ idle : OthersAreRefused → CommandsHaveTheirClass → (state : State) (j : ℕ)
 idle refuses classes state j h w cdb data_out gone starts =
     let after = (step state j cdb data_out).state in
     let kept : (k : ℕ) (other : j ≡ k → ⊥) → Keeps state after k =
-    λ k other. outsider-keeps refuses classes state k j other h w cdb data_out in
+    λ k other. outsider-keeps refuses classes state k j other h w cdb data_out gone in
     let one = kept (suc j) (next-differs j) in
     let disk = ap (λ (v : View). v.disk) (sym one.left.view) in
     let modes = ap (λ (v : View). v.modes) (sym one.left.view) in

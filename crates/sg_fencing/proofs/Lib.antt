@@ -1,3 +1,5 @@
+-- The key of an initiator.
+mod KeyLemmas
 -- Reservations of one holder.
 mod HolderLemmas
 -- The effect of PERSISTENT RESERVE OUT on a reservation.
@@ -25,6 +27,7 @@ mod RegistrationLemmas
 mod OutsiderLemmas
 mod NewcomerLemmas
 mod RegisteringLemmas
+mod TogetherLemmas
 mod OldKeyLemmas
 mod PreemptLemmas
 -- Registrants and others.

@@ -1,13 +1,13 @@
 -- If an initiator becomes registered, the group sees its registration and no other change.
-use Rattle.std.proofs.Common.{◌≡◌, ◌==◌, ℕ, true, false, not, List, length, Option, Some}
+use Rattle.std.proofs.Common.{◌≡◌, ◌==◌, ℕ, Bool, true, false, not, List, Option, Some, inr}
 use Rattle.std.proofs.Common.{Result, Ok, Err, refl, sym, ap, ◌∙◌, subst}
-use Rattle.std.specs.Prelude.{unwrap_or}
+use Rattle.std.specs.Prelude.{if◌then◌else◌, unwrap_or}
 use Rattle.std.specs.Result.{result_map_both}
-use Rattle.std.proofs.lemmas.Bool.{false≢true, ne_eqb}
+use Rattle.std.proofs.lemmas.Bool.{false≢true, ne_eqb, or_parts}
 use Rattle.std.proofs.lemmas.Option.{cond_some}
 use Rattle.sg_wire.specs.FirstBytes.{first_bytes}
 use Rattle.sg_wire.specs.CdbDecoding.{command_of}
-use Rattle.sg_wire.specs.OutList.{list_length, out_list}
+use Rattle.sg_wire.specs.OutList.{out_list}
 use Rattle.sg_wire.specs.declared.command.CdbFault.{CdbFault}
 use Rattle.sg_wire.specs.declared.command.Command.{Command}
 use Rattle.sg_wire.specs.declared.command.Command.TheVariants.{PersistentReserveOut}
@@ -19,16 +19,19 @@ use Rattle.sg_wire.specs.declared.profile.Rules.{Rules}
 use Rattle.sg_units.specs.Registrations.{is_registered, with_registration}
 use Rattle.sg_units.specs.ReservationType.{type_of}
 use Rattle.sg_units.specs.ReserveOut.{Outcome, action_outcome, generation_after, outcome}
-use Rattle.sg_units.specs.ReserveOut.{register_cases}
+use Rattle.sg_units.specs.ReserveOut.{register_cases, register_together_cases, registered_together}
+use Rattle.sg_units.specs.ReserveOut.{registration_by}
+use Rattle.sg_units.specs.UnsupportedFlags.{has_unsupported_flag}
+use Rattle.sg_units.specs.declared.registrations.Registration.{Registration}
 use Rattle.sg_units.specs.declared.reservation_change.ReservationChange.{ReservationChange}
 use Rattle.sg_units.specs.declared.reservation_state.ReservationState.{ReservationState}
 use Rattle.sg_units.specs.declared.types.ReservationType.{ReservationType}
-use Rattle.sg_units.proofs.OutcomeLemmas.{EffectIs, FirstIs, and_false, case_or, if-accepted, effective}
-use Rattle.sg_units.proofs.OutcomeLemmas.{refused}
+use Rattle.sg_units.proofs.OutcomeLemmas.{EffectIs, FirstIs, and_false, case_or, choice, effective}
+use Rattle.sg_units.proofs.OutcomeLemmas.{if-supported, last_case, refused}
 use Rattle.sg_target.specs.Demands.{demands}
 use Rattle.sg_target.specs.Refusal.{when_sound}
 use Rattle.sg_target.specs.ReservationCommands.{changing_reservations, out_refusal}
-use Rattle.sg_target.specs.ReservationCommands.{reservation_change}
+use Rattle.sg_target.specs.ReservationCommands.{has_list_length, reservation_change}
 use Rattle.sg_target.specs.State.{IsWithinLimits, State, config_of}
 use Rattle.sg_target.specs.Step.{Step, outcome as step_outcome, refused as refused_step, step}
 use Rattle.sg_target.specs.Charge.{step_by}
@@ -38,7 +41,7 @@ use Rattle.sg_target.specs.declared.refusal.Reason.TheVariants.{ParameterListLen
 use Rattle.sg_target.specs.declared.refusal.Reason.TheVariants.{UnitAttention as Attention}
 use Rattle.sg_target.specs.declared.refusal.Refusal.{Refusal}
 use Rattle.sg_target.specs.declared.refusal.Refusal.TheVariants.{CheckCondition}
-use Rattle.sg_fencing.specs.Group.{IsSeen}
+use Rattle.sg_fencing.specs.Group.{IsSeen, registered_anew}
 use Rattle.sg_fencing.specs.Registrants.{is_registering, is_registrant, registering_list, rules_for}
 use Rattle.sg_target.proofs.LiftLemmas.{lifted}
 use Rattle.sg_fencing.proofs.OperationLemmas.{listed}
@@ -50,12 +53,16 @@ use Rattle.sg_fencing.proofs.RegistrationLemmas.{not_so, outcome-leaves}
 -- there is one registration more, PRGENERATION is incremented, and APTPL becomes the list's value
 pub record Adds (state : ReservationState) (j : ℕ) (list : OutList) (change : ReservationChange)
     : Type 0 where
-  pub registrations : change.registrations
-      ≡ with_registration state.registrations j list.service_action_key
+  pub registrations : change.registrations ≡ registered_anew state.registrations j list
   pub reservation : change.reservation ≡ state.reservation
   pub increments : change.increments_generation ≡ true
   pub aptpl : change.aptpl ≡ Some list.aptpl
   pub key : (list.service_action_key == 0) ≡ false
+
+abbrev anew : List Registration → (initiator : ℕ) → OutList → (together : Bool) → List Registration
+anew registrations initiator list together =
+    if together then registered_together registrations initiator list
+    else with_registration registrations (registration_by list initiator)
 
 module _ (rules : Rules) (state : ReservationState) (j : ℕ)
     (unknown : is_registered state.registrations j ≡ false) (list : OutList) where
@@ -63,16 +70,15 @@ module _ (rules : Rules) (state : ReservationState) (j : ℕ)
   abbrev pub AddsIf : ReservationChange → Type 0
   AddsIf change = is_registered change.registrations j ≡ true → Adds state j list change
 
-  register-adds : FirstIs (EffectIs AddsIf)
-      (register_cases state j list.service_action_key list.aptpl)
+  register-adds : list.spec_i_pt ≡ false → FirstIs (EffectIs AddsIf) (register_cases state j list)
   unfolding register_cases
-  register-adds =
+  register-adds alone =
       case_or (EffectIs AddsIf) _ _
       (λ _. effective AddsIf _ (λ known. absurd (false≢true (sym unknown ∙ known))))
       (λ keyed. case_or (EffectIs AddsIf) _ _ (λ _. refused AddsIf _)
       (λ _. case_or (EffectIs AddsIf) _ _
       (λ _. effective AddsIf _ (λ _. record {
-        registrations = refl;
+        registrations = sym (ap (anew state.registrations j list) alone);
         reservation = refl;
         increments = refl;
         aptpl = refl;
@@ -80,17 +86,37 @@ module _ (rules : Rules) (state : ReservationState) (j : ℕ)
       }))
       (λ known. absurd (not_so (is_registered state.registrations j) unknown known))))
 
+  together-adds : list.spec_i_pt ≡ true
+      → FirstIs (EffectIs AddsIf) (register_together_cases state j list)
+  unfolding register_together_cases
+  together-adds set =
+      case_or (EffectIs AddsIf) _ _ (λ _. refused AddsIf _)
+      (λ keyed. case_or (EffectIs AddsIf) _ _ (λ _. refused AddsIf _)
+      (λ _. case_or (EffectIs AddsIf) _ _ (λ _. refused AddsIf _)
+      (λ _. last_case (EffectIs AddsIf) _ _ refl
+      (effective AddsIf _ (λ _. record {
+        registrations = sym (ap (anew state.registrations j list) set);
+        reservation = refl;
+        increments = refl;
+        aptpl = refl;
+        key = (or_parts _ _ keyed).1;
+      })))))
+
   action-adds : (action : OutAction) (type : Option ReservationType) → is_registering action ≡ true
-      → EffectIs AddsIf (action_outcome rules state j action type list.service_action_key list.aptpl)
-  action-adds Register type h = register-adds.first
-  action-adds RegisterAndIgnoreExistingKey type h = register-adds.first
-  action-adds _ type h = absurd (false≢true h)
+      → has_unsupported_flag rules action list ≡ false
+      → EffectIs AddsIf (action_outcome rules state j action type list)
+  action-adds Register type h supported =
+      choice (EffectIs AddsIf) list.spec_i_pt _ _ (λ set. (together-adds set).first)
+      (λ alone. (register-adds alone).first)
+  action-adds RegisterAndIgnoreExistingKey type h supported =
+      (register-adds (or_parts list.spec_i_pt _ supported).0).first
+  action-adds _ type h supported = absurd (false≢true h)
 
   outcome-adds : (action : OutAction) (scope_type : ℕ) → is_registering action ≡ true
       → EffectIs AddsIf (outcome rules state j action scope_type list)
   outcome-adds action scope_type h =
-      if-accepted AddsIf rules state j action scope_type list
-      (λ _. action-adds action (type_of scope_type) h)
+      if-supported AddsIf rules state j action scope_type list
+      (λ supported _. action-adds action (type_of scope_type) h supported)
 
 -- ---- The command
 
@@ -106,8 +132,8 @@ module _ (state : State) (j : ℕ) (list : OutList) (P : Step → Type 0)
   by-command (PersistentReserveOut c) data_out operation e h =
       let bytes = first_bytes c.list_length data_out in
       let parts = cond_some (is_registering c.action) (out_list bytes) list h in
-      let asked = listed c.action c.scope_type (length bytes == list_length) (out_list bytes)
-      (CheckCondition ParameterListLengthError) operation e in
+      let asked = listed c.action c.scope_type (has_list_length (rules_for state) c.action bytes)
+      (out_list bytes) (CheckCondition ParameterListLengthError) operation e in
       subst (λ (o : Operation). P (step_by state j o))
       (ap (λ (l : OutList). ChangeReservations c.action c.scope_type l) (sym parts.1) ∙ asked)
       (registering c.action c.scope_type parts.0)
@@ -184,10 +210,10 @@ module _ (state : State) (j : ℕ) (unknown : is_registrant state j ≡ false) (
             persists = unwrap_or (h.aptpl d) state.reservations.persists_through_power_loss;
           };
       others =
-          λ i other.
+          λ i other spared.
           let left =
           (outcome-leaves (rules_for state) state.reservations i j (ne_eqb j i other) unknown action
-          scope_type list).shown change e in
+          scope_type list).shown change e (λ _. inr spared) in
           changed-view state i j w change left.key left.reservation left.unraised;
     }
 

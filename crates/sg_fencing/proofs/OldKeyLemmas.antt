@@ -1,11 +1,11 @@
 -- An initiator that is not registered is refused a REGISTER with another key than zero.
-use Rattle.std.proofs.Common.{◌≡◌, ◌==◌, ℕ, Bool, true, false, not, ◌&&◌, List, length, Some}
+use Rattle.std.proofs.Common.{◌≡◌, ◌==◌, ℕ, Bool, true, false, not, ◌&&◌, List, Some}
 use Rattle.std.proofs.Common.{Result, Ok, Err, refl, sym, ap, ◌∙◌, subst}
 use Rattle.std.specs.Result.{result_map_both}
 use Rattle.std.proofs.lemmas.Bool.{eqb-true, false≢true, or_from}
 use Rattle.std.proofs.lemmas.Option.{cond_some}
 use Rattle.sg_wire.specs.FirstBytes.{first_bytes}
-use Rattle.sg_wire.specs.OutList.{list_length, out_list}
+use Rattle.sg_wire.specs.OutList.{out_list}
 use Rattle.sg_wire.specs.declared.command.CdbFault.{CdbFault}
 use Rattle.sg_wire.specs.declared.command.Command.{Command}
 use Rattle.sg_wire.specs.declared.command.Command.TheVariants.{PersistentReserveOut}
@@ -19,7 +19,7 @@ use Rattle.sg_units.proofs.OutcomeLemmas.{EffectIs, if-accepted}
 use Rattle.sg_target.specs.Demands.{demands}
 use Rattle.sg_target.specs.Refusal.{when_sound}
 use Rattle.sg_target.specs.ReservationCommands.{changing_reservations, out_refusal}
-use Rattle.sg_target.specs.ReservationCommands.{reservation_change}
+use Rattle.sg_target.specs.ReservationCommands.{has_list_length, is_register, reservation_change}
 use Rattle.sg_target.specs.State.{State, config_of}
 use Rattle.sg_target.specs.Step.{Step, outcome as step_outcome}
 use Rattle.sg_target.specs.Charge.{step_by}
@@ -30,7 +30,7 @@ use Rattle.sg_target.specs.declared.refusal.Refusal.TheVariants.{CheckCondition}
 use Rattle.sg_target.specs.declared.reply.Status.TheVariants.{Good}
 use Rattle.sg_target.proofs.LiftLemmas.{lifted, not_good}
 use Rattle.sg_fencing.specs.Registrants.{rules_for}
-use Rattle.sg_fencing.specs.Registrants.{OldKeysAreRefused, is_register, is_registrant, list_of}
+use Rattle.sg_fencing.specs.Registrants.{OldKeysAreRefused, is_registrant, list_of}
 use Rattle.sg_fencing.proofs.OperationLemmas.{listed}
 use Rattle.sg_fencing.proofs.RegistrationLemmas.{not-under}
 
@@ -82,8 +82,8 @@ module _ (state : State) (j : ℕ) (unknown : is_registrant state j ≡ false) w
   by-command (PersistentReserveOut c) data_out operation list e h other =
       let bytes = first_bytes c.list_length data_out in
       let parts = cond_some (is_register c.action) (out_list bytes) list h in
-      let asked = listed c.action c.scope_type (length bytes == list_length) (out_list bytes)
-      (CheckCondition ParameterListLengthError) operation e in
+      let asked = listed c.action c.scope_type (has_list_length (rules_for state) c.action bytes)
+      (out_list bytes) (CheckCondition ParameterListLengthError) operation e in
       subst (λ (o : Operation). NotGood (step_by state j o))
       (ap (λ (a : OutAction). ChangeReservations a c.scope_type (out_list bytes))
       (the-register c.action parts.0)

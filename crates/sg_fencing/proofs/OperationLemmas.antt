@@ -5,6 +5,8 @@ use Rattle.std.proofs.Common.{◌==◌, ◌&&◌, refl, subst, ap, cond, sym, �
 use Rattle.std.proofs.lemmas.Bool.{false≢true}
 use Rattle.std.specs.Prelude.{if◌then◌else◌, ok_or}
 use Rattle.sg_wire.specs.FirstBytes.{first_bytes}
+use Rattle.sg_wire.specs.OutList.{out_list}
+use Rattle.sg_wire.specs.Profile.{rules_of}
 use Rattle.sg_wire.specs.Layout.{layout}
 use Rattle.sg_wire.specs.declared.command.Class.{Class}
 use Rattle.sg_wire.specs.declared.command.Class.TheVariants.{Always, Reads, Writes}
@@ -35,7 +37,7 @@ use Rattle.sg_pages.specs.declared.reports.LogPage.TheVariants.{LogicalBlockProv
 use Rattle.sg_pages.specs.declared.reports.LogPage.TheVariants.{SupportedPages, SupportedSubpages}
 use Rattle.sg_pages.specs.declared.reports.Report.TheVariants as report
 use Rattle.sg_target.specs.Refusal.{or_refused, unless_refused, when_sound}
-use Rattle.sg_target.specs.ReservationCommands.{fields_out}
+use Rattle.sg_target.specs.ReservationCommands.{fields_out, has_list_length}
 use Rattle.sg_target.specs.declared.operation.Operation.{Operation}
 use Rattle.sg_target.specs.declared.operation.Operation.TheVariants.{Compare, CompareAndWrite, OrWrite}
 use Rattle.sg_target.specs.declared.operation.Operation.TheVariants.{CompareEach, Verify}
@@ -47,6 +49,7 @@ use Rattle.sg_target.specs.declared.operation.Operation.TheVariants.{ReturnLuns,
 use Rattle.sg_target.specs.declared.operation.Operation.TheVariants.{ReturnReservations}
 use Rattle.sg_target.specs.declared.operation.Operation.TheVariants.{ChangeReservations}
 use Rattle.sg_target.specs.declared.refusal.Reason.TheVariants.{InvalidFieldInCdb}
+use Rattle.sg_target.specs.declared.refusal.Reason.TheVariants.{ParameterListLengthError}
 use Rattle.sg_target.specs.declared.refusal.Refusal.{Refusal}
 use Rattle.sg_target.specs.declared.refusal.Refusal.TheVariants.{CheckCondition}
 use Rattle.sg_target.specs.Semantics.{medium_use}
@@ -294,7 +297,8 @@ suits config (command.Unmap c) data_out =
     (unmap_extents c.anchor) (unmap-suits (command.Unmap c) refl refl c.anchor)
 suits config (command.PersistentReserveOut c) data_out =
     sound-suits (command.PersistentReserveOut c)
-    (fields_out (first_bytes c.list_length data_out)) (ChangeReservations c.action c.scope_type)
+    (fields_out (rules_of config.identity.profile) c.action (first_bytes c.list_length data_out))
+    (ChangeReservations c.action c.scope_type)
     (λ list. record { class = λ class h. cc; of_kind = λ kind k. k; shown = refl; number = λ n. cc })
 suits config other data_out =
     record { class = λ class h. cc; of_kind = λ kind k. refl; shown = refl; number = λ n. cc }
@@ -316,6 +320,36 @@ pub listed : (action : OutAction) (scope_type : ℕ) (is_whole : Bool) (list : O
     → ChangeReservations action scope_type list ≡ operation
 listed action scope_type true list short operation e = cc
 listed action scope_type false list short operation e = cc
+
+-- another command than PERSISTENT RESERVE OUT, or one with an action and a list of a kind
+abbrev pub is_of_list_kind : (OutAction → OutList → Bool) → Result Command CdbFault
+    → (data_out : List ℕ) → Bool
+is_of_list_kind kind (Ok (command.PersistentReserveOut c)) data_out =
+    kind c.action (out_list (first_bytes c.list_length data_out))
+is_of_list_kind kind _ data_out = true
+
+abbrev pub fits_list : (OutAction → OutList → Bool) → Operation → Bool
+fits_list kind (ChangeReservations action scope_type list) = kind action list
+fits_list kind _ = true
+
+fits-all : (kind : OutAction → OutList → Bool) (operation : Operation)
+    → fits (λ action. false) operation ≡ true → fits_list kind operation ≡ true
+fits-all kind (ChangeReservations action scope_type list) h = absurd (false≢true h)
+fits-all kind _ h = refl
+
+pub asked-fits : (config : ConfigFields) (command : Command) (data_out : List ℕ) (operation : Operation)
+    → (demands config command data_out).operation ≡ Ok operation
+    → (kind : OutAction → OutList → Bool) → is_of_list_kind kind (Ok command) data_out ≡ true
+    → fits_list kind operation ≡ true
+asked-fits config (command.PersistentReserveOut c) data_out operation e kind h =
+    let bytes = first_bytes c.list_length data_out in
+    subst (λ (o : Operation). fits_list kind o ≡ true)
+    (listed c.action c.scope_type (has_list_length (rules_of config.identity.profile) c.action bytes)
+    (out_list bytes) (CheckCondition ParameterListLengthError) operation e)
+    h
+asked-fits config command data_out operation e kind h =
+    fits-all kind operation
+    ((asked-suits config command data_out operation e).of_kind (λ action. false) refl)
 
 -- ---- Commands that change no block
 
@@ -433,7 +467,8 @@ reads-if config (command.Inquiry c) data_out =
     (λ page. ReturnInquiry page c.allocation_length) (λ page. refl)
 reads-if config (command.PersistentReserveOut c) data_out =
     sound-reads (command.PersistentReserveOut c)
-    (fields_out (first_bytes c.list_length data_out)) (ChangeReservations c.action c.scope_type)
+    (fields_out (rules_of config.identity.profile) c.action (first_bytes c.list_length data_out))
+    (ChangeReservations c.action c.scope_type)
     (λ list. refl)
 reads-if config other data_out = record { reads = λ no. refl }
 

@@ -1,9 +1,13 @@
 -- The effect of others' commands on the holder's view.
 use Rattle.std.proofs.Common.{◌≡◌, ℕ, Bool, true, false, List}
-use Rattle.std.proofs.Common.{Some, None, Result, Ok, Err, refl, sym, ◌∙◌, subst}
+use Rattle.std.proofs.Common.{Some, None, Result, Ok, Err, refl, sym, ap, ◌∙◌, subst}
 use Rattle.std.specs.Result.{result_map_both}
 use Rattle.std.proofs.lemmas.Bool.{ne_eqb}
+use Rattle.sg_wire.specs.CdbDecoding.{command_of}
 use Rattle.sg_wire.specs.Laws.{CommandsHaveTheirClass}
+use Rattle.sg_wire.specs.declared.command.CdbFault.{CdbFault}
+use Rattle.sg_wire.specs.declared.command.Command.{Command}
+use Rattle.sg_wire.specs.declared.command.Command.TheVariants.{PersistentReserveOut}
 use Rattle.sg_wire.specs.declared.command.Class.TheVariants.{Writes}
 use Rattle.sg_wire.specs.declared.command.out_action.OutAction.{OutAction}
 use Rattle.sg_units.specs.Access.{allows}
@@ -24,7 +28,7 @@ use Rattle.sg_target.specs.Refusal.{when_sound}
 use Rattle.sg_target.specs.ReservationCommands.{changing_reservations, out_refusal}
 use Rattle.sg_target.specs.ReservationCommands.{reservation_change}
 use Rattle.sg_target.specs.Semantics.{effect_of}
-use Rattle.sg_target.specs.State.{IsWithinLimits, State}
+use Rattle.sg_target.specs.State.{IsWithinLimits, State, config_of}
 use Rattle.sg_target.specs.Step.{Step, outcome as step_outcome, refused, step}
 use Rattle.sg_target.specs.declared.operation.Operation.{Operation}
 use Rattle.sg_target.specs.declared.operation.Operation.TheVariants.{CompareAndWrite, OrWrite}
@@ -44,7 +48,7 @@ use Rattle.sg_fencing.proofs.AccessLemmas.{asked-is-allowed}
 use Rattle.sg_fencing.proofs.HolderLemmas.{HoldsAlone, alone, cleared-other, one-holder}
 use Rattle.sg_fencing.proofs.HolderLemmas.{raised-none, raised-others, refuses-others, same-view}
 use Rattle.sg_fencing.proofs.HolderLemmas.{without-other}
-use Rattle.sg_fencing.proofs.OperationLemmas.{class_for}
+use Rattle.sg_fencing.proofs.OperationLemmas.{asked-fits, class_for, fits_list, is_of_list_kind}
 use Rattle.sg_fencing.specs.Registrants.{rules_for}
 
 -- the view of i and the identity of the disk are as they were, but the unit may have been started
@@ -130,16 +134,18 @@ module _ (Where : State → Type 0) (state : State) (i j : ℕ) (other : j ≡ i
   outcome-keeps (Err refusal) k = λ _. refused-keeps state i j other refusal
 
   module _ (no_writes : allows state.reservations j Writes ≡ false)
-      (reserving-keeps : (action : OutAction) (scope_type : ℕ) (list : OutList) → EffectKeeps
+      (kind : OutAction → OutList → Bool)
+      (reserving-keeps : (action : OutAction) (scope_type : ℕ) (list : OutList)
+      → kind action list ≡ true → EffectKeeps
       (when_sound (reservation_change state j action scope_type list) (changing_reservations state j))) where
     operation-keeps : (operation : Operation) → (class_for operation ≡ Some Writes → ⊥)
-        → EffectKeeps (effect_of state j operation)
-    operation-keeps (StartStop true) c = λ _. record {
+        → fits_list kind operation ≡ true → EffectKeeps (effect_of state j operation)
+    operation-keeps (StartStop true) c k = λ _. record {
       identity = refl;
       left = record { view = refl; not_stopped = λ h. refl };
     }
-    operation-keeps (StartStop false) c = absurd (c refl)
-    operation-keeps (ReturnSense format n) c = λ _. record {
+    operation-keeps (StartStop false) c k = absurd (c refl)
+    operation-keeps (ReturnSense format n) c k = λ _. record {
       identity = refl;
       left = record {
         view =
@@ -148,7 +154,7 @@ module _ (Where : State → Type 0) (state : State) (i j : ℕ) (other : j ≡ i
         not_stopped = λ h. h;
       };
     }
-    operation-keeps (ReturnLuns listed n) c = λ _. record {
+    operation-keeps (ReturnLuns listed n) c k = λ _. record {
       identity = refl;
       left = record {
         view =
@@ -157,30 +163,44 @@ module _ (Where : State → Type 0) (state : State) (i j : ℕ) (other : j ≡ i
         not_stopped = λ h. h;
       };
     }
-    operation-keeps (ReturnModes request n) c =
+    operation-keeps (ReturnModes request n) c k =
         sound-keeps (mode_parameters state.modes request) (returning_up_to state n)
         (λ list _. same state i)
-    operation-keeps (ChangeModes width sp list) c = absurd (c refl)
-    operation-keeps (CompareAndWrite exchange) c = absurd (c refl)
-    operation-keeps (OrWrite out) c = absurd (c refl)
-    operation-keeps (Write out) c = absurd (c refl)
-    operation-keeps (Fill extent block) c = absurd (c refl)
-    operation-keeps (Unmap extents) c = absurd (c refl)
-    operation-keeps (UnmapExtent extent) c = absurd (c refl)
-    operation-keeps (UnmapAll blocks) c = absurd (c refl)
-    operation-keeps (Anchor extents) c = absurd (c refl)
-    operation-keeps (AnchorExtent extent) c = absurd (c refl)
-    operation-keeps (ChangeReservations action scope_type list) c =
-        reserving-keeps action scope_type list
-    operation-keeps _ c = λ _. same state i
+    operation-keeps (ChangeModes width sp list) c k = absurd (c refl)
+    operation-keeps (CompareAndWrite exchange) c k = absurd (c refl)
+    operation-keeps (OrWrite out) c k = absurd (c refl)
+    operation-keeps (Write out) c k = absurd (c refl)
+    operation-keeps (Fill extent block) c k = absurd (c refl)
+    operation-keeps (Unmap extents) c k = absurd (c refl)
+    operation-keeps (UnmapExtent extent) c k = absurd (c refl)
+    operation-keeps (UnmapAll blocks) c k = absurd (c refl)
+    operation-keeps (Anchor extents) c k = absurd (c refl)
+    operation-keeps (AnchorExtent extent) c k = absurd (c refl)
+    operation-keeps (ChangeReservations action scope_type list) c k =
+        reserving-keeps action scope_type list k
+    operation-keeps _ c k = λ _. same state i
 
     pub step-keeps : CommandsHaveTheirClass → (cdb data_out : List ℕ)
+        → is_of_list_kind kind (command_of cdb) data_out ≡ true
         → KeepsWhere (step state j cdb data_out).state
-    step-keeps classes cdb data_out =
+    step-keeps classes cdb data_out of_kind =
         lifted state j cdb data_out (λ (done : Step). KeepsWhere done.state)
         (λ refusal _. refused-keeps state i j other refusal)
         (λ operation k. outcome-keeps (effect_of state j operation) (operation-keeps operation
-        (asked-is-allowed state j classes cdb data_out operation Writes k no_writes)))
+        (asked-is-allowed state j classes cdb data_out operation Writes k no_writes)
+        (asked-fits (config_of state) k.command data_out operation k.operation_is kind
+        (sym (ap (λ (p : Result Command CdbFault). is_of_list_kind kind p data_out) k.command_is)
+        ∙ of_kind))))
+
+-- any PERSISTENT RESERVE OUT
+abbrev pub any_kind : OutAction → OutList → Bool
+any_kind action list = true
+
+pub of-any-kind : (parsed : Result Command CdbFault) (data_out : List ℕ)
+    → is_of_list_kind any_kind parsed data_out ≡ true
+of-any-kind (Ok (PersistentReserveOut c)) data_out = refl
+of-any-kind (Ok _) data_out = refl
+of-any-kind (Err fault) data_out = refl
 
 -- ---- Where i holds a reservation alone
 
@@ -235,6 +255,6 @@ others-keep limits refuses classes state i j cdb data_out w other before after =
     let still = alone done i (limits.command state j cdb data_out w) after in
     let h = alone state i w before in
     step-keeps (IsOneHolder state i j other h w) state i j other
-    (refuses-others refuses state.reservations i j other h).writes
-    (λ action scope_type list. reserving-keeps state i j other h w action scope_type list) classes cdb
-    data_out (one-holder done.reservations i still)
+    (refuses-others refuses state.reservations i j other h).writes any_kind
+    (λ action scope_type list _. reserving-keeps state i j other h w action scope_type list) classes cdb
+    data_out (of-any-kind (command_of cdb) data_out) (one-holder done.reservations i still)

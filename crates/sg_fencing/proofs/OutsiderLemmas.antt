@@ -1,11 +1,14 @@
 -- The effect of an unregistered initiator's command on a disk that is reserved.
-use Rattle.std.proofs.Common.{◌≡◌, ◌==◌, ℕ, Bool, true, false, not, ◌&&◌, List}
+use Rattle.std.proofs.Common.{◌≡◌, ℕ, Bool, true, false, not, ◌&&◌, ◌||◌, List, inl, inr}
 use Rattle.std.proofs.Common.{Option, Some, None, Result, Ok, Err, refl, sym, ap, ◌∙◌}
-use Rattle.std.specs.Prelude.{is_some}
+use Rattle.std.specs.Prelude.{if◌then◌else◌, is_some}
+use Rattle.std.specs.Option.{option_map_or}
 use Rattle.std.specs.Result.{result_map_both}
-use Rattle.std.proofs.lemmas.Bool.{and_left, eqb-true, false≢true, ne_eqb}
+use Rattle.std.proofs.lemmas.Bool.{and_left, false≢true, ne_eqb}
+use Rattle.sg_wire.specs.FirstBytes.{first_bytes}
 use Rattle.sg_wire.specs.Laws.{CommandsHaveTheirClass}
 use Rattle.sg_wire.specs.CdbDecoding.{command_of}
+use Rattle.sg_wire.specs.OutList.{out_list}
 use Rattle.sg_wire.specs.declared.command.CdbFault.{CdbFault}
 use Rattle.sg_wire.specs.declared.command.Class.TheVariants.{Reads, Writes}
 use Rattle.sg_wire.specs.declared.command.Command.{Command}
@@ -27,10 +30,13 @@ use Rattle.sg_target.specs.ReservationCommands.{changing_reservations, out_refus
 use Rattle.sg_target.specs.ReservationCommands.{reservation_change}
 use Rattle.sg_target.specs.State.{IsWithinLimits, State}
 use Rattle.sg_target.specs.Step.{step}
-use Rattle.sg_fencing.specs.Registrants.{excludes_reading, is_fenced_off, is_registering, rules_for}
-use Rattle.sg_fencing.proofs.OthersLemmas.{EffectKeeps, Keeps, changed-keeps, step-keeps}
-use Rattle.sg_fencing.proofs.OperationLemmas.{is_of_kind}
-use Rattle.sg_fencing.proofs.RegistrationLemmas.{IsUnknown, Leaves, outcome-leaves, outcome-unknown}
+use Rattle.sg_fencing.specs.Registrants.{asks_for, asks_to_register, excludes_reading, is_fenced_off}
+use Rattle.sg_fencing.specs.Registrants.{is_registering, is_registrant, registers_another, rules_for}
+use Rattle.sg_fencing.proofs.OthersLemmas.{EffectKeeps, Keeps, any_kind, changed-keeps, of-any-kind}
+use Rattle.sg_fencing.proofs.OthersLemmas.{step-keeps}
+use Rattle.sg_fencing.proofs.OperationLemmas.{is_of_list_kind}
+use Rattle.sg_fencing.proofs.RegistrationLemmas.{IsUnknown, LeavesIf, Spares, is_spared, outcome-leaves}
+use Rattle.sg_fencing.proofs.RegistrationLemmas.{outcome-unknown}
 use Rattle.sg_fencing.proofs.StandingLemmas.{EffectStands, step-stands}
 
 -- ---- What is refused to it
@@ -78,40 +84,94 @@ shut refuses state j h =
 
 module _ (refuses : OthersAreRefused) (classes : CommandsHaveTheirClass) (state : State) (i j : ℕ)
     (other : j ≡ i → ⊥) (h : IsOutside state j) (w : IsWithinLimits state) where
+  abbrev S : OutAction → OutList → ReservationChange → Type 0
+  S action list change =
+      is_registering action ≡ true
+      → Spares (rules_for state) state.reservations i j (ne_eqb j i other) h.unknown list change
+
+  abbrev L : OutAction → OutList → ReservationChange → Type 0
+  L = LeavesIf (rules_for state) state.reservations i j (ne_eqb j i other) h.unknown
+
+  -- a fact of the state afterwards, or of the list, says that i is spared
+  module _ (Where : State → Type 0) (kind : OutAction → OutList → Bool)
+      (spares : (action : OutAction) (list : OutList) (change : ReservationChange)
+      → kind action list ≡ true → Where (changing_reservations state j change).after
+      → S action list change) where
+    changing-keeps : (action : OutAction) (list : OutList) → kind action list ≡ true → (o : Outcome)
+        → EffectIs (L action list) o
+        → EffectKeeps Where state i j other
+        (when_sound (result_map_both (λ change. change) out_refusal o) (changing_reservations state j))
+    changing-keeps action list of_kind (Ok change) k = λ met.
+        let left = k.shown change refl (spares action list change of_kind met) in
+        changed-keeps state i j w change left.key left.reservation left.unraised
+    changing-keeps action list of_kind (Err fault) k = tt
+
+    reserving-keeps : (action : OutAction) (scope_type : ℕ) (list : OutList)
+        → kind action list ≡ true
+        → EffectKeeps Where state i j other
+        (when_sound (reservation_change state j action scope_type list) (changing_reservations state j))
+    unfolding reservation_change
+    reserving-keeps action scope_type list of_kind =
+        changing-keeps action list of_kind
+        (outcome (rules_for state) state.reservations j action scope_type list)
+        (outcome-leaves (rules_for state) state.reservations i j (ne_eqb j i other) h.unknown action
+        scope_type list)
+
+    keeps-by : (cdb data_out : List ℕ) → is_of_list_kind kind (command_of cdb) data_out ≡ true
+        → Where (step state j cdb data_out).state → Keeps state (step state j cdb data_out).state i
+    keeps-by cdb data_out of_kind =
+        step-keeps Where state i j other (shut refuses state j h).writes kind reserving-keeps classes cdb
+        data_out of_kind
+
+  -- it is not registered afterwards, so that it has registered nobody
+  pub outsider-keeps : (cdb data_out : List ℕ)
+      → is_registrant (step state j cdb data_out).state j ≡ false
+      → Keeps state (step state j cdb data_out).state i
+  outsider-keeps cdb data_out =
+      keeps-by (λ after. is_registrant after j ≡ false) any_kind
+      (λ action list change of_kind gone registers. inl gone)
+      cdb data_out (of-any-kind (command_of cdb) data_out)
+
+  -- it does not ask to register i, or i is registered
+  abbrev sparing : OutAction → OutList → Bool
+  sparing action list =
+      not (is_registering action)
+      || not (is_spared (rules_for state) state.reservations.registrations j i list)
+
+  sparing-by : (registering asked : Bool) → (not registering || not asked) ≡ true → registering ≡ true
+      → asked ≡ false
+  sparing-by true true k e = absurd (false≢true k)
+  sparing-by true false k e = refl
+  sparing-by false asked k e = absurd (false≢true e)
+
   abbrev Always : State → Type 0
   Always after = Unit {0}
 
-  abbrev L : ReservationChange → Type 0
-  L = Leaves (rules_for state) state.reservations i j (ne_eqb j i other) h.unknown
+  sparing-kind : (parsed : Result Command CdbFault) (data_out : List ℕ)
+      → (not (is_registrant state i) && asks_to_register (rules_for state) j i parsed data_out) ≡ false
+      → is_of_list_kind sparing parsed data_out ≡ true
+  sparing-kind (Ok (PersistentReserveOut c)) data_out spared =
+      by-action (is_registering c.action) (out_list (first_bytes c.list_length data_out)) spared
+    where
+      by-action : (registering : Bool) (list : OutList)
+          → (not (is_registrant state i) && option_map_or (asks_for (rules_for state) j i)
+          (if registering then Some list else None) false) ≡ false
+          → (not registering || not (not (is_registrant state i) && asks_for (rules_for state) j i list))
+          ≡ true
+      by-action true list e = ap not e
+      by-action false list e = refl
+  sparing-kind (Ok _) data_out spared = refl
+  sparing-kind (Err fault) data_out spared = refl
 
-  changing-keeps : (o : Outcome) → EffectIs L o
-      → EffectKeeps Always state i j other
-      (when_sound (result_map_both (λ change. change) out_refusal o) (changing_reservations state j))
-  changing-keeps (Ok change) k = λ _.
-      let left = k.shown change refl in
-      changed-keeps state i j w change left.key left.reservation left.unraised
-  changing-keeps (Err fault) k = tt
-
-  reserving-keeps : (action : OutAction) (scope_type : ℕ) (list : OutList)
-      → EffectKeeps Always state i j other
-      (when_sound (reservation_change state j action scope_type list) (changing_reservations state j))
-  unfolding reservation_change
-  reserving-keeps action scope_type list =
-      changing-keeps (outcome (rules_for state) state.reservations j action scope_type list)
-      (outcome-leaves (rules_for state) state.reservations i j (ne_eqb j i other) h.unknown action
-      scope_type list)
-
-  pub outsider-keeps : (cdb data_out : List ℕ) → Keeps state (step state j cdb data_out).state i
-  outsider-keeps cdb data_out =
-      step-keeps Always state i j other (shut refuses state j h).writes reserving-keeps classes cdb
-      data_out tt
+  pub outsider-spares : (cdb data_out : List ℕ) → registers_another state j i cdb data_out ≡ false
+      → Keeps state (step state j cdb data_out).state i
+  outsider-spares cdb data_out spared =
+      keeps-by Always sparing
+      (λ action list change of_kind always registers. inr (sparing-by (is_registering action)
+      (is_spared (rules_for state) state.reservations.registrations j i list) of_kind registers))
+      cdb data_out (sparing-kind (command_of cdb) data_out spared) tt
 
 -- ---- Who stays unregistered
-
--- a REGISTER or a REGISTER AND IGNORE EXISTING KEY
-abbrev pub registers : Result Command CdbFault → Bool
-registers (Ok (PersistentReserveOut c)) = is_registering c.action
-registers _ = false
 
 module _ (state : State) (i j : ℕ)
     (unknown : is_registered state.reservations.registrations i ≡ false) where
@@ -121,43 +181,49 @@ module _ (state : State) (i j : ℕ)
   abbrev U : ReservationChange → Type 0
   U = IsUnknown (rules_for state) state.reservations i j unknown
 
-  -- it does not register i
-  abbrev spares : OutAction → Bool
-  spares action = not (is_registering action && j == i)
+  -- it does not ask to register i
+  abbrev spares : OutAction → OutList → Bool
+  spares action list = not (is_registering action && asks_for (rules_for state) j i list)
 
-  apart : (registering same : Bool) → not (registering && same) ≡ true → registering ≡ true → same ≡ false
+  apart : (registering asked : Bool) → not (registering && asked) ≡ true → registering ≡ true
+      → asked ≡ false
   apart true true h e = absurd (false≢true h)
   apart true false h e = refl
-  apart false same h e = absurd (false≢true e)
+  apart false asked h e = absurd (false≢true e)
 
   changing-stands : (o : Outcome) → EffectIs U o → EffectStands Stays state j unknown
       (when_sound (result_map_both (λ change. change) out_refusal o) (changing_reservations state j))
   changing-stands (Ok change) k = k.shown change refl
   changing-stands (Err fault) k = tt
 
-  reserving-stands : (action : OutAction) (scope_type : ℕ) (list : OutList) → spares action ≡ true
+  reserving-stands : (action : OutAction) (scope_type : ℕ) (list : OutList)
+      → spares action list ≡ true
       → EffectStands Stays state j unknown
       (when_sound (reservation_change state j action scope_type list) (changing_reservations state j))
   unfolding reservation_change
   reserving-stands action scope_type list h =
       changing-stands (outcome (rules_for state) state.reservations j action scope_type list)
       (outcome-unknown (rules_for state) state.reservations i j unknown action scope_type list
-      (apart (is_registering action) (j == i) h))
+      (apart (is_registering action) (asks_for (rules_for state) j i list) h))
 
-  spared : (a b : Bool) → (b ≡ true → a ≡ false) → not (a && b) ≡ true
-  spared true true f = sym (f refl)
-  spared true false f = refl
-  spared false b f = refl
+  spared : (registering : Bool) (list : OutList)
+      → option_map_or (asks_for (rules_for state) j i)
+      (if registering then Some list else None) false ≡ false
+      → not (registering && asks_for (rules_for state) j i list) ≡ true
+  spared true list h = ap not h
+  spared false list h = refl
 
-  of-kind : (parsed : Result Command CdbFault) → (j ≡ i → registers parsed ≡ false)
-      → is_of_kind spares parsed ≡ true
-  of-kind (Ok (PersistentReserveOut c)) h =
-      spared (is_registering c.action) (j == i) (λ e. h (eqb-true j i e))
-  of-kind (Ok _) h = refl
-  of-kind (Err fault) h = refl
+  of-kind : (parsed : Result Command CdbFault) (data_out : List ℕ)
+      → asks_to_register (rules_for state) j i parsed data_out ≡ false
+      → is_of_list_kind spares parsed data_out ≡ true
+  of-kind (Ok (PersistentReserveOut c)) data_out h =
+      spared (is_registering c.action) (out_list (first_bytes c.list_length data_out)) h
+  of-kind (Ok _) data_out h = refl
+  of-kind (Err fault) data_out h = refl
 
-  pub stays-unknown : (cdb data_out : List ℕ) → (j ≡ i → registers (command_of cdb) ≡ false)
+  pub stays-unknown : (cdb data_out : List ℕ)
+      → asks_to_register (rules_for state) j i (command_of cdb) data_out ≡ false
       → is_registered (step state j cdb data_out).state.reservations.registrations i ≡ false
   stays-unknown cdb data_out h =
       step-stands Stays state j unknown spares reserving-stands cdb data_out
-      (of-kind (command_of cdb) h)
+      (of-kind (command_of cdb) data_out h)

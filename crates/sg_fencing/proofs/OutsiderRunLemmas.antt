@@ -83,7 +83,8 @@ nothing-changed limits refuses classes state i (call ∷ calls) w held stay othe
     let other = or_parts (is_from i call) (list_any (is_from i) calls) others in
     let kept =
     outsider-keeps refuses classes state i j (eqb-false j i other.0)
-    (record { held = held; unknown = (stay j 0 call refl refl).0 }) w cdb data_out in
+    (record { held = held; unknown = (stay j 0 call refl refl).0 }) w cdb data_out
+    (stay j 0 call refl refl).1 in
     let rest =
     nothing-changed limits refuses classes (step_of state call).state i calls
     (limits.command state j cdb data_out w)

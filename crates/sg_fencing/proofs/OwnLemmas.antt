@@ -15,7 +15,8 @@ use Rattle.sg_wire.specs.declared.out_list.OutList.{OutList}
 use Rattle.sg_units.specs.declared.registrations.Registration.{Registration}
 use Rattle.sg_units.specs.declared.reservation_change.ReservationChange.{ReservationChange}
 use Rattle.sg_units.specs.declared.reservation_state.ReservationState.{ReservationState}
-use Rattle.sg_fencing.proofs.ReserveOutLemmas.{alone_in, is_registered-key_of}
+use Rattle.sg_fencing.proofs.KeyLemmas.{is_registered-key_of}
+use Rattle.sg_fencing.proofs.ReserveOutLemmas.{alone_in}
 use Rattle.sg_fencing.proofs.OwnReserveOutLemmas.{Left, allows-same, left_of, own_agrees, under-alone}
 use Rattle.sg_target.specs.Refusal.{when_sound}
 use Rattle.sg_target.specs.ReservationCommands.{changing_reservations, out_refusal}

@@ -6,6 +6,7 @@ use Rattle.std.proofs.Common.{[], ◌∷◌, length, Option, Some, None, Ok, Err
 use Rattle.std.proofs.Common.{arith}
 use Rattle.std.specs.Prelude.{if◌then◌else◌, is_some}
 use Rattle.std.proofs.lemmas.Bool.{and_from, eq-eqb, false≢true, not-false, not-true, or_left}
+use Rattle.std.proofs.lemmas.Bool.{or_parts}
 use Rattle.std.proofs.lemmas.Bool.Decides.{nat_tests}
 use Rattle.sg_wire.specs.declared.command.out_action.OutAction.{OutAction}
 use Rattle.sg_wire.specs.declared.command.out_action.OutAction.TheVariants.{Register, Reserve}
@@ -17,13 +18,14 @@ use Rattle.sg_units.specs.Access.{allowed, allows, standing_of}
 use Rattle.sg_units.specs.Laws.{OneKeyEach}
 use Rattle.sg_units.specs.UnsupportedFlags.{has_unsupported_flag}
 use Rattle.sg_units.specs.Registrations.{is_of, is_registered, is_registered_under, is_under}
-use Rattle.sg_units.specs.Registrations.{key_of, registration, with_key_replaced}
+use Rattle.sg_units.specs.Registrations.{key_of, max_registrations, with_replaced}
 use Rattle.sg_units.specs.Registrations.{without_initiator, without_key}
 use Rattle.sg_units.specs.Reservations.{IsConsistent, has_type, is_holder, taken, while_held}
 use Rattle.sg_units.specs.ReservationType.{type_of}
 use Rattle.sg_units.specs.ReserveOut.{Outcome, accepts_key, action_outcome}
 use Rattle.sg_units.specs.ReserveOut.{outcome}
-use Rattle.sg_units.specs.ReserveOut.{preempt_cases, preempted, register_cases, release_cases}
+use Rattle.sg_units.specs.ReserveOut.{preempt_cases, preempted, register_cases}
+use Rattle.sg_units.specs.ReserveOut.{register_together_cases, registration_by, release_cases}
 use Rattle.sg_units.specs.ReserveOut.{reserve_cases, state_after, with_type}
 use Rattle.sg_units.specs.declared.out_fault.OutFault.{OutFault}
 use Rattle.sg_wire.specs.declared.out_list.OutList.{OutList}
@@ -34,9 +36,10 @@ use Rattle.sg_units.specs.declared.reservation_change.ReservationChange.{Reserva
 use Rattle.sg_units.specs.declared.reservation_state.ReservationState.{ReservationState}
 use Rattle.sg_units.specs.declared.types.ReservationType.{ReservationType}
 use Rattle.sg_units.proofs.OutcomeLemmas.{FirstIs, case_or, choice, last_case}
-use Rattle.sg_fencing.proofs.ReserveOutLemmas.{alone_in, held_alone, key_of-cons, key_of-filter}
-use Rattle.sg_fencing.proofs.ReserveOutLemmas.{key_of-without_key, is_registered-key_of}
-use Rattle.sg_fencing.proofs.ReserveOutLemmas.{only-key_of, stays_registered, under-key_of}
+use Rattle.sg_fencing.proofs.KeyLemmas.{key_of-cons, key_of-filter}
+use Rattle.sg_fencing.proofs.ReserveOutLemmas.{alone_in, held_alone}
+use Rattle.sg_fencing.proofs.KeyLemmas.{key_of-without_key, is_registered-key_of}
+use Rattle.sg_fencing.proofs.KeyLemmas.{only-key_of, stays_registered, under-key_of}
 use Rattle.sg_fencing.proofs.ReserveOutLemmas.{while_held-alone}
 
 -- ---- The key under which i is registered
@@ -71,22 +74,26 @@ key_of-unregistered [] i = refl
 key_of-unregistered (r ∷ rs) i =
     unregistered-first r i (is_of i r) (without_initiator rs i) refl (key_of-unregistered rs i)
 
-replaced-first : (r : Registration) (rs : List Registration) (i key : ℕ) (b : Bool) → is_of i r ≡ b
-    → (i == i) ≡ true → (is_registered rs i ≡ true → key_of (with_key_replaced rs i key) i ≡ Some key)
-    → (b || is_registered rs i) ≡ true
-    → key_of (cond b (registration i key) r ∷ with_key_replaced rs i key) i ≡ Some key
-replaced-first r rs i key true e self rest h =
-    key_of-cons (registration i key) (with_key_replaced rs i key) i
-    ∙ ap (λ b. cond b (Some key) (key_of (with_key_replaced rs i key) i)) self
-replaced-first r rs i key false e self rest h =
-    key_of-cons r (with_key_replaced rs i key) i
-    ∙ (ap (λ b. cond b (Some r.key) (key_of (with_key_replaced rs i key) i)) e ∙ rest h)
+replaced-first : (r new : Registration) (rs : List Registration) (b : Bool)
+    → is_of new.initiator r ≡ b → is_of new.initiator new ≡ true
+    → (is_registered rs new.initiator ≡ true
+    → key_of (with_replaced rs new) new.initiator ≡ Some new.key)
+    → (b || is_registered rs new.initiator) ≡ true
+    → key_of (cond b new r ∷ with_replaced rs new) new.initiator ≡ Some new.key
+replaced-first r new rs true e self rest h =
+    key_of-cons new (with_replaced rs new) new.initiator
+    ∙ ap (λ b. cond b (Some new.key) (key_of (with_replaced rs new) new.initiator)) self
+replaced-first r new rs false e self rest h =
+    key_of-cons r (with_replaced rs new) new.initiator
+    ∙ (ap (λ b. cond b (Some r.key) (key_of (with_replaced rs new) new.initiator)) e ∙ rest h)
 
-key_of-own_replaced : (rs : List Registration) (i key : ℕ) → is_registered rs i ≡ true
-    → key_of (with_key_replaced rs i key) i ≡ Some key
-key_of-own_replaced [] i key h = absurd (false≢true h)
-key_of-own_replaced (r ∷ rs) i key h =
-    replaced-first r rs i key (is_of i r) refl (eq-eqb i i refl) (key_of-own_replaced rs i key) h
+key_of-own_replaced : (rs : List Registration) (new : Registration)
+    → is_registered rs new.initiator ≡ true
+    → key_of (with_replaced rs new) new.initiator ≡ Some new.key
+key_of-own_replaced [] new h = absurd (false≢true h)
+key_of-own_replaced (r ∷ rs) new h =
+    replaced-first r new rs (is_of new.initiator r) refl (eq-eqb new.initiator new.initiator refl)
+    (key_of-own_replaced rs new) h
 
 -- ---- What is left
 
@@ -161,22 +168,33 @@ module _ (rules : Rules) (all : List Registration) (kind : ReservationType) (bef
       is_registered-key_of rest i ∙ ap is_some (key_of-unregistered all i) in
       ap (λ b. if b then held else None) gone
 
-  register_leaves : (sark : ℕ) (aptpl : Bool) → key_of all i ≡ Some k
-      → FirstIs (Leaves state i (register_left sark)) (register_cases state i sark aptpl)
+  register_leaves : (list : OutList) → key_of all i ≡ Some k
+      → FirstIs (Leaves state i (register_left list.service_action_key)) (register_cases state i list)
   unfolding register_cases
-  register_leaves sark aptpl key =
+  register_leaves list key =
+      let sark = list.service_action_key in
+      let own = registration_by list i in
       let v = register_left sark in
       let known = is_registered all i in
       let is = here key in
       case_or (Leaves state i v) _ _ (λ h. absurd (not_known known (sark == 0) is h))
-      (λ _. case_or (Leaves state i v) _ _ (λ h. absurd (not_known known (length all == 6) is h))
+      (λ _. case_or (Leaves state i v) _ _
+      (λ h. absurd (not_known known (length all == max_registrations) is h))
       (λ _. case_or (Leaves state i v) _ _ (λ h. absurd (not_true known is h))
       (λ _. case_or (Leaves state i v) _ _
       (λ other. at state i v (Some sark, held) _ (ap (λ b. register_or b sark) (not-true _ other))
-      (leaves _ (Some sark, held) (key_of-own_replaced all i sark is) refl))
+      (leaves _ (Some sark, held) (key_of-own_replaced all own is) refl))
       (λ zero. last_case (Leaves state i v) _ _ refl
       (at state i v (None, None) _ (ap (λ b. register_or b sark) (not-false _ zero))
       (leaves _ (None, None) (key_of-unregistered all i) ended))))))
+
+  -- it is registered already
+  together_leaves : (list : OutList) → key_of all i ≡ Some k
+      → FirstIs (Leaves state i as_before) (register_together_cases state i list)
+  unfolding register_together_cases
+  together_leaves list key =
+      case_or (Leaves state i as_before) _ _ (λ _. refuses _ key)
+      (λ new. absurd (false≢true (sym (or_parts (is_registered all i) _ new).0 ∙ here key)))
 
   reserve_leaves : (new : ReservationType) → key_of all i ≡ Some k
       → FirstIs (Leaves state i as_before) (reserve_cases state i new)
@@ -256,33 +274,45 @@ module _ (rules : Rules) (all : List Registration) (kind : ReservationType) (bef
   typed None f left key h = refuses _ key
   typed (Some type) f left key h = h type
 
-  abbrev action_left : OutAction → Option ReservationType → (sark : ℕ) → Left
-  action_left Register type sark = register_left sark
-  action_left Reserve type sark = typed_left type (λ new. as_before)
-  action_left Release type sark = typed_left type (λ new. release_or (has_type held new))
-  action_left Clear type sark = (None, None)
-  action_left Preempt type sark = preempt_or (sark == 0) (k == sark) type
-  action_left PreemptAndAbort type sark = preempt_or (sark == 0) (k == sark) type
-  action_left RegisterAndIgnoreExistingKey type sark = register_left sark
+  abbrev together_or : Bool → ℕ → Left
+  together_or together sark = if together then as_before else register_left sark
 
-  action_leaves : (action : OutAction) (type : Option ReservationType) (sark : ℕ) (aptpl : Bool)
+  abbrev action_left : OutAction → Option ReservationType → OutList → Left
+  action_left Register type list = together_or list.spec_i_pt list.service_action_key
+  action_left Reserve type list = typed_left type (λ new. as_before)
+  action_left Release type list = typed_left type (λ new. release_or (has_type held new))
+  action_left Clear type list = (None, None)
+  action_left Preempt type list =
+      preempt_or (list.service_action_key == 0) (k == list.service_action_key) type
+  action_left PreemptAndAbort type list =
+      preempt_or (list.service_action_key == 0) (k == list.service_action_key) type
+  action_left RegisterAndIgnoreExistingKey type list = register_left list.service_action_key
+
+  action_leaves : (action : OutAction) (type : Option ReservationType) (list : OutList)
       → IsUnderAlone all i k → key_of all i ≡ Some k
-      → Leaves state i (action_left action type sark)
-      (action_outcome rules state i action type sark aptpl)
-  action_leaves Register type sark aptpl one key = (register_leaves sark aptpl key).first
-  action_leaves Reserve type sark aptpl one key =
+      → Leaves state i (action_left action type list) (action_outcome rules state i action type list)
+  action_leaves Register type list one key =
+      let sark = list.service_action_key in
+      let v = together_or list.spec_i_pt sark in
+      choice (Leaves state i v) list.spec_i_pt _ _
+      (λ set. at state i v as_before _ (ap (λ b. together_or b sark) set) (together_leaves list key).first)
+      (λ alone. at state i v (register_left sark) _ (ap (λ b. together_or b sark) alone)
+      (register_leaves list key).first)
+  action_leaves Reserve type list one key =
       typed type _ (λ new. as_before) key (λ new. (reserve_leaves new key).first)
-  action_leaves Release type sark aptpl one key =
+  action_leaves Release type list one key =
       let v = typed_left type (λ new. release_or (has_type held new)) in
       let holds : is_holder state i ≡ true = and_from _ (i == i) (here key) (eq-eqb i i refl) in
       choice (Leaves state i v) (rules.release_of_nothing_ignores_type && not (is_holder state i)) _ _
       (λ h. absurd (not_released rules.release_of_nothing_ignores_type (is_holder state i) holds h))
       (λ _. typed type _ (λ new. release_or (has_type held new)) key
       (λ new. (release_leaves new key).first))
-  action_leaves Clear type sark aptpl one key = leaves _ (None, None) refl refl
-  action_leaves Preempt type sark aptpl one key = (preempt_leaves type sark one key).first
-  action_leaves PreemptAndAbort type sark aptpl one key = (preempt_leaves type sark one key).first
-  action_leaves RegisterAndIgnoreExistingKey type sark aptpl one key = (register_leaves sark aptpl key).first
+  action_leaves Clear type list one key = leaves _ (None, None) refl refl
+  action_leaves Preempt type list one key =
+      (preempt_leaves type list.service_action_key one key).first
+  action_leaves PreemptAndAbort type list one key =
+      (preempt_leaves type list.service_action_key one key).first
+  action_leaves RegisterAndIgnoreExistingKey type list one key = (register_leaves list key).first
 
   abbrev accepts : OutAction → (key : ℕ) → Bool
   accepts RegisterAndIgnoreExistingKey key = true
@@ -306,8 +336,8 @@ module _ (rules : Rules) (all : List Registration) (kind : ReservationType) (bef
   -- what a command leaves of them
   abbrev left_after : OutAction → (scope_type : ℕ) → OutList → Left
   left_after action scope_type list =
-      left_or (has_unsupported_flag action list) (not (accepts action list.reservation_key))
-      (action_left action (type_of scope_type) list.service_action_key)
+      left_or (has_unsupported_flag rules action list) (not (accepts action list.reservation_key))
+      (action_left action (type_of scope_type) list)
 
   outcome_leaves_own : (action : OutAction) (scope_type : ℕ) (list : OutList)
       → IsUnderAlone all i k → key_of all i ≡ Some k
@@ -316,8 +346,8 @@ module _ (rules : Rules) (all : List Registration) (kind : ReservationType) (bef
   unfolding outcome
   outcome_leaves_own action scope_type list one key =
       let v = left_after action scope_type list in
-      let flag = has_unsupported_flag action list in
-      let left = action_left action (type_of scope_type) list.service_action_key in
+      let flag = has_unsupported_flag rules action list in
+      let left = action_left action (type_of scope_type) list in
       let not_own = not (accepts action list.reservation_key) in
       let is_own = ap not (accepts-key action list.reservation_key one key) in
       choice (Leaves state i v) flag _ _
@@ -328,7 +358,7 @@ module _ (rules : Rules) (all : List Registration) (kind : ReservationType) (bef
       (refuses _ key))
       (λ accepted. at state i v left _
       (ap (λ b. left_or b not_own left) no ∙ ap (λ b. left_or false b left) (sym is_own ∙ accepted))
-      (action_leaves action (type_of scope_type) list.service_action_key list.aptpl one key)))
+      (action_leaves action (type_of scope_type) list one key)))
 
 -- So its effect on two tables that have the same key for i is the same.
 pub own_agrees : (rules : Rules) (all rest : List Registration) (kind : ReservationType)

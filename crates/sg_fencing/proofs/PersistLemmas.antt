@@ -19,12 +19,12 @@ use Rattle.sg_wire.specs.declared.profile.Rules.{Rules}
 use Rattle.sg_units.specs.Registrations.{is_registered}
 use Rattle.sg_units.specs.ReservationType.{type_of}
 use Rattle.sg_units.specs.ReserveOut.{Outcome, action_outcome, outcome, preempt_cases, register_cases}
-use Rattle.sg_units.specs.ReserveOut.{release_cases, reserve_cases}
+use Rattle.sg_units.specs.ReserveOut.{register_together_cases, release_cases, reserve_cases}
 use Rattle.sg_units.specs.declared.reservation_change.ReservationChange.{ReservationChange}
 use Rattle.sg_units.specs.declared.reservation_state.ReservationState.{ReservationState}
 use Rattle.sg_units.specs.declared.types.ReservationType.{ReservationType}
-use Rattle.sg_units.proofs.OutcomeLemmas.{EffectIs, FirstIs, case_or, effective, if-accepted, last_case}
-use Rattle.sg_units.proofs.OutcomeLemmas.{refused, releasing, taking, typed}
+use Rattle.sg_units.proofs.OutcomeLemmas.{EffectIs, FirstIs, case_or, choice, effective, if-accepted}
+use Rattle.sg_units.proofs.OutcomeLemmas.{last_case, refused, releasing, taking, typed}
 use Rattle.sg_target.specs.Happenings.{after_happening}
 use Rattle.sg_target.specs.PowerCycle.{after_power_cycle}
 use Rattle.sg_target.specs.declared.happening.Happening.{Happening}
@@ -49,7 +49,7 @@ use Rattle.sg_target.proofs.LiftLemmas.{not_good}
 use Rattle.sg_fencing.specs.Laws.{RefusedChangesNothing}
 use Rattle.sg_fencing.specs.PowerCycles.{Counts, NoneCountsFrom, TheLastRegisterDecides, persists}
 use Rattle.sg_fencing.specs.Registrants.{is_registering, registering_list, rules_for}
-use Rattle.sg_fencing.proofs.OperationLemmas.{is_of_kind}
+use Rattle.sg_fencing.proofs.OperationLemmas.{is_of_list_kind}
 use Rattle.sg_fencing.proofs.NewcomerLemmas.{with-list}
 use Rattle.sg_fencing.proofs.PowerLemmas.{drops, keeps}
 use Rattle.sg_fencing.proofs.StandingLemmas.{EffectStands, step-stands}
@@ -74,9 +74,14 @@ not-acting true zero_key a b = false≢true (sym a)
 not-acting false true a b = false≢true (sym b)
 not-acting false false a b = false≢true (sym a)
 
+not-new : (known zero_key : Bool) → (known || not zero_key) ≡ false → (known || zero_key) ≡ false → ⊥
+not-new true zero_key a b = false≢true (sym a)
+not-new false true a b = false≢true (sym b)
+not-new false false a b = false≢true (sym a)
+
 -- another action than those that register
-abbrev pub is_other : OutAction → Bool
-is_other action = not (is_registering action)
+abbrev pub is_other : OutAction → OutList → Bool
+is_other action list = not (is_registering action)
 
 module _ (rules : Rules) (state : ReservationState) (j : ℕ) where
   reserving : (type : ReservationType) → FirstIs (EffectIs Leaves) (reserve_cases state j type)
@@ -106,60 +111,80 @@ module _ (rules : Rules) (state : ReservationState) (j : ℕ) where
       (λ _. case_or (EffectIs Leaves) _ _ (λ _. refused Leaves _)
       (λ _. last_case (EffectIs Leaves) _ _ refl (effective Leaves _ refl))))))
 
-  action-leaves : (action : OutAction) (type : Option ReservationType) (sark : ℕ) (aptpl : Bool)
-      → is_other action ≡ true → EffectIs Leaves (action_outcome rules state j action type sark aptpl)
-  action-leaves Register type sark aptpl h = absurd (false≢true h)
-  action-leaves RegisterAndIgnoreExistingKey type sark aptpl h = absurd (false≢true h)
-  action-leaves Reserve type sark aptpl h = typed Leaves type _ (λ type. (reserving type).first)
-  action-leaves Release type sark aptpl h = releasing Leaves rules state j type refl unreleased
-  action-leaves Clear type sark aptpl h = effective Leaves _ refl
-  action-leaves Preempt type sark aptpl h = (preempting type sark).first
-  action-leaves PreemptAndAbort type sark aptpl h = (preempting type sark).first
+  action-leaves : (action : OutAction) (type : Option ReservationType) (list : OutList)
+      → is_other action list ≡ true → EffectIs Leaves (action_outcome rules state j action type list)
+  action-leaves Register type list h = absurd (false≢true h)
+  action-leaves RegisterAndIgnoreExistingKey type list h = absurd (false≢true h)
+  action-leaves Reserve type list h = typed Leaves type _ (λ type. (reserving type).first)
+  action-leaves Release type list h = releasing Leaves rules state j type refl unreleased
+  action-leaves Clear type list h = effective Leaves _ refl
+  action-leaves Preempt type list h = (preempting type list.service_action_key).first
+  action-leaves PreemptAndAbort type list h = (preempting type list.service_action_key).first
 
-  outcome-leaves : (action : OutAction) (scope_type : ℕ) (list : OutList) → is_other action ≡ true
+  outcome-leaves : (action : OutAction) (scope_type : ℕ) (list : OutList) → is_other action list ≡ true
       → EffectIs Leaves (outcome rules state j action scope_type list)
   outcome-leaves action scope_type list h =
       if-accepted Leaves rules state j action scope_type list
-      (λ _. action-leaves action (type_of scope_type) list.service_action_key list.aptpl h)
+      (λ _. action-leaves action (type_of scope_type) list h)
 
   -- those that register
   abbrev acts : (sark : ℕ) → Bool
   acts sark = is_registered state.registrations j || not (sark == 0)
 
-  register-sets : (sark : ℕ) (aptpl : Bool) → acts sark ≡ true
-      → FirstIs (EffectIs (Sets aptpl)) (register_cases state j sark aptpl)
+  register-sets : (list : OutList) → acts list.service_action_key ≡ true
+      → FirstIs (EffectIs (Sets list.aptpl)) (register_cases state j list)
   unfolding register_cases
-  register-sets sark aptpl h =
+  register-sets list h =
+      let S = Sets list.aptpl in
       let known = is_registered state.registrations j in
-      case_or (EffectIs (Sets aptpl)) _ _ (λ idle. absurd (not-idle known (sark == 0) h idle))
-      (λ _. case_or (EffectIs (Sets aptpl)) _ _ (λ _. refused (Sets aptpl) _)
-      (λ _. case_or (EffectIs (Sets aptpl)) _ _ (λ _. effective (Sets aptpl) _ refl)
-      (λ _. case_or (EffectIs (Sets aptpl)) _ _ (λ _. effective (Sets aptpl) _ refl)
-      (λ _. last_case (EffectIs (Sets aptpl)) _ _ refl (effective (Sets aptpl) _ refl)))))
+      case_or (EffectIs S) _ _ (λ idle. absurd (not-idle known (list.service_action_key == 0) h idle))
+      (λ _. case_or (EffectIs S) _ _ (λ _. refused S _)
+      (λ _. case_or (EffectIs S) _ _ (λ _. effective S _ refl)
+      (λ _. case_or (EffectIs S) _ _ (λ _. effective S _ refl)
+      (λ _. last_case (EffectIs S) _ _ refl (effective S _ refl)))))
 
-  register-leaves : (sark : ℕ) (aptpl : Bool) → acts sark ≡ false
-      → FirstIs (EffectIs Leaves) (register_cases state j sark aptpl)
+  together-sets : (list : OutList)
+      → FirstIs (EffectIs (Sets list.aptpl)) (register_together_cases state j list)
+  unfolding register_together_cases
+  together-sets list =
+      let S = Sets list.aptpl in
+      case_or (EffectIs S) _ _ (λ _. refused S _)
+      (λ _. case_or (EffectIs S) _ _ (λ _. refused S _)
+      (λ _. case_or (EffectIs S) _ _ (λ _. refused S _)
+      (λ _. last_case (EffectIs S) _ _ refl (effective S _ refl))))
+
+  register-leaves : (list : OutList) → acts list.service_action_key ≡ false
+      → FirstIs (EffectIs Leaves) (register_cases state j list)
   unfolding register_cases
-  register-leaves sark aptpl h =
+  register-leaves list h =
       let known = is_registered state.registrations j in
       case_or (EffectIs Leaves) _ _ (λ _. effective Leaves _ refl)
-      (λ acting. absurd (not-acting known (sark == 0) h acting))
+      (λ acting. absurd (not-acting known (list.service_action_key == 0) h acting))
+
+  together-leaves : (list : OutList) → acts list.service_action_key ≡ false
+      → FirstIs (EffectIs Leaves) (register_together_cases state j list)
+  unfolding register_together_cases
+  together-leaves list h =
+      let known = is_registered state.registrations j in
+      case_or (EffectIs Leaves) _ _ (λ _. refused Leaves _)
+      (λ keyed. absurd (not-new known (list.service_action_key == 0) h keyed))
 
   by-register : (P : ReservationChange → Type 0) (action : OutAction) (scope_type : ℕ) (list : OutList)
-      → is_registering action ≡ true
-      → FirstIs (EffectIs P) (register_cases state j list.service_action_key list.aptpl)
+      → is_registering action ≡ true → FirstIs (EffectIs P) (register_cases state j list)
+      → FirstIs (EffectIs P) (register_together_cases state j list)
       → EffectIs P (outcome rules state j action scope_type list)
-  by-register P Register scope_type list h f =
-      if-accepted P rules state j Register scope_type list (λ _. f.first)
-  by-register P RegisterAndIgnoreExistingKey scope_type list h f =
+  by-register P Register scope_type list h f t =
+      if-accepted P rules state j Register scope_type list
+      (λ _. choice (EffectIs P) list.spec_i_pt _ _ (λ _. t.first) (λ _. f.first))
+  by-register P RegisterAndIgnoreExistingKey scope_type list h f t =
       if-accepted P rules state j RegisterAndIgnoreExistingKey scope_type list (λ _. f.first)
-  by-register P _ scope_type list h f = absurd (false≢true h)
+  by-register P _ scope_type list h f t = absurd (false≢true h)
 
 -- ---- The command
 
 pub of-kind : (parsed : Result Command CdbFault) (data_out : List ℕ)
     → registering_list parsed data_out ≡ None
-    → is_of_kind is_other parsed ≡ true
+    → is_of_list_kind is_other parsed data_out ≡ true
 of-kind (Ok (PersistentReserveOut c)) data_out h = by-action (is_registering c.action) _ h
   where
     by-action : (b : Bool) (list : OutList) → cond {A = Option OutList} b (Some list) None ≡ None
@@ -179,7 +204,7 @@ module _ (state : State) (j : ℕ) where
   changing-leaves (Err fault) k = tt
 
   reserving-leaves : (action : OutAction) (scope_type : ℕ) (list : OutList)
-      → is_other action ≡ true → EffectStands Same state j refl
+      → is_other action list ≡ true → EffectStands Same state j refl
       (when_sound (reservation_change state j action scope_type list) (changing_reservations state j))
   unfolding reservation_change
   reserving-leaves action scope_type list h =
@@ -223,14 +248,14 @@ module _ (state : State) (j : ℕ) where
         (following : (o : Outcome) → EffectIs P o
         → After (step_outcome state j (when_sound (result_map_both (λ change. change) out_refusal o)
         (changing_reservations state j))))
-        (cases : FirstIs (EffectIs P)
-        (register_cases state.reservations j list.service_action_key list.aptpl)) where
+        (cases : FirstIs (EffectIs P) (register_cases state.reservations j list))
+        (together : FirstIs (EffectIs P) (register_together_cases state.reservations j list)) where
       after-action : (action : OutAction) (scope_type : ℕ) → is_registering action ≡ true
           → After (step_by state j (ChangeReservations action scope_type list))
       unfolding reservation_change
       after-action action scope_type h =
           following (outcome (rules_for state) state.reservations j action scope_type list)
-          (by-register (rules_for state) state.reservations j P action scope_type list h cases)
+          (by-register (rules_for state) state.reservations j P action scope_type list h cases together)
 
       after-command : (cdb data_out : List ℕ) → registering_list (command_of cdb) data_out ≡ Some list
           → After (step state j cdb data_out)
@@ -241,15 +266,16 @@ module _ (state : State) (j : ℕ) where
         → Set (step state j cdb data_out)
     sets a =
         after-command (Sets list.aptpl) Set (λ refusal good. absurd (not_good state j refusal good))
-        set-outcome
-        (register-sets (rules_for state) state.reservations j list.service_action_key list.aptpl a)
+        set-outcome (register-sets (rules_for state) state.reservations j list a)
+        (together-sets (rules_for state) state.reservations j list)
 
     leaves : acts (rules_for state) state.reservations j list.service_action_key ≡ false
         → (cdb data_out : List ℕ) → registering_list (command_of cdb) data_out ≡ Some list
         → Left (step state j cdb data_out)
     leaves a =
         after-command Leaves Left refused-left left-outcome
-        (register-leaves (rules_for state) state.reservations j list.service_action_key list.aptpl a)
+        (register-leaves (rules_for state) state.reservations j list a)
+        (together-leaves (rules_for state) state.reservations j list a)
 
 counted-sets : (state : State) (call : Call) (list : OutList) → Counts state call list
     → persists (step_of state call).state ≡ list.aptpl

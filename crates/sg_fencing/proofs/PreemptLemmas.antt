@@ -1,7 +1,7 @@
 -- PREEMPT and PREEMPT AND ABORT remove the registrations of others under their key, leave a
 -- reservation held, and keep their sender.
 use Rattle.std.proofs.Common.{◌≡◌, ◌==◌, ℕ, Bool, true, false, cond, not, ◌&&◌, ◌||◌, List}
-use Rattle.std.proofs.Common.{[], ◌∷◌, filter, length, Option, Some, None, Result, Ok, Err}
+use Rattle.std.proofs.Common.{[], ◌∷◌, filter, Option, Some, None, Result, Ok, Err}
 use Rattle.std.proofs.Common.{is_some, refl, sym, ap, ◌∙◌, subst, arith}
 use Rattle.std.specs.Option.{option_map, option_map_or}
 use Rattle.std.specs.Result.{result_map_both}
@@ -15,7 +15,7 @@ use Rattle.sg_wire.specs.declared.command.Command.{Command}
 use Rattle.sg_wire.specs.declared.command.Command.TheVariants.{PersistentReserveOut}
 use Rattle.sg_wire.specs.declared.command.out_action.OutAction.{OutAction}
 use Rattle.sg_wire.specs.declared.command.out_action.OutAction.TheVariants.{Preempt, PreemptAndAbort}
-use Rattle.sg_wire.specs.OutList.{list_length, out_list}
+use Rattle.sg_wire.specs.OutList.{out_list}
 use Rattle.sg_units.specs.Laws.{OneKeyEach}
 use Rattle.sg_units.specs.Registrations.{is_of, is_registered, is_registered_under, is_under}
 use Rattle.sg_units.specs.Registrations.{key_of, without_key}
@@ -30,15 +30,15 @@ use Rattle.sg_units.specs.declared.reservation_change.ReservationChange.{Reserva
 use Rattle.sg_units.specs.declared.reservation_state.ReservationState.{ReservationState}
 use Rattle.sg_units.specs.declared.types.ReservationType.{ReservationType}
 use Rattle.sg_units.proofs.ConsistencyLemmas.{is_registered-under}
-use Rattle.sg_fencing.proofs.ReserveOutLemmas.{is_registered-key_of, key_of-filter}
-use Rattle.sg_fencing.proofs.ReserveOutLemmas.{key_of-without_key, only-key_of, stays_registered}
+use Rattle.sg_fencing.proofs.KeyLemmas.{is_registered-key_of, key_of-filter}
+use Rattle.sg_fencing.proofs.KeyLemmas.{key_of-without_key, only-key_of, stays_registered}
 use Rattle.sg_units.proofs.OutcomeLemmas.{EffectIs, FirstIs, case_or, if-accepted, effective, last_case}
 use Rattle.sg_units.proofs.OutcomeLemmas.{refused, taking}
 use Rattle.sg_target.specs.Demands.{demands}
 use Rattle.sg_target.specs.Effect.{Effect}
 use Rattle.sg_target.specs.Refusal.{when_sound}
 use Rattle.sg_target.specs.ReservationCommands.{changing_reservations, out_refusal}
-use Rattle.sg_target.specs.ReservationCommands.{reservation_change}
+use Rattle.sg_target.specs.ReservationCommands.{has_list_length, reservation_change}
 use Rattle.sg_target.specs.Semantics.{effect_of}
 use Rattle.sg_target.specs.State.{State, config_of}
 use Rattle.sg_target.specs.Step.{Step, outcome as step_outcome, step}
@@ -125,18 +125,17 @@ module _ (rules : Rules) (state : ReservationState) (i j : ℕ) (other : (j == i
       (λ _. case_or (EffectIs IsRemoved) _ _ (λ _. refused IsRemoved _)
       (λ _. last_case (EffectIs IsRemoved) _ _ refl (effective IsRemoved _ under_key))))))
 
-  action-removes : (action : OutAction) (type : Option ReservationType) (aptpl : Bool)
-      → is_preempting action ≡ true
-      → EffectIs IsRemoved (action_outcome rules state j action type key aptpl)
-  action-removes Preempt type aptpl h = (preempt-removes type).first
-  action-removes PreemptAndAbort type aptpl h = (preempt-removes type).first
-  action-removes _ type aptpl h = absurd (false≢true h)
+  action-removes : (action : OutAction) (type : Option ReservationType)
+      → is_preempting action ≡ true → EffectIs IsRemoved (action_outcome rules state j action type list)
+  action-removes Preempt type h = (preempt-removes type).first
+  action-removes PreemptAndAbort type h = (preempt-removes type).first
+  action-removes _ type h = absurd (false≢true h)
 
   outcome-removes : (action : OutAction) (scope_type : ℕ) → is_preempting action ≡ true
       → EffectIs IsRemoved (outcome rules state j action scope_type list)
   outcome-removes action scope_type h =
       if-accepted IsRemoved rules state j action scope_type list
-      (λ _. action-removes action (type_of scope_type) list.aptpl h)
+      (λ _. action-removes action (type_of scope_type) h)
 
 -- ---- The reservation that somebody is left to hold
 
@@ -195,19 +194,19 @@ module _ (rules : Rules) (state : ReservationState) (j r : ℕ)
       (effective IsHeldStill _
       (held-while state.reservation state.registrations sark r some held absent)))))))
 
-  action-holds : (action : OutAction) (type : Option ReservationType) (sark : ℕ) (aptpl : Bool)
+  action-holds : (action : OutAction) (type : Option ReservationType) (list : OutList)
       → is_preempting action ≡ true
-      → EffectIs IsHeldStill (action_outcome rules state j action type sark aptpl)
-  action-holds Preempt type sark aptpl h = (preempt-holds type sark).first
-  action-holds PreemptAndAbort type sark aptpl h = (preempt-holds type sark).first
-  action-holds _ type sark aptpl h = absurd (false≢true h)
+      → EffectIs IsHeldStill (action_outcome rules state j action type list)
+  action-holds Preempt type list h = (preempt-holds type list.service_action_key).first
+  action-holds PreemptAndAbort type list h = (preempt-holds type list.service_action_key).first
+  action-holds _ type list h = absurd (false≢true h)
 
   outcome-holds : (action : OutAction) (scope_type : ℕ) (list : OutList)
       → is_preempting action ≡ true
       → EffectIs IsHeldStill (outcome rules state j action scope_type list)
   outcome-holds action scope_type list h =
       if-accepted IsHeldStill rules state j action scope_type list
-      (λ _. action-holds action (type_of scope_type) list.service_action_key list.aptpl h)
+      (λ _. action-holds action (type_of scope_type) list h)
 
 -- ---- The sender, if it is registered under another key
 
@@ -243,21 +242,21 @@ module _ (rules : Rules) (state : ReservationState) (j : ℕ) (list : OutList)
       (effective IsHere _
       (stays_registered all (without_key all sark) j (key_of-without_key all j sark absent) here)))))))
 
-  action-stays : (action : OutAction) (type : Option ReservationType) (aptpl : Bool)
+  action-stays : (action : OutAction) (type : Option ReservationType)
       → is_preempting action ≡ true
       → accepts_key all j action list.reservation_key ≡ true
-      → EffectIs IsHere (action_outcome rules state j action type list.service_action_key aptpl)
-  action-stays Preempt type aptpl h accepted =
+      → EffectIs IsHere (action_outcome rules state j action type list)
+  action-stays Preempt type h accepted =
       (preempt-stays type (is_registered-under all j list.reservation_key accepted)).first
-  action-stays PreemptAndAbort type aptpl h accepted =
+  action-stays PreemptAndAbort type h accepted =
       (preempt-stays type (is_registered-under all j list.reservation_key accepted)).first
-  action-stays _ type aptpl h accepted = absurd (false≢true h)
+  action-stays _ type h accepted = absurd (false≢true h)
 
   outcome-stays : (action : OutAction) (scope_type : ℕ) → is_preempting action ≡ true
       → EffectIs IsHere (outcome rules state j action scope_type list)
   outcome-stays action scope_type h =
       if-accepted IsHere rules state j action scope_type list
-      (λ accepted. action-stays action (type_of scope_type) list.aptpl h accepted)
+      (λ accepted. action-stays action (type_of scope_type) h accepted)
 
 -- ---- The command
 
@@ -311,7 +310,7 @@ module _ (state : State) (j : ℕ) (P : List Registration → Option Reservation
         let list = first_bytes c.list_length data_out in
         let parts = key-sent (is_preempting c.action) (out_list list) key h in
         subst (λ (o : Operation). EffectLeaves (effect_of state j o))
-        (listed c.action c.scope_type (length list == list_length) (out_list list)
+        (listed c.action c.scope_type (has_list_length (rules_for state) c.action list) (out_list list)
         (CheckCondition ParameterListLengthError) operation e)
         (reserving-leaves c.action c.scope_type (out_list list)
         (leaves c.action c.scope_type (out_list list) parts.0 parts.1))

@@ -1,26 +1,23 @@
 -- The effect of PERSISTENT RESERVE OUT on the one holder of a reservation: on its key, the
 -- reservation, and its unit attentions.
-use Rattle.std.proofs.Common.{◌≡◌, ◌==◌, ℕ, Bool, true, false, cond, not, ◌&&◌, ◌||◌, List}
-use Rattle.std.proofs.Common.{[], ◌∷◌, filter, Option, Some, None, Ok, refl, sym, ap, ◌∙◌, arith}
-use Rattle.std.specs.Prelude.{find, if◌then◌else◌, is_some, option_map}
+use Rattle.std.proofs.Common.{◌≡◌, ◌==◌, ℕ, Bool, true, false, not, ◌&&◌, ◌||◌, List}
+use Rattle.std.proofs.Common.{Option, Some, None, Ok, refl, sym, ap, ◌∙◌}
+use Rattle.std.specs.Prelude.{if◌then◌else◌}
 use Rattle.std.specs.Option.{option_map_or}
-use Rattle.std.proofs.lemmas.Bool.{false≢true, or_parts}
-use Rattle.std.proofs.lemmas.Bool.Decides.{nat_tests}
+use Rattle.std.proofs.lemmas.Bool.{false≢true}
 use Rattle.sg_wire.specs.declared.command.out_action.OutAction.{OutAction}
 use Rattle.sg_wire.specs.declared.command.out_action.OutAction.TheVariants.{Register, Reserve}
 use Rattle.sg_wire.specs.declared.command.out_action.OutAction.TheVariants.{Release, Clear, Preempt}
 use Rattle.sg_wire.specs.declared.command.out_action.OutAction.TheVariants.{PreemptAndAbort}
 use Rattle.sg_wire.specs.declared.command.out_action.OutAction.TheVariants.{RegisterAndIgnoreExistingKey}
-use Rattle.sg_units.specs.Laws.{OneKeyEach, ends_for_others}
-use Rattle.sg_units.specs.Registrations.{is_of, is_registered, is_registered_under, is_under}
-use Rattle.sg_units.specs.Registrations.{key_of}
-use Rattle.sg_units.specs.Registrations.{registration, with_key_replaced, with_registration}
+use Rattle.sg_units.specs.Laws.{ends_for_others}
+use Rattle.sg_units.specs.Registrations.{is_registered, key_of, with_registration, with_replaced}
 use Rattle.sg_units.specs.Registrations.{without_initiator, without_key}
-use Rattle.sg_units.specs.Reservations.{IsConsistent, while_held}
+use Rattle.sg_units.specs.Reservations.{while_held}
 use Rattle.sg_units.specs.ReservationType.{is_all_registrants, type_of}
 use Rattle.sg_units.specs.ReserveOut.{action_outcome, outcome, preempt_cases}
-use Rattle.sg_units.specs.ReserveOut.{preempted}
-use Rattle.sg_units.specs.ReserveOut.{raised_for, register_cases, release_cases, released}
+use Rattle.sg_units.specs.ReserveOut.{preempted, raised_for, register_cases, register_together_cases}
+use Rattle.sg_units.specs.ReserveOut.{registered_together, registration_by, release_cases, released}
 use Rattle.sg_units.specs.ReserveOut.{released_unless_held, reserve_cases}
 use Rattle.sg_wire.specs.declared.out_list.OutList.{OutList}
 use Rattle.sg_wire.specs.declared.profile.Rules.{Rules}
@@ -30,128 +27,10 @@ use Rattle.sg_units.specs.declared.reservation_change.ReservationChange.{Reserva
 use Rattle.sg_units.specs.declared.reservation_state.ReservationState.{ReservationState}
 use Rattle.sg_units.specs.declared.types.ReservationType.{ReservationType}
 use Rattle.sg_units.specs.declared.unit_attention.UnitAttention.{UnitAttention}
-use Rattle.sg_units.proofs.OutcomeLemmas.{EffectIs, FirstIs, case_or, if-accepted, effective}
+use Rattle.sg_units.proofs.OutcomeLemmas.{EffectIs, FirstIs, case_or, choice, if-accepted, effective}
 use Rattle.sg_units.proofs.OutcomeLemmas.{last_case, refused, releasing, taking, typed}
-
--- ---- The key of an initiator
-
-pub key_of-cons : (r : Registration) (rs : List Registration) (i : ℕ)
-    → key_of (r ∷ rs) i ≡ cond (is_of i r) (Some r.key) (key_of rs i)
-key_of-cons r rs i = split (is_of i r)
-  where
-    split : (b : Bool)
-        → option_map (λ (q : Registration). q.key) (cond b (Some r) (find (is_of i) rs))
-        ≡ cond b (Some r.key) (key_of rs i)
-    split true = refl
-    split false = refl
-
-pub key_of-push : (rs : List Registration) (i j key : ℕ) → (j == i) ≡ false
-    → key_of (with_registration rs j key) i ≡ key_of rs i
-key_of-push [] i j key h =
-    key_of-cons (registration j key) [] i ∙ ap (λ b. cond b (Some key) None) h
-key_of-push (r ∷ rs) i j key h =
-    key_of-cons r (with_registration rs j key) i
-    ∙ (ap (cond (is_of i r) (Some r.key)) (key_of-push rs i j key h) ∙ sym (key_of-cons r rs i))
-
--- a filter that keeps i's registrations
-filter_key : (r : Registration) (i : ℕ) (b : Bool) (ys : List Registration) (was : Option ℕ)
-    → (is_of i r ≡ true → b ≡ true) → key_of ys i ≡ was
-    → key_of (cond b (r ∷ ys) ys) i ≡ cond (is_of i r) (Some r.key) was
-filter_key r i true ys was f e = key_of-cons r ys i ∙ ap (cond (is_of i r) (Some r.key)) e
-filter_key r i false ys was f e = e ∙ sym (other (is_of i r) f)
-  where
-    other : (c : Bool) → (c ≡ true → false ≡ true) → cond c (Some r.key) was ≡ was
-    other true g = absurd (false≢true (g refl))
-    other false g = refl
-
-pub key_of-filter : (p : Registration → Bool) (i : ℕ)
-    → ((r : Registration) → is_of i r ≡ true → p r ≡ true) → (rs : List Registration)
-    → key_of (filter p rs) i ≡ key_of rs i
-key_of-filter p i f [] = refl
-key_of-filter p i f (r ∷ rs) =
-    filter_key r i (p r) (filter p rs) (key_of rs i) (f r) (key_of-filter p i f rs)
-    ∙ sym (key_of-cons r rs i)
-
-apart : (r : Registration) (i j : ℕ) → (j == i) ≡ false → is_of i r ≡ true
-    → not (is_of j r) ≡ true
-apart r i j h e = grind (arith, nat_tests)
-
-pub key_of-without : (rs : List Registration) (i j : ℕ) → (j == i) ≡ false
-    → key_of (without_initiator rs j) i ≡ key_of rs i
-key_of-without rs i j h = key_of-filter (λ r. not (is_of j r)) i (λ r e. apart r i j h e) rs
-
--- i is not registered under the key
-not_under : (a b c : Bool) → ((a && b) || c) ≡ false → a ≡ true → not b ≡ true
-not_under true true c h e = sym h
-not_under true false c h e = refl
-not_under false b c h e = absurd (false≢true e)
-
-pub key_of-without_key : (rs : List Registration) (i key : ℕ) → is_registered_under rs i key ≡ false
-    → key_of (without_key rs key) i ≡ key_of rs i
-key_of-without_key [] i key h = refl
-key_of-without_key (r ∷ rs) i key h =
-    filter_key r i (not (is_under key r)) (without_key rs key) (key_of rs i)
-    (not_under (is_of i r) (is_under key r) (is_registered_under rs i key) h)
-    (key_of-without_key rs i key
-    (or_parts (is_of i r && is_under key r) (is_registered_under rs i key) h).1)
-    ∙ sym (key_of-cons r rs i)
-
-replaced_head : (r : Registration) (i j key : ℕ) (b : Bool) → (r.initiator == j) ≡ b
-    → (j == i) ≡ false → (was : Option ℕ)
-    → cond (is_of i (cond b (registration j key) r)) (Some (cond b (registration j key) r).key) was
-    ≡ cond (is_of i r) (Some r.key) was
-replaced_head r i j key true e h was =
-    let no : is_of i r ≡ false = grind (arith, nat_tests) in
-    ap (λ b. cond b (Some key) was) h ∙ sym (ap (λ b. cond b (Some r.key) was) no)
-replaced_head r i j key false e h was = refl
-
-pub key_of-replaced : (rs : List Registration) (i j key : ℕ) → (j == i) ≡ false
-    → key_of (with_key_replaced rs j key) i ≡ key_of rs i
-key_of-replaced [] i j key h = refl
-key_of-replaced (r ∷ rs) i j key h =
-    let q : Registration = if is_of j r then registration j key else r in
-    key_of-cons q (with_key_replaced rs j key) i
-    ∙ (ap (cond (is_of i q) (Some q.key)) (key_of-replaced rs i j key h)
-    ∙ (replaced_head r i j key (is_of j r) refl h (key_of rs i) ∙ sym (key_of-cons r rs i)))
-
-or_some : (a b : Bool) (k : ℕ) (o : Option ℕ) → b ≡ is_some o
-    → (a || b) ≡ is_some (cond a (Some k) o)
-or_some true b k o e = refl
-or_some false b k o e = e
-
-pub is_registered-key_of : (rs : List Registration) (i : ℕ) → is_registered rs i ≡ is_some (key_of rs i)
-is_registered-key_of [] i = refl
-is_registered-key_of (r ∷ rs) i =
-    or_some (is_of i r) (is_registered rs i) r.key (key_of rs i) (is_registered-key_of rs i)
-    ∙ ap is_some (sym (key_of-cons r rs i))
-
-pub stays_registered : (all rest : List Registration) (i : ℕ) → key_of rest i ≡ key_of all i
-    → is_registered all i ≡ true → is_registered rest i ≡ true
-stays_registered all rest i e h =
-    is_registered-key_of rest i ∙ (ap is_some e ∙ (sym (is_registered-key_of all i) ∙ h))
-
-under-first : (r : Registration) (rs : List Registration) (i k : ℕ) (b : Bool)
-    → (key_of rs i ≡ Some k → is_registered_under rs i k ≡ true)
-    → cond b (Some r.key) (key_of rs i) ≡ Some k
-    → ((b && is_under k r) || is_registered_under rs i k) ≡ true
-under-first r rs i k true rest e =
-    let same : r.key ≡ k = cc in
-    grind (arith, nat_tests)
-under-first r rs i k false rest e = rest e
-
--- an initiator is registered under its key
-pub under-key_of : (rs : List Registration) (i k : ℕ) → key_of rs i ≡ Some k
-    → is_registered_under rs i k ≡ true
-under-key_of [] i k e = cc
-under-key_of (r ∷ rs) i k e =
-    under-first r rs i k (is_of i r) (under-key_of rs i k) (sym (key_of-cons r rs i) ∙ e)
-
--- and under no other
-pub only-key_of : OneKeyEach → (state : ReservationState) (i k : ℕ) → IsConsistent state
-    → key_of state.registrations i ≡ Some k
-    → (key : ℕ) → is_registered_under state.registrations i key ≡ true → k ≡ key
-only-key_of one state i k c e key h =
-    one state i k key c (under-key_of state.registrations i k e) h
+use Rattle.sg_fencing.proofs.KeyLemmas.{key_of-push, key_of-replaced, key_of-without, key_of-without_key}
+use Rattle.sg_fencing.proofs.KeyLemmas.{stays_registered, together-known}
 
 -- ---- The one holder
 
@@ -240,21 +119,32 @@ module _ (rules : Rules) (all : List Registration) (kind : ReservationType) (bef
   abbrev P : ReservationChange → Type 0
   P = IsLeftIfHolder all (held_alone kind i) i j
 
-  register_leaves : (sark : ℕ) (aptpl : Bool) → is_registered all i ≡ true → (j == i) ≡ false
-      → FirstIs (EffectIs P) (register_cases (alone_in all kind i before) j sark aptpl)
+  register_leaves : (list : OutList) → is_registered all i ≡ true → (j == i) ≡ false
+      → FirstIs (EffectIs P) (register_cases (alone_in all kind i before) j list)
   unfolding register_cases
-  register_leaves sark aptpl here other =
+  register_leaves list here other =
       let held = held_alone kind i in
+      let own = registration_by list j in
       let gone = key_of-without all i j other in
       let left = stays_registered all (without_initiator all j) i gone here in
       case_or (EffectIs P) _ _ (λ _. stays all held i j _ here refl refl refl)
       (λ _. case_or (EffectIs P) _ _ (λ _. refused P _)
       (λ _. case_or (EffectIs P) _ _
-      (λ _. stays all held i j _ here (key_of-push all i j sark other) refl refl)
+      (λ _. stays all held i j _ here (key_of-push all i own other) refl refl)
       (λ _. case_or (EffectIs P) _ _
-      (λ _. stays all held i j _ here (key_of-replaced all i j sark other) refl refl)
+      (λ _. stays all held i j _ here (key_of-replaced all i own other) refl refl)
       (λ _. last_case (EffectIs P) _ _ refl
       (stays all held i j _ here gone (while_held-alone kind i _ left) (released-alone kind i _ left))))))
+
+  together_leaves : (list : OutList) → is_registered all i ≡ true
+      → FirstIs (EffectIs P) (register_together_cases (alone_in all kind i before) j list)
+  unfolding register_together_cases
+  together_leaves list here =
+      case_or (EffectIs P) _ _ (λ _. refused P _)
+      (λ _. case_or (EffectIs P) _ _ (λ _. refused P _)
+      (λ _. case_or (EffectIs P) _ _ (λ _. refused P _)
+      (λ _. last_case (EffectIs P) _ _ refl
+      (stays all (held_alone kind i) i j _ here (together-known list all i j here) refl refl))))
 
   reserve_leaves : (new : ReservationType) → is_registered all i ≡ true
       → FirstIs (EffectIs P) (reserve_cases (alone_in all kind i before) j new)
@@ -289,28 +179,32 @@ module _ (rules : Rules) (all : List Registration) (kind : ReservationType) (bef
       last_case (EffectIs P) _ _ refl
       (stays all held i j _ here gone (while_held-alone kind i _ left) refl))))))
 
-  action_leaves : (action : OutAction) (type : Option ReservationType) (sark : ℕ) (aptpl : Bool)
+  action_leaves : (action : OutAction) (type : Option ReservationType) (list : OutList)
       → is_registered all i ≡ true → (j == i) ≡ false
-      → EffectIs P (action_outcome rules (alone_in all kind i before) j action type sark aptpl)
-  action_leaves Register type sark aptpl here other = (register_leaves sark aptpl here other).first
-  action_leaves Reserve type sark aptpl here other =
+      → EffectIs P (action_outcome rules (alone_in all kind i before) j action type list)
+  action_leaves Register type list here other =
+      choice (EffectIs P) list.spec_i_pt _ _ (λ _. (together_leaves list here).first)
+      (λ _. (register_leaves list here other).first)
+  action_leaves Reserve type list here other =
       typed P type _ (λ new. (reserve_leaves new here).first)
-  action_leaves Release type sark aptpl here other =
+  action_leaves Release type list here other =
       releasing P rules (alone_in all kind i before) j type
       ((stays all (held_alone kind i) i j _ here refl refl refl).shown _ refl)
       (λ new. release_leaves new here)
-  action_leaves Clear type sark aptpl here other = ends all (held_alone kind i) i j _ refl
-  action_leaves Preempt type sark aptpl here other = (preempt_leaves type sark here other).first
-  action_leaves PreemptAndAbort type sark aptpl here other = (preempt_leaves type sark here other).first
-  action_leaves RegisterAndIgnoreExistingKey type sark aptpl here other =
-      (register_leaves sark aptpl here other).first
+  action_leaves Clear type list here other = ends all (held_alone kind i) i j _ refl
+  action_leaves Preempt type list here other =
+      (preempt_leaves type list.service_action_key here other).first
+  action_leaves PreemptAndAbort type list here other =
+      (preempt_leaves type list.service_action_key here other).first
+  action_leaves RegisterAndIgnoreExistingKey type list here other =
+      (register_leaves list here other).first
 
   pub outcome_leaves : (action : OutAction) (scope_type : ℕ) (list : OutList)
       → is_registered all i ≡ true → (j == i) ≡ false
       → EffectIs P (outcome rules (alone_in all kind i before) j action scope_type list)
   outcome_leaves action scope_type list here other =
       if-accepted P rules (alone_in all kind i before) j action scope_type list
-      (λ _. action_leaves action (type_of scope_type) list.service_action_key list.aptpl here other)
+      (λ _. action_leaves action (type_of scope_type) list here other)
 
 -- ---- The command of another initiator that can't end the reservation
 
@@ -334,22 +228,32 @@ module _ (rules : Rules) (all : List Registration) (kind : ReservationType) (bef
   abbrev H : ReservationChange → Type 0
   H = IsHeld (held_alone kind i) i
 
-  register_holds : (sark : ℕ) (aptpl : Bool) → is_registered all i ≡ true → (j == i) ≡ false
-      → FirstIs (EffectIs H) (register_cases (alone_in all kind i before) j sark aptpl)
+  register_holds : (list : OutList) → is_registered all i ≡ true → (j == i) ≡ false
+      → FirstIs (EffectIs H) (register_cases (alone_in all kind i before) j list)
   unfolding register_cases
-  register_holds sark aptpl here other =
+  register_holds list here other =
       let held = held_alone kind i in
+      let own = registration_by list j in
       let gone = key_of-without all i j other in
       let left = stays_registered all (without_initiator all j) i gone here in
-      let pushed = stays_registered all (with_registration all j sark) i
-      (key_of-push all i j sark other) here in
-      let replaced = stays_registered all (with_key_replaced all j sark) i
-      (key_of-replaced all i j sark other) here in
+      let pushed = stays_registered all (with_registration all own) i (key_of-push all i own other) here in
+      let replaced = stays_registered all (with_replaced all own) i (key_of-replaced all i own other) here in
       case_or (EffectIs H) _ _ (λ _. stands held i _ here refl)
       (λ _. case_or (EffectIs H) _ _ (λ _. refused H _)
       (λ _. case_or (EffectIs H) _ _ (λ _. stands held i _ pushed refl)
       (λ _. case_or (EffectIs H) _ _ (λ _. stands held i _ replaced refl)
       (λ _. last_case (EffectIs H) _ _ refl (stands held i _ left (while_held-alone kind i _ left))))))
+
+  together_holds : (list : OutList) → is_registered all i ≡ true
+      → FirstIs (EffectIs H) (register_together_cases (alone_in all kind i before) j list)
+  unfolding register_together_cases
+  together_holds list here =
+      let still = stays_registered all (registered_together all j list) i (together-known list all i j here)
+      here in
+      case_or (EffectIs H) _ _ (λ _. refused H _)
+      (λ _. case_or (EffectIs H) _ _ (λ _. refused H _)
+      (λ _. case_or (EffectIs H) _ _ (λ _. refused H _)
+      (λ _. last_case (EffectIs H) _ _ refl (stands (held_alone kind i) i _ still refl))))
 
   reserve_holds : (new : ReservationType) → is_registered all i ≡ true
       → FirstIs (EffectIs H) (reserve_cases (alone_in all kind i before) j new)
@@ -366,24 +270,26 @@ module _ (rules : Rules) (all : List Registration) (kind : ReservationType) (bef
       case_or (EffectIs H) _ _ (λ _. stands (held_alone kind i) i _ here refl)
       (λ is. absurd (no_holder (is_registered all j) (j == i) other is))
 
-  action_holds : (action : OutAction) (type : Option ReservationType) (sark : ℕ) (aptpl : Bool)
+  action_holds : (action : OutAction) (type : Option ReservationType) (list : OutList)
       → ends_for_others action ≡ false → is_registered all i ≡ true → (j == i) ≡ false
-      → EffectIs H (action_outcome rules (alone_in all kind i before) j action type sark aptpl)
-  action_holds Register type sark aptpl mild here other = (register_holds sark aptpl here other).first
-  action_holds Reserve type sark aptpl mild here other =
+      → EffectIs H (action_outcome rules (alone_in all kind i before) j action type list)
+  action_holds Register type list mild here other =
+      choice (EffectIs H) list.spec_i_pt _ _ (λ _. (together_holds list here).first)
+      (λ _. (register_holds list here other).first)
+  action_holds Reserve type list mild here other =
       typed H type _ (λ new. (reserve_holds new here).first)
-  action_holds Release type sark aptpl mild here other =
+  action_holds Release type list mild here other =
       releasing H rules (alone_in all kind i before) j type (record { here = here; reservation = refl })
       (λ new. release_holds new here other)
-  action_holds RegisterAndIgnoreExistingKey type sark aptpl mild here other =
-      (register_holds sark aptpl here other).first
-  action_holds Clear type sark aptpl mild here other = absurd (false≢true (sym mild))
-  action_holds Preempt type sark aptpl mild here other = absurd (false≢true (sym mild))
-  action_holds PreemptAndAbort type sark aptpl mild here other = absurd (false≢true (sym mild))
+  action_holds RegisterAndIgnoreExistingKey type list mild here other =
+      (register_holds list here other).first
+  action_holds Clear type list mild here other = absurd (false≢true (sym mild))
+  action_holds Preempt type list mild here other = absurd (false≢true (sym mild))
+  action_holds PreemptAndAbort type list mild here other = absurd (false≢true (sym mild))
 
   pub outcome_holds : (action : OutAction) (scope_type : ℕ) (list : OutList)
       → ends_for_others action ≡ false → is_registered all i ≡ true → (j == i) ≡ false
       → EffectIs H (outcome rules (alone_in all kind i before) j action scope_type list)
   outcome_holds action scope_type list mild here other =
       if-accepted H rules (alone_in all kind i before) j action scope_type list
-      (λ _. action_holds action (type_of scope_type) list.service_action_key list.aptpl mild here other)
+      (λ _. action_holds action (type_of scope_type) list mild here other)

@@ -38,7 +38,7 @@ use Rattle.sg_target.specs.declared.refusal.Refusal.TheVariants.{CheckCondition}
 use Rattle.sg_target.proofs.LiftLemmas.{lifted, outcome-by}
 use Rattle.sg_fencing.specs.Fencing.{can_end_for_others, holds_alone}
 use Rattle.sg_fencing.proofs.HolderLemmas.{HoldsAlone}
-use Rattle.sg_fencing.proofs.OperationLemmas.{asked-suits, fits, is_of_kind}
+use Rattle.sg_fencing.proofs.OperationLemmas.{asked-fits, fits_list, is_of_list_kind}
 use Rattle.sg_fencing.specs.Registrants.{rules_for}
 
 -- Suppose that a fact holds of the reservations, and of them after each PERSISTENT RESERVE OUT of
@@ -66,11 +66,11 @@ module _ (Stands : ReservationState → Type 0) (state : State) (j : ℕ)
       (λ none. k)
   outcome-stands (Err refusal) k = refused-stands refusal
 
-  module _ (kind : OutAction → Bool)
-      (reserving-stands : (action : OutAction) (scope_type : ℕ) (list : OutList) → kind action ≡ true
-      → EffectStands
+  module _ (kind : OutAction → OutList → Bool)
+      (reserving-stands : (action : OutAction) (scope_type : ℕ) (list : OutList)
+      → kind action list ≡ true → EffectStands
       (when_sound (reservation_change state j action scope_type list) (changing_reservations state j))) where
-    operation-stands : (operation : Operation) → fits kind operation ≡ true
+    operation-stands : (operation : Operation) → fits_list kind operation ≡ true
         → EffectStands (effect_of state j operation)
     operation-stands (ReturnModes request n) k =
         sound-stands (mode_parameters state.modes request) (returning_up_to state n) (λ list. same)
@@ -80,13 +80,14 @@ module _ (Stands : ReservationState → Type 0) (state : State) (j : ℕ)
         reserving-stands action scope_type list k
     operation-stands _ k = same
 
-    pub step-stands : (cdb data_out : List ℕ) → is_of_kind kind (command_of cdb) ≡ true
+    pub step-stands : (cdb data_out : List ℕ) → is_of_list_kind kind (command_of cdb) data_out ≡ true
         → Stands (step state j cdb data_out).state.reservations
     step-stands cdb data_out of_kind =
         lifted state j cdb data_out (λ (done : Step). Stands done.state.reservations) refused-stands
         (λ operation k. outcome-stands (effect_of state j operation) (operation-stands operation
-        ((asked-suits (config_of state) k.command data_out operation k.operation_is).of_kind kind
-        (sym (ap (is_of_kind kind) k.command_is) ∙ of_kind))))
+        (asked-fits (config_of state) k.command data_out operation k.operation_is kind
+        (sym (ap (λ (p : Result Command CdbFault). is_of_list_kind kind p data_out) k.command_is)
+        ∙ of_kind))))
 
 -- ---- Where i holds a reservation alone
 
@@ -138,14 +139,14 @@ module _ (state : State) (i j : ℕ) (other : j ≡ i → ⊥) (h : HoldsAlone s
       changing-stands (outcome (rules_for state) state.reservations j action scope_type list)
       (out-holds action scope_type list (not-true (ends_for_others action) mild))
 
-  abbrev leaves_others : OutAction → Bool
-  leaves_others action = not (ends_for_others action)
+  abbrev leaves_others : OutAction → OutList → Bool
+  leaves_others action list = not (ends_for_others action)
 
-  of-kind : (parsed : Result Command CdbFault) → can_end_for_others parsed ≡ false
-      → is_of_kind leaves_others parsed ≡ true
-  of-kind (Ok (PersistentReserveOut c)) mild = ap not mild
-  of-kind (Ok _) mild = refl
-  of-kind (Err fault) mild = refl
+  of-kind : (parsed : Result Command CdbFault) (data_out : List ℕ) → can_end_for_others parsed ≡ false
+      → is_of_list_kind leaves_others parsed data_out ≡ true
+  of-kind (Ok (PersistentReserveOut c)) data_out mild = ap not mild
+  of-kind (Ok _) data_out mild = refl
+  of-kind (Err fault) data_out mild = refl
 
 -- that i holds a reservation of one of the two types shows in its registration and the reservation
 abbrev holds_by : (known : Bool) → Option Reservation → (i : ℕ) → Bool
@@ -166,7 +167,7 @@ stands-held state i j other h held cdb data_out mild =
     let after = (step state j cdb data_out).state in
     let k = step-stands (Stays state i j other h) state j (stays state i j other h)
     (leaves_others state i j other h) (reserving-stands state i j other h) cdb data_out
-    (of-kind state i j other h (command_of cdb) mild) in
+    (of-kind state i j other h (command_of cdb) data_out mild) in
     let alone = Some (record { kind = h.kind; holder = Some i }) in
     shows after i alone (k.reservation ∙ h.reservation_is)
     ∙ (ap (λ known. holds_by known alone i) (k.here ∙ sym h.registered)

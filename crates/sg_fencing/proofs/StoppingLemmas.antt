@@ -5,6 +5,7 @@ use Rattle.std.specs.Prelude.{ok_or, if◌then◌else◌, not}
 use Rattle.std.proofs.lemmas.Bool.{false≢true}
 use Rattle.sg_wire.specs.CdbDecoding.{command_in}
 use Rattle.sg_wire.specs.FirstBytes.{first_bytes}
+use Rattle.sg_wire.specs.Profile.{rules_of}
 use Rattle.sg_wire.specs.Laws.{ProfilesAreClosed, has_command}
 use Rattle.sg_wire.specs.SupportedOperations.{requested_report}
 use Rattle.sg_wire.specs.declared.command.CdbFault.{CdbFault}
@@ -163,7 +164,8 @@ stops-if config (command.Unmap c) data_out =
     (unmap_extents c.anchor) (unmap-stops (command.Unmap c) refl c.anchor)
 stops-if config (command.PersistentReserveOut c) data_out =
     sound-stops (command.PersistentReserveOut c)
-    (fields_out (first_bytes c.list_length data_out)) (ChangeReservations c.action c.scope_type)
+    (fields_out (rules_of config.identity.profile) c.action
+    (first_bytes c.list_length data_out)) (ChangeReservations c.action c.scope_type)
     (λ list. record { stops = refl })
 stops-if config other data_out = record { stops = refl }
 

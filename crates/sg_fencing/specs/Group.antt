@@ -1,6 +1,7 @@
 -- The group of a disk. Its registrants see a view together, and nothing more. A new registration
 -- changes that view in one place. The commands of initiators outside may be left out.
-use Rattle.std.specs.Prelude.{◌≡◌, ◌≢◌, ℕ, ◌+◌, ◌%◌, ◌^◌, Bool, true, false, not, List, filter}
+use Rattle.std.specs.Prelude.{◌≡◌, ◌≢◌, ℕ, ◌+◌, ◌%◌, ◌^◌, Bool, true, false, not, ◌&&◌, List, filter}
+use Rattle.std.specs.Prelude.{if◌then◌else◌}
 use Rattle.std.specs.Prelude.{slice_get, take, Option, Some}
 use Rattle.std.specs.List.{list_any}
 use Rattle.sg_wire.specs.CdbDecoding.{command_of}
@@ -9,6 +10,7 @@ use Rattle.sg_store.specs.Disk.{Disk}
 use Rattle.sg_pages.specs.ModePage.{ModeState}
 use Rattle.sg_units.specs.Attentions.{pending_for}
 use Rattle.sg_units.specs.Registrations.{with_registration}
+use Rattle.sg_units.specs.ReserveOut.{registered_together, registration_by}
 use Rattle.sg_units.specs.declared.registrations.Registration.{Registration}
 use Rattle.sg_units.specs.declared.reservation.Reservation.{Reservation}
 use Rattle.sg_target.specs.Runs.{answers, state_after_all, step_of}
@@ -17,8 +19,8 @@ use Rattle.sg_target.specs.Step.{Answer, Step, step}
 use Rattle.sg_target.specs.declared.call.Call.{Call}
 use Rattle.sg_fencing.specs.ChosenAnswers.{answers_where}
 use Rattle.sg_fencing.specs.Fencing.{is_from, view_of}
-use Rattle.sg_fencing.specs.Registrants.{StaysUnregistered, is_registrant, is_reserved}
-use Rattle.sg_fencing.specs.Registrants.{registering_list}
+use Rattle.sg_fencing.specs.Registrants.{StaysUnregistered, asks_for, is_registrant, is_reserved}
+use Rattle.sg_fencing.specs.Registrants.{registering_list, rules_for}
 
 -- ---- What a group sees
 
@@ -88,20 +90,28 @@ EqualGroupViewsRunAlike =
 
 -- ---- A new registration
 
--- There is one registration more, at the end. PRGENERATION, which has 32 bits, is incremented.
--- APTPL becomes the value in the parameter list (SPC-4, 5.13, registering).
+-- There is one registration more, at the end. With SPEC_I_PT the initiators that are named and were not
+-- registered follow it. PRGENERATION, which has 32 bits, is incremented. APTPL becomes the value in the
+-- parameter list (SPC-4, 5.13, registering).
+abbrev pub registered_anew : List Registration → (initiator : ℕ) → OutList → List Registration
+registered_anew registrations initiator list =
+    if list.spec_i_pt then registered_together registrations initiator list
+    else with_registration registrations (registration_by list initiator)
+
 abbrev pub with_newcomer : GroupView → (initiator : ℕ) → OutList → GroupView
 with_newcomer view initiator list = record view {
-  registrations = with_registration view.registrations initiator list.service_action_key;
+  registrations = registered_anew view.registrations initiator list;
   generation = (view.generation + 1) % 2 ^ 32;
   persists = list.aptpl;
 }
 
--- The group sees no other change, and no other initiator sees one in its own view: no unit
--- attention is established for it.
+-- The group sees no other change, and no initiator that is not registered with it sees one in its own
+-- view: no unit attention is established for it.
 pub record IsSeen (before after : State) (initiator : ℕ) (list : OutList) : Type 0 where
   pub group : group_view after ≡ with_newcomer (group_view before) initiator list
-  pub others : (other : ℕ) → initiator ≢ other → view_of after other ≡ view_of before other
+  pub others : (other : ℕ) → initiator ≢ other
+      → (not (is_registrant before other) && asks_for (rules_for before) initiator other list) ≡ false
+      → view_of after other ≡ view_of before other
 
 -- This holds if an initiator that was not registered is registered after a command of its own.
 abbrev pub NewcomersAreSeen : Type 0

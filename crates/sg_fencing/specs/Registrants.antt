@@ -1,7 +1,7 @@
 -- Fencing by registration: what an initiator that is not registered can do while a reservation is
 -- held. Under the types registrants only and all registrants, all registrants may write. So a
 -- cluster fences a node off under these types: another node removes its registration by PREEMPT.
-use Rattle.std.specs.Prelude.{◌≡◌, ◌≢◌, ◌==◌, ℕ, Bool, true, false, ◌&&◌, not, List}
+use Rattle.std.specs.Prelude.{◌≡◌, ◌≢◌, ◌==◌, ℕ, Bool, true, false, ◌&&◌, ◌||◌, not, List}
 use Rattle.std.specs.Prelude.{Option, Some, None, Result, Ok, if◌then◌else◌}
 use Rattle.std.specs.Prelude.{is_some, slice_get, take}
 use Rattle.std.specs.List.{list_any}
@@ -25,6 +25,7 @@ use Rattle.sg_wire.specs.declared.out_list.OutList.{OutList}
 use Rattle.sg_units.specs.Registrations.{is_registered, key_of}
 use Rattle.sg_units.specs.Laws.{is_exclusive_access}
 use Rattle.sg_units.specs.declared.reservation.Reservation.{Reservation}
+use Rattle.sg_target.specs.ReservationCommands.{is_register}
 use Rattle.sg_target.specs.Effect.{with_contents}
 use Rattle.sg_target.specs.Runs.{all_calls, answers, state_after_all, state_after_events, step_of}
 use Rattle.sg_target.specs.State.{IsWithinLimits, State, profile_of}
@@ -75,12 +76,24 @@ list_of kind _ data_out = None
 abbrev pub registering_list : Result Command CdbFault → (data_out : List ℕ) → Option OutList
 registering_list command data_out = list_of is_registering command data_out
 
--- Such a command asks to register its initiator if its key is not zero. With the key zero it asks
--- to unregister its initiator (SPC-4, 5.13, registering and unregistering).
-abbrev pub asks_to_register : Result Command CdbFault → (data_out : List ℕ) → Bool
-asks_to_register command data_out =
-    option_map_or (λ (list : OutList). not (list.service_action_key == 0))
-    (registering_list command data_out) false
+-- With SPEC_I_PT a list names other initiators, too. Only an extended disk supports that.
+abbrev pub is_named : (initiator : ℕ) → Option ℕ → Bool
+is_named initiator named = option_map_or (λ other. other == initiator) named false
+
+abbrev pub names : Rules → OutList → (initiator : ℕ) → Bool
+names rules list initiator = rules.specifies_ports && list_any (is_named initiator) list.others
+
+-- Such a list asks to register its sender, and each initiator that it names, if its key is not zero. With
+-- the key zero it asks to unregister its sender (SPC-4, 5.13, registering and unregistering).
+abbrev pub asks_for : Rules → (sender initiator : ℕ) → OutList → Bool
+asks_for rules sender initiator list =
+    not (list.service_action_key == 0) && (sender == initiator || names rules list initiator)
+
+-- A command of a sender asks to register an initiator.
+abbrev pub asks_to_register : Rules → (sender initiator : ℕ) → Result Command CdbFault
+    → (data_out : List ℕ) → Bool
+asks_to_register rules sender initiator command data_out =
+    option_map_or (asks_for rules sender initiator) (registering_list command data_out) false
 
 -- The key of the registrations that a PREEMPT or a PREEMPT AND ABORT is to remove.
 abbrev pub is_preempting : OutAction → Bool
@@ -109,12 +122,19 @@ FencedOffAreKeptOut =
     (state : State) (initiator : ℕ) (cdb data_out : List ℕ)
     → is_fenced_off state initiator ≡ true → IsKeptOut state initiator cdb data_out
 
+-- A command asks to register another initiator than its sender, and that one is not registered.
+abbrev pub registers_another : State → (sender initiator : ℕ) → (cdb data_out : List ℕ) → Bool
+registers_another state sender initiator cdb data_out =
+    not (is_registrant state initiator)
+    && asks_to_register (rules_for state) sender initiator (command_of cdb) data_out
+
 -- Its command leaves the view of every other initiator, registered or not, as it was. It may only start a
--- stopped unit.
+-- stopped unit, and on an extended disk it may register others together with itself.
 abbrev pub FencedOffLeaveTheView : Type 0
 FencedOffLeaveTheView =
     (state : State) (initiator other : ℕ) (cdb data_out : List ℕ) → IsWithinLimits state
     → other ≢ initiator → is_fenced_off state other ≡ true
+    → registers_another state other initiator cdb data_out ≡ false
     → IsLeft state (step state other cdb data_out).state initiator
 
 -- Under exclusive access the answer to it is the same whatever the blocks are, and whichever are
@@ -127,11 +147,9 @@ FencedOffSeeNoBlock =
     → (step (with_contents state contents) initiator cdb data_out).answer
     ≡ (step state initiator cdb data_out).answer
 
--- A command is an initiator's own, asks to register it, and ends with GOOD.
-pub record RegistersItself (state : State) (initiator caller : ℕ) (cdb data_out : List ℕ)
-    : Type 0 where
-  pub own : caller ≡ initiator
-  pub asks : asks_to_register (command_of cdb) data_out ≡ true
+-- A command asks to register an initiator, and ends with GOOD. On a base disk it is the initiator's own.
+pub record Registers (state : State) (initiator caller : ℕ) (cdb data_out : List ℕ) : Type 0 where
+  pub asks : asks_to_register (rules_for state) caller initiator (command_of cdb) data_out ≡ true
   pub good : (step state caller cdb data_out).answer.status ≡ Good
 
 -- An initiator that is not registered becomes registered only by such a command.
@@ -140,7 +158,25 @@ OnlyRegisteringRegisters =
     (state : State) (initiator caller : ℕ) (cdb data_out : List ℕ)
     → is_registrant state initiator ≡ false
     → is_registrant (step state caller cdb data_out).state initiator ≡ true
-    → RegistersItself state initiator caller cdb data_out
+    → Registers state initiator caller cdb data_out
+
+-- An initiator and another that has sent the command are registered together, under one key. The sender
+-- was not registered before. Only an extended disk supports that.
+pub record AreRegisteredTogether (before after : State) (initiator sender : ℕ) : Type 0 where
+  pub supported : (rules_for before).specifies_ports ≡ true
+  pub newcomer : is_registrant before sender ≡ false
+  pub both : is_registrant after sender ≡ true
+  pub one_key : key_of after.reservations.registrations initiator
+      ≡ key_of after.reservations.registrations sender
+
+-- This holds if another initiator's command registers one. So a registrant registers nobody else, and
+-- nobody registers another without itself.
+abbrev pub OthersAreRegisteredTogether : Type 0
+OthersAreRegisteredTogether =
+    (state : State) (initiator caller : ℕ) (cdb data_out : List ℕ) → caller ≢ initiator
+    → is_registrant state initiator ≡ false
+    → is_registrant (step state caller cdb data_out).state initiator ≡ true
+    → AreRegisteredTogether state (step state caller cdb data_out).state initiator caller
 
 -- After a PREEMPT or a PREEMPT AND ABORT that ends with GOOD, no other initiator is registered that
 -- was registered under its key.
@@ -185,14 +221,15 @@ StaysUnregistered initiator state calls =
     (is_registrant before initiator ≡ false)
     × (is_registrant (step_of before call).state initiator ≡ false))
 
--- The disk grants an initiator no registration: of its own commands that ask to register it, none
--- ends with GOOD.
+-- The disk grants an initiator no registration: of the commands that ask to register it, none ends with
+-- GOOD.
 abbrev pub IsNeverGranted : (initiator : ℕ) → State → List Event → Type 0
 IsNeverGranted initiator state events =
-    (n : ℕ) (call : Call) → slice_get events n ≡ Some (event.Call call)
-    → call.initiator ≡ initiator
-    → asks_to_register (command_of call.cdb.now) call.data_out.now ≡ true
-    → (step_of (state_after_events state (take n events)) call).answer.status ≢ Good
+    (n : ℕ) (call : Call) → slice_get events n ≡ Some (event.Call call) →
+    (let before = state_after_events state (take n events) in
+    asks_to_register (rules_for before) call.initiator initiator (command_of call.cdb.now)
+    call.data_out.now ≡ true
+    → (step_of before call).answer.status ≢ Good)
 
 -- Then an initiator that is not registered stays unregistered. It may send REGISTER with the key
 -- that it had, which the disk refuses. It may also send the key zero, which ends with GOOD and
@@ -202,10 +239,6 @@ TheRefusedStayUnregistered =
     (state : State) (initiator : ℕ) (calls : List Call) → is_registrant state initiator ≡ false
     → IsNeverGranted initiator state (all_calls calls)
     → StaysUnregistered initiator state calls
-
-abbrev pub is_register : OutAction → Bool
-is_register Register = true
-is_register _ = false
 
 -- An initiator that is not registered may send REGISTER with the key that it had, or with any other key
 -- than zero. The disk refuses it (SPC-4, 5.13, registering).

@@ -2,7 +2,7 @@
 -- It lets no command through a fence.
 use Rattle.std.specs.Prelude.{◌≡◌, ◌≢◌, ℕ, Bool, true, false, List, [], map, slice_get, take}
 use Rattle.std.specs.Prelude.{Option, Some, None, if◌then◌else◌, option_and_then}
-use Rattle.sg_wire.specs.CdbDecoding.{class_of}
+use Rattle.sg_wire.specs.CdbDecoding.{class_of, command_of}
 use Rattle.sg_wire.specs.declared.command.Class.TheVariants.{Reads, Writes}
 use Rattle.sg_store.specs.Disk.{Contents}
 use Rattle.sg_faults.specs.Arming.{count_for, is_spent}
@@ -19,8 +19,9 @@ use Rattle.sg_target.specs.declared.event.Event.{Event}
 use Rattle.sg_target.specs.declared.event.Event.TheVariants as event
 use Rattle.sg_target.specs.declared.reply.Status.TheVariants.{Good}
 use Rattle.sg_fencing.specs.Fencing.{CountsAsMany, IsLeft, holds_alone, holds_type}
-use Rattle.sg_fencing.specs.Registrants.{IsPreempted, RegistersItself, excludes_reading, is_fenced_off}
-use Rattle.sg_fencing.specs.Registrants.{is_registrant, is_reserved}
+use Rattle.sg_fencing.specs.Registrants.{IsPreempted, Registers, asks_to_register, excludes_reading}
+use Rattle.sg_fencing.specs.Registrants.{is_fenced_off, is_registrant, is_reserved, registers_another}
+use Rattle.sg_fencing.specs.Registrants.{rules_for}
 
 -- ---- Words
 
@@ -69,11 +70,13 @@ pub record IsKeptAway (disk : Armed) (initiator : ℕ) (cdb data_out : List ℕ)
 -- ---- One command
 
 -- An initiator is kept away from the blocks. Its command leaves the view of every other initiator,
--- registered or not, as it was. It may only start a stopped unit.
+-- registered or not, as it was. It may only start a stopped unit, and on an extended disk it may register
+-- others together with itself.
 pub record IsFencedOut (disk : Armed) (initiator : ℕ) (cdb data_out : List ℕ) : Type 0 where
   pub kept : IsKeptAway disk initiator cdb data_out
       (excludes_reading disk.state.reservations.reservation)
   pub others : (other : ℕ) → other ≢ initiator
+      → registers_another disk.state initiator other cdb data_out ≡ false
       → IsLeft disk.state (armed_step disk initiator cdb data_out).after.state other
 
 -- This holds for an initiator that is fenced off, whatever faults are armed.
@@ -99,33 +102,35 @@ FaultsLetNobodyPastTheHolder =
     → other ≢ holder → holds_alone disk.state holder ≡ true
     → IsShutOutWithFaults disk holder other cdb data_out
 
--- Whatever faults are armed, an initiator becomes registered only by its own command that asks for it.
--- On a disk without faults that command ends with GOOD. A fault afterwards can report it as failed. So
+-- Whatever faults are armed, an initiator becomes registered only by a command that asks for it. On a
+-- disk without faults that command ends with GOOD. A fault afterwards can report it as failed. So
 -- an initiator can be registered although none of its commands has ended with GOOD.
 abbrev pub FaultsRegisterNobody : Type 0
 FaultsRegisterNobody =
     (disk : Armed) (initiator caller : ℕ) (cdb data_out : List ℕ)
     → is_registrant disk.state initiator ≡ false
     → is_registrant (armed_step disk caller cdb data_out).after.state initiator ≡ true
-    → RegistersItself disk.state initiator caller cdb data_out
+    → Registers disk.state initiator caller cdb data_out
 
 -- ---- Lists of events
 
--- No command of an initiator among events leaves it registered. This speaks of the states after its
--- commands, and not of the answers to them. A fault afterwards can report a REGISTER as failed that has
--- registered the initiator.
-abbrev pub NeverRegistersItself : (initiator : ℕ) → Armed → List Event → Type 0
-NeverRegistersItself initiator disk events =
-    (n : ℕ) (call : Call) → slice_get events n ≡ Some (event.Call call) → call.initiator ≡ initiator
-    → let before = after_events armed_disk disk (take n events) in
-    is_registrant (armed_step_of before call).after.state initiator ≡ false
+-- Of the commands among events that ask to register an initiator, none leaves it registered. This speaks
+-- of the states after the commands, and not of the answers to them. A fault afterwards can report a
+-- REGISTER as failed that has registered the initiator.
+abbrev pub IsNeverRegistered : (initiator : ℕ) → Armed → List Event → Type 0
+IsNeverRegistered initiator disk events =
+    (n : ℕ) (call : Call) → slice_get events n ≡ Some (event.Call call) →
+    (let before = after_events armed_disk disk (take n events) in
+    asks_to_register (rules_for before.state) call.initiator initiator (command_of call.cdb.now)
+    call.data_out.now ≡ true
+    → is_registrant (armed_step_of before call).after.state initiator ≡ false)
 
--- From a disk on, an initiator is fenced out whenever a reservation is held. This lasts until one of its
--- own commands registers it. Other initiators may send anything, and anything may happen. Faults may be
--- armed and taken away.
+-- From a disk on, an initiator is fenced out whenever a reservation is held. This lasts until a command
+-- that asks to register it does so. Other initiators may send anything else, and anything may happen.
+-- Faults may be armed and taken away.
 abbrev pub StaysFencedOut : (initiator : ℕ) → Armed → Type 0
 StaysFencedOut initiator disk =
-    (events : List Event) (cdb data_out : List ℕ) → NeverRegistersItself initiator disk events
+    (events : List Event) (cdb data_out : List ℕ) → IsNeverRegistered initiator disk events
     → let left = after_events armed_disk disk events in
     is_reserved left.state ≡ true → IsFencedOut left initiator cdb data_out
 

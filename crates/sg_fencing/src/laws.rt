@@ -21,7 +21,8 @@ ghost use Rattle.sg_fencing.specs.Registrants.{FencedOffAreKeptOut, FencedOffLea
 ghost use Rattle.sg_fencing.specs.Registrants.{FencedOffReadNothing, FencedOffSeeNoBlock};
 ghost use Rattle.sg_fencing.specs.Registrants.{FencedOffWriteNothing, NoBlockIsSeenOverAList};
 ghost use Rattle.sg_fencing.specs.Registrants.{OldKeysAreRefused};
-ghost use Rattle.sg_fencing.specs.Registrants.{OnlyRegisteringRegisters, OutsidersChangeNothing};
+ghost use Rattle.sg_fencing.specs.Registrants.{OnlyRegisteringRegisters, OthersAreRegisteredTogether};
+ghost use Rattle.sg_fencing.specs.Registrants.{OutsidersChangeNothing};
 ghost use Rattle.sg_fencing.specs.Registrants.{PreemptedAreUnregistered, PreemptedWriteNothing};
 ghost use Rattle.sg_fencing.specs.Registrants.{PreemptingSendersStayRegistered};
 ghost use Rattle.sg_fencing.specs.Registrants.{PreemptionKeepsAReservation};
@@ -219,7 +220,8 @@ pub fn the_unregistered_are_kept_out()
 }
 
 /// While a reservation of any type is held, an unregistered initiator's command leaves the view of
-/// every other initiator as it was. It may only start a unit that is stopped.
+/// every other initiator as it was. It may only start a unit that is stopped, and on an extended disk
+/// it may register others together with itself.
 pub fn the_unregistered_leave_every_view()
     ensures { FencedOffLeaveTheView }
 {
@@ -236,14 +238,22 @@ pub fn the_unregistered_see_no_block()
     commands_have_their_class();
 }
 
-/// An initiator that is not registered becomes registered only by its own REGISTER or REGISTER AND
-/// IGNORE EXISTING KEY. The command has a key other than zero, and ends with GOOD.
-pub fn nobody_registers_another()
+/// An initiator that is not registered becomes registered only by a REGISTER or a REGISTER AND IGNORE
+/// EXISTING KEY that asks for it. The command has a key other than zero, and ends with GOOD. It is the
+/// initiator's own, or on an extended disk names it with SPEC_I_PT.
+pub fn only_registering_registers()
     ensures { OnlyRegisteringRegisters }
 {}
 
-/// An unregistered initiator stays unregistered over a list of commands if none of its commands
-/// that ask to register it ends with GOOD. It may send REGISTER with the key that it had, or with
+/// If another initiator's command registers one, it registers its sender, too, which was not registered.
+/// Both have one key afterwards. Only an extended disk does that, for SPEC_I_PT. So a registrant registers
+/// nobody else.
+pub fn others_are_registered_together()
+    ensures { OthersAreRegisteredTogether }
+{}
+
+/// An unregistered initiator stays unregistered over a list of commands if no command that asks to
+/// register it ends with GOOD. It may send REGISTER with the key that it had, or with
 /// the key zero, as often as it likes.
 pub fn the_refused_stay_unregistered()
     ensures { TheRefusedStayUnregistered }
@@ -306,9 +316,9 @@ pub fn equal_views_of_a_group_run_alike()
     ensures { EqualGroupViewsRunAlike }
 {}
 
-/// If a command registers an unregistered initiator, the group sees three changes: its
-/// registration, the next PRGENERATION, and APTPL of its parameter list. Nothing that another
-/// initiator sees for itself has changed.
+/// If a command of an unregistered initiator registers it, the group sees three changes: its
+/// registration, with those of others that the command names; the next PRGENERATION; and APTPL of its
+/// parameter list. Nothing that another initiator sees for itself has changed.
 pub fn a_new_registration_is_seen()
     ensures { NewcomersAreSeen }
 {}
@@ -422,7 +432,7 @@ pub fn a_holder_is_served_as_if_alone_through_power_cycles()
 /// registered. Whatever faults are armed, none of its commands that write ends with GOOD. Under the
 /// exclusive access types none that reads does, and the answers to it are the same whatever the blocks
 /// are. Only LOG SENSE of page 0Ch shows how many are used. Each of its commands leaves the view of every
-/// other initiator as it was, and what is left of the faults for it.
+/// other initiator as it was, unless it registers that one, and what is left of the faults for it.
 pub fn faults_let_nobody_through()
     ensures { FaultsLetNobodyThrough }
 {
@@ -447,9 +457,9 @@ pub fn faults_let_nobody_past_the_holder()
     commands_have_their_class();
 }
 
-/// Whatever faults are armed, an unregistered initiator becomes registered only by its own REGISTER or
-/// REGISTER AND IGNORE EXISTING KEY. The command has a key other than zero, and ends with GOOD on a disk
-/// without faults. A fault can report it as failed.
+/// Whatever faults are armed, an unregistered initiator becomes registered only by a REGISTER or a
+/// REGISTER AND IGNORE EXISTING KEY that asks for it. The command has a key other than zero, and ends
+/// with GOOD on a disk without faults. A fault can report it as failed.
 pub fn faults_register_nobody()
     ensures { FaultsRegisterNobody }
 {
@@ -457,7 +467,7 @@ pub fn faults_register_nobody()
 }
 
 /// An unregistered initiator stays fenced out while a reservation is held, over commands and happenings.
-/// These may arm faults and take them away. This lasts until one of its own commands registers it.
+/// These may arm faults and take them away. This lasts until a command that asks to register it does so.
 pub fn the_unregistered_stay_fenced_out_through_faults()
     ensures { FencedOffThroughFaults }
 {
@@ -469,8 +479,8 @@ pub fn the_unregistered_stay_fenced_out_through_faults()
 }
 
 /// After a PREEMPT or a PREEMPT AND ABORT of its key that ends with GOOD, an initiator is fenced out
-/// while a reservation is held, whatever faults are armed. This lasts until one of its own commands
-/// registers it.
+/// while a reservation is held, whatever faults are armed. This lasts until a command that asks to
+/// register it does so.
 pub fn the_preempted_stay_fenced_out_through_faults()
     ensures { PreemptedStayFencedOut }
 {

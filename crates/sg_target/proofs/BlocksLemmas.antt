@@ -262,7 +262,8 @@ command-sound config (command.Unmap c) data_out =
     (extents-sound c.anchor))
 command-sound config (command.PersistentReserveOut c) data_out =
     requested-sound (demands config (command.PersistentReserveOut c) data_out) data_out
-    (when (fields_out (first_bytes c.list_length data_out))
+    (when (fields_out (rules_of config.identity.profile) c.action
+    (first_bytes c.list_length data_out))
     (operation.ChangeReservations c.action c.scope_type) (λ list. tt))
 command-sound config c data_out = requested-sound (demands config c data_out) data_out tt
 

@@ -4,6 +4,7 @@ use Rattle.std.proofs.Common.{refl, sym, ap, ◌∙◌, not, ◌&&◌, ◌==◌,
 use Rattle.std.specs.Prelude.{is_some, ok_or}
 use Rattle.sg_wire.specs.CdbDecoding.{command_in}
 use Rattle.sg_wire.specs.FirstBytes.{first_bytes}
+use Rattle.sg_wire.specs.Profile.{rules_of}
 use Rattle.sg_wire.specs.declared.command.Command.{Command}
 use Rattle.sg_wire.specs.declared.command.Command.TheVariants as command
 use Rattle.sg_wire.specs.declared.command.verify.ByteCheck.{ByteCheck}
@@ -124,7 +125,8 @@ unmarked config (command.Unmap c) data_out other =
     sound-unmarked (extents_out config c.list_length data_out) (unmap_extents c.anchor)
     (unmap-unmarked c.anchor)
 unmarked config (command.PersistentReserveOut c) data_out other =
-    sound-unmarked (fields_out (first_bytes c.list_length data_out))
+    sound-unmarked (fields_out (rules_of config.identity.profile) c.action
+    (first_bytes c.list_length data_out))
     (ChangeReservations c.action c.scope_type) (λ list. refl)
 unmarked config other data_out h = refl
 

@@ -3,6 +3,7 @@ use Rattle.std.proofs.Common.{◌≡◌, ℕ, ◌==◌, Bool, true, false, cond,
 use Rattle.std.proofs.Common.{Option, Some, None, Result, Ok, Err, refl, sym, ap, ◌∙◌, subst}
 use Rattle.std.specs.Prelude.{◌||◌, if◌then◌else◌, ok_or}
 use Rattle.sg_wire.specs.FirstBytes.{first_bytes}
+use Rattle.sg_wire.specs.Profile.{rules_of}
 use Rattle.sg_wire.specs.SupportedOperations.{requested_report}
 use Rattle.sg_wire.specs.declared.command.Command.{Command}
 use Rattle.sg_wire.specs.declared.command.Command.TheVariants as command
@@ -132,7 +133,8 @@ writes-these config (command.WriteSame16 c) data_out =
 writes-these config (command.Unmap c) data_out =
     unmap-writes c.anchor (extents_out config c.list_length data_out)
 writes-these config (command.PersistentReserveOut c) data_out =
-    sound-none (fields_out (first_bytes c.list_length data_out))
+    sound-none (fields_out (rules_of config.identity.profile) c.action
+    (first_bytes c.list_length data_out))
     (operation.ChangeReservations c.action c.scope_type) (λ list. (refl, refl))
 writes-these config other data_out = (refl, refl)
 

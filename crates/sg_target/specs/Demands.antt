@@ -143,9 +143,9 @@ mode_sense width llbaa page blocks n =
 
 abbrev pub reserve_out : ConfigFields → PersistentReserveOut → (data_out : List ℕ) → Demands
 reserve_out config c data_out =
-    takes config c.list_length
-    (bad_type (rules_of config.identity.profile) c.action c.scope_type)
-    (when_sound (fields_out (first_bytes c.list_length data_out))
+    let rules = rules_of config.identity.profile in
+    takes config c.list_length (bad_type rules c.action c.scope_type)
+    (when_sound (fields_out rules c.action (first_bytes c.list_length data_out))
     (operation.ChangeReservations c.action c.scope_type))
 
 -- ---- Block commands (SBC-3, 5)

@@ -1,13 +1,14 @@
 -- The effects of PERSISTENT RESERVE IN and PERSISTENT RESERVE OUT (SPC-4, 5.13).
-use Rattle.std.specs.Prelude.{ℕ, ◌==◌, List, length, Bool, true, false, not, ◌&&◌, Option, Some, None}
+use Rattle.std.specs.Prelude.{ℕ, ◌==◌, nat_le, List, length}
+use Rattle.std.specs.Prelude.{Bool, true, false, not, ◌&&◌, ◌||◌, Option, Some, None}
 use Rattle.std.specs.Prelude.{is_none, Result, Ok, Err, if◌then◌else◌}
 use Rattle.sg_wire.specs.declared.command.in_action.InAction.{InAction}
 use Rattle.sg_wire.specs.declared.command.in_action.InAction.TheVariants.{ReadKeys, ReadReservation}
 use Rattle.sg_wire.specs.declared.command.in_action.InAction.TheVariants.{ReportCapabilities}
 use Rattle.sg_wire.specs.declared.command.in_action.InAction.TheVariants.{ReadFullStatus}
 use Rattle.sg_wire.specs.declared.command.out_action.OutAction.{OutAction}
-use Rattle.sg_wire.specs.declared.command.out_action.OutAction.TheVariants.{Reserve, Release}
-use Rattle.sg_wire.specs.OutList.{list_length, out_list}
+use Rattle.sg_wire.specs.declared.command.out_action.OutAction.TheVariants.{Register, Reserve, Release}
+use Rattle.sg_wire.specs.OutList.{has_transport_ids, has_whole_ids, list_length, out_list}
 use Rattle.sg_wire.specs.Profile.{rules_of}
 use Rattle.sg_wire.specs.declared.profile.Rules.{Rules}
 use Rattle.sg_units.specs.Raised.{raised_for_each}
@@ -67,11 +68,24 @@ out_refusal out_fault.BadRelease = CheckCondition InvalidRelease
 out_refusal (out_fault.Field byte) = CheckCondition (InvalidFieldInParameterList byte)
 out_refusal out_fault.BadType = CheckCondition (InvalidFieldInCdb 2)
 
--- The fields of a parameter list. A list of another length than theirs is an error.
--- Departure (SPC-4, 6.16.3): 26h/00h for SPEC_I_PT in a longer list there.
-abbrev pub fields_out : (list : List ℕ) → Result OutList Refusal
-fields_out list =
-    if length list == list_length
+abbrev pub is_register : OutAction → Bool
+is_register Register = true
+is_register _ = false
+
+-- Without SPEC_I_PT only the fields are there. A list with SPEC_I_PT has any length if SPEC_I_PT is an
+-- error of the list.
+-- Departure (SPC-4, 6.16.3): 26h/00h for SPEC_I_PT in a longer list, on a base disk.
+abbrev pub has_list_length : Rules → OutAction → (list : List ℕ) → Bool
+has_list_length rules action list =
+    nat_le list_length (length list)
+    && (if rules.specifies_ports && has_transport_ids list
+    then not (is_register action) || has_whole_ids list
+    else length list == list_length)
+
+-- A parameter list. A list of another length is an error.
+abbrev pub fields_out : Rules → OutAction → (list : List ℕ) → Result OutList Refusal
+fields_out rules action list =
+    if has_list_length rules action list
     then Ok (out_list list)
     else Err (CheckCondition ParameterListLengthError)
 

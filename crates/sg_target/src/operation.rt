@@ -164,7 +164,7 @@ pub enum Operation<'a> {
         action: OutAction,
         /// Byte 2 of the CDB.
         scope_type: u8,
-        list: OutList,
+        list: OutList<'a>,
     },
 }
 

@@ -8,8 +8,8 @@ ghost use Rattle.sg_target.specs.Checks.{requested};
 ghost use Rattle.sg_target.specs.Demands.{reserve_out};
 ghost use Rattle.sg_target.specs.Charge.{TakesStep, cost_bounds, step_by};
 ghost use Rattle.sg_target.specs.MadeReplies.{ReturnsData};
-ghost use Rattle.sg_target.specs.ReservationCommands.{always_needs_type, out_refusal};
-ghost use Rattle.sg_target.specs.ReservationCommands.{reserve_in_data};
+ghost use Rattle.sg_target.specs.ReservationCommands.{always_needs_type, has_list_length};
+ghost use Rattle.sg_target.specs.ReservationCommands.{out_refusal, reserve_in_data};
 ghost use Rattle.sg_target.specs.State.{IsWithinLimits};
 
 use crate::config::Config;
@@ -93,7 +93,7 @@ impl From<OutFault> for Refusal {
             }
             OutFault::BadRelease => Refusal::CheckCondition(Reason::InvalidRelease),
             OutFault::Field(byte) => Refusal::CheckCondition(Reason::InvalidFieldInParameterList {
-                byte: u16::from(byte),
+                byte,
             }),
             OutFault::BadType => Refusal::CheckCondition(Reason::InvalidFieldInCdb {
                 byte: SCOPE_TYPE_BYTE,
@@ -113,12 +113,26 @@ fn always_needs_type(rules: Rules, action: OutAction) -> bool
     }
 }
 
+/// Returns `true` if a parameter list has one of the lengths that there may be.
+fn has_list_length(rules: Rules, action: OutAction, list: &[u8]) -> bool
+    ensures { result ≡ has_list_length rules action list.now }
+{
+    if list.len() < OutList::LENGTH {
+        return false;
+    }
+    if rules.specifies_ports && OutList::has_transport_ids(list) {
+        !matches!(action, OutAction::Register) || OutList::has_whole_ids(list)
+    } else {
+        list.len() == OutList::LENGTH
+    }
+}
+
 #[tactic(auto, unfolding(crate::specs::ReservationCommands::bad_type))]
-pub(crate) fn check_reserve_out(
+pub(crate) fn check_reserve_out<'a>(
     config: &Config,
     fields: PersistentReserveOut,
-    data_out: &[u8],
-) -> Result<Operation<'static>, Refusal>
+    data_out: &'a [u8],
+) -> Result<Operation<'a>, Refusal>
     ensures { result ≡ requested (reserve_out config.now fields data_out.now) data_out.now }
 {
     let PersistentReserveOut {
@@ -133,7 +147,7 @@ pub(crate) fn check_reserve_out(
         }));
     }
     let list = needed_data_out(config, data_out, list_length as usize)?;
-    if list.len() != OutList::LENGTH {
+    if !has_list_length(config.rules(), action, list) {
         return Err(Refusal::CheckCondition(Reason::ParameterListLengthError));
     }
     Ok(Operation::ChangeReservations {

@@ -278,6 +278,7 @@ sg_persist rows =
       spec_i_pt = false;
       all_tg_pt = false;
       aptpl = is_set (codes "param-aptpl") rows;
+      others = [];
     })))))
 
 -- ---- sg_turs and sg_requests: TEST UNIT READY and REQUEST SENSE

@@ -16,7 +16,7 @@ pub enum Parameters {
     /// The parameter list of UNMAP.
     Unmap(UnmapList),
     /// The parameter list of PERSISTENT RESERVE OUT.
-    ReserveOut(OutList),
+    ReserveOut(OutList<'static>),
     /// Bytes that an option gives.
     Bytes(DataOut),
     /// A logical block, each of whose bytes is this one.

@@ -11,7 +11,9 @@ use crate::service_action::{ServiceAction, are_exclusive, given_actions};
 use crate::show::Show;
 use crate::tool::Tool;
 use crate::tool_fault::ToolFault;
-use sg_wire::{Command, InAction, OutAction, OutList, PersistentReserveIn, PersistentReserveOut};
+use sg_wire::{
+    Command, InAction, OutAction, OutList, PersistentReserveIn, PersistentReserveOut, TransportIds,
+};
 
 /// The request that the options of sg_persist make.
 pub(crate) fn sg_persist(options: &GivenOptions) -> Result<Tool, ToolFault>
@@ -34,6 +36,7 @@ pub(crate) fn sg_persist(options: &GivenOptions) -> Result<Tool, ToolFault>
         spec_i_pt: false,
         all_tg_pt: false,
         aptpl: options.is_set("param-aptpl"),
+        others: TransportIds::new(&[]),
     };
     reserve(as_out, &actions, type_code, list)
 }
@@ -43,9 +46,9 @@ fn reserve(
     as_out: bool,
     actions: &[ServiceAction],
     type_code: u8,
-    list: OutList,
+    list: OutList<'static>,
 ) -> Result<Tool, ToolFault>
-    ensures { result ≡ reserve as_out actions.now type_code list }
+    ensures { result ≡ reserve as_out actions.now type_code list.entry }
 {
     match actions {
         [] if as_out => Err(ToolFault::Usage),
@@ -76,8 +79,8 @@ fn reserve_in_show(action: InAction) -> Show
     }
 }
 
-fn reserve_out(action: OutAction, type_code: u8, list: OutList) -> Tool
-    ensures { Ok result ≡ reserve_out action type_code list }
+fn reserve_out(action: OutAction, type_code: u8, list: OutList<'static>) -> Tool
+    ensures { Ok result ≡ reserve_out action type_code list.entry }
 {
     Tool {
         command: Command::PersistentReserveOut(PersistentReserveOut {

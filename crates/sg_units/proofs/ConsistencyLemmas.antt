@@ -3,8 +3,8 @@ use Rattle.std.proofs.Common.{◌≡◌, ◌≤◌, ◌+◌, ◌==◌, ℕ, Bool
 use Rattle.std.proofs.Common.{List, [], ◌∷◌, length, filter, Option, Some, None, Ok, Err, refl}
 use Rattle.std.proofs.Common.{ap, ◌∙◌, arith}
 use Rattle.std.specs.Prelude.{if◌then◌else◌}
-use Rattle.std.specs.List.{list_any}
-use Rattle.std.proofs.lemmas.Bool.{false≢true, not-true, or_left, or_parts}
+use Rattle.std.specs.List.{fold, list_any}
+use Rattle.std.proofs.lemmas.Bool.{cond_both, false≢true, not-true, or_left, or_parts}
 use Rattle.std.proofs.lemmas.Bool.Decides.{nat_tests}
 use Rattle.std.proofs.lemmas.List.{length-append}
 use Rattle.std.proofs.lemmas.List.Folds.{list_any-append}
@@ -12,16 +12,18 @@ use Rattle.std.proofs.lemmas.List.Sums.{sum_by-cons, sum_by_push, length-filter,
 use Rattle.sg_units.specs.ReserveOut.{IsConsistentChange, Outcome, accepts_key, action_outcome}
 use Rattle.sg_units.specs.ReserveOut.{outcome}
 use Rattle.sg_units.specs.ReserveOut.{preempt_cases, register_cases, release_cases}
-use Rattle.sg_units.specs.ReserveOut.{reserve_cases, state_after}
+use Rattle.sg_units.specs.ReserveOut.{register_together_cases, registered_together, registered_too}
+use Rattle.sg_units.specs.ReserveOut.{registration_by, reserve_cases, state_after}
 use Rattle.sg_units.specs.Registrations.{has_key, is_of, is_registered, is_registered_under}
 use Rattle.sg_units.specs.Registrations.{is_under}
-use Rattle.sg_units.specs.Registrations.{registration, registrations_of, with_key_replaced}
-use Rattle.sg_units.specs.Registrations.{with_registration}
+use Rattle.sg_units.specs.Registrations.{max_registrations, registrations_of, with_registration}
+use Rattle.sg_units.specs.Registrations.{with_replaced}
 use Rattle.sg_units.specs.ReservationType.{is_all_registrants, type_of}
 use Rattle.sg_units.specs.Reservations.{AreConsistent, IsConsistent, has_holder, holds}
 use Rattle.sg_units.specs.Reservations.{is_held_if_any, names_holder, names_holder_if_any, taken}
 use Rattle.sg_units.specs.Reservations.{while_held}
-use Rattle.sg_units.proofs.OutcomeLemmas.{EffectIs, FirstIs, and_false, case_or, if-accepted, effective}
+use Rattle.sg_units.proofs.OutcomeLemmas.{EffectIs, FirstIs, and_false, case_or, choice}
+use Rattle.sg_units.proofs.OutcomeLemmas.{if-accepted, effective}
 use Rattle.sg_units.proofs.OutcomeLemmas.{last_case, refused, releasing, taking, typed}
 use Rattle.sg_wire.specs.declared.command.out_action.OutAction.{OutAction}
 use Rattle.sg_wire.specs.declared.command.out_action.OutAction.TheVariants.{Register, Reserve}
@@ -63,39 +65,40 @@ registrations_of-none (r ∷ rs) i h =
     let step = registrations_of-cons r rs i in
     grind (arith, rest, step)
 
-registrations_of-push : (rs : List Registration) (i key j : ℕ) → is_registered rs i ≡ false
-    → registrations_of rs j ≤ 1 → registrations_of (with_registration rs i key) j ≤ 1
-registrations_of-push rs i key j h k =
-    let push = sum_by_push (λ q. cond (is_of j q) 1 0) rs (registration i key) in
-    let none = registrations_of-none rs i h in
+registrations_of-push : (rs : List Registration) (new : Registration) (j : ℕ)
+    → is_registered rs new.initiator ≡ false → registrations_of rs j ≤ 1
+    → registrations_of (with_registration rs new) j ≤ 1
+registrations_of-push rs new j h k =
+    let push = sum_by_push (λ q. cond (is_of j q) 1 0) rs new in
+    let none = registrations_of-none rs new.initiator h in
     grind (arith, nat_tests)
 
--- a registration with a replaced key is the same initiator's
-same_initiator : (r : Registration) (i key : ℕ) (b : Bool) → (r.initiator == i) ≡ b
-    → (cond b (registration i key) r).initiator ≡ r.initiator
-same_initiator r i key true h = grind (arith, nat_tests)
-same_initiator r i key false h = refl
+-- a registration that takes the place of another is the same initiator's
+same_initiator : (r new : Registration) (b : Bool) → (r.initiator == new.initiator) ≡ b
+    → (cond b new r).initiator ≡ r.initiator
+same_initiator r new true h = grind (arith, nat_tests)
+same_initiator r new false h = refl
 
-registrations_of-replaced : (rs : List Registration) (i key j : ℕ)
-    → registrations_of (with_key_replaced rs i key) j ≡ registrations_of rs j
-registrations_of-replaced [] i key j = refl
-registrations_of-replaced (r ∷ rs) i key j =
-    let q : Registration = if is_of i r then registration i key else r in
+registrations_of-replaced : (rs : List Registration) (new : Registration) (j : ℕ)
+    → registrations_of (with_replaced rs new) j ≡ registrations_of rs j
+registrations_of-replaced [] new j = refl
+registrations_of-replaced (r ∷ rs) new j =
+    let q : Registration = if is_of new.initiator r then new else r in
     let same : cond {A = ℕ} (is_of j q) 1 0 ≡ cond (is_of j r) 1 0 =
-    ap (λ (n : ℕ). cond {A = ℕ} (n == j) 1 0) (same_initiator r i key (is_of i r) refl) in
-    let rest = registrations_of-replaced rs i key j in
+    ap (λ (n : ℕ). cond {A = ℕ} (n == j) 1 0) (same_initiator r new (is_of new.initiator r) refl) in
+    let rest = registrations_of-replaced rs new j in
     omega (
       arith,
-      registrations_of-cons q (with_key_replaced rs i key) j,
+      registrations_of-cons q (with_replaced rs new) j,
       registrations_of-cons r rs j,
       same,
       rest,
     )
 
-length-replaced : (rs : List Registration) (i key : ℕ)
-    → length (with_key_replaced rs i key) ≡ length rs
-length-replaced [] i key = refl
-length-replaced (r ∷ rs) i key = omega (arith, length-replaced rs i key)
+length-replaced : (rs : List Registration) (new : Registration)
+    → length (with_replaced rs new) ≡ length rs
+length-replaced [] new = refl
+length-replaced (r ∷ rs) new = omega (arith, length-replaced rs new)
 
 length-filter-le : (p : Registration → Bool) (rs : List Registration)
     → length (filter p rs) ≤ length rs
@@ -103,25 +106,25 @@ length-filter-le p rs = omega (arith, length-filter p rs, count_by-le-length p r
 
 -- ---- Holders
 
-has_holder-replaced : (reservation : Reservation) (rs : List Registration) (i key : ℕ)
-    → has_holder reservation (with_key_replaced rs i key) ≡ has_holder reservation rs
-has_holder-replaced reservation [] i key = refl
-has_holder-replaced reservation (r ∷ rs) i key =
-    ap (λ n. holds reservation n || has_holder reservation (with_key_replaced rs i key))
-    (same_initiator r i key (is_of i r) refl)
-    ∙ ap (λ b. holds reservation r.initiator || b) (has_holder-replaced reservation rs i key)
+has_holder-replaced : (reservation : Reservation) (rs : List Registration) (new : Registration)
+    → has_holder reservation (with_replaced rs new) ≡ has_holder reservation rs
+has_holder-replaced reservation [] new = refl
+has_holder-replaced reservation (r ∷ rs) new =
+    ap (λ n. holds reservation n || has_holder reservation (with_replaced rs new))
+    (same_initiator r new (is_of new.initiator r) refl)
+    ∙ ap (λ b. holds reservation r.initiator || b) (has_holder-replaced reservation rs new)
 
-held-replaced : (held : Option Reservation) (rs : List Registration) (i key : ℕ)
-    → is_held_if_any held rs ≡ true → is_held_if_any held (with_key_replaced rs i key) ≡ true
-held-replaced None rs i key h = refl
-held-replaced (Some reservation) rs i key h = has_holder-replaced reservation rs i key ∙ h
+held-replaced : (held : Option Reservation) (rs : List Registration) (new : Registration)
+    → is_held_if_any held rs ≡ true → is_held_if_any held (with_replaced rs new) ≡ true
+held-replaced None rs new h = refl
+held-replaced (Some reservation) rs new h = has_holder-replaced reservation rs new ∙ h
 
-held-push : (held : Option Reservation) (rs : List Registration) (i key : ℕ)
-    → is_held_if_any held rs ≡ true → is_held_if_any held (with_registration rs i key) ≡ true
-held-push None rs i key h = refl
-held-push (Some reservation) rs i key h =
+held-push : (held : Option Reservation) (rs : List Registration) (new : Registration)
+    → is_held_if_any held rs ≡ true → is_held_if_any held (with_registration rs new) ≡ true
+held-push None rs new h = refl
+held-push (Some reservation) rs new h =
     let holder = λ (r : Registration). holds reservation r.initiator in
-    list_any-append holder rs (registration i key ∷ []) ∙ or_left (has_holder reservation rs) _ h
+    list_any-append holder rs (new ∷ []) ∙ or_left (has_holder reservation rs) _ h
 
 -- the rest of a reservation has a holder, and is as it was
 held_if : (reservation : Reservation) (rest : List Registration) (b : Bool)
@@ -214,24 +217,24 @@ has_key-filter p (r ∷ rs) key h =
     let parts = or_parts (is_under key r) (has_key rs key) h in
     key-filtered key r (p r) (filter p rs) parts.0 (has_key-filter p rs key parts.1)
 
-key-replaced : (r : Registration) (i key : ℕ) (is_own : Bool) → (key == 0) ≡ false
-    → is_under 0 r ≡ false → is_under 0 (cond is_own (registration i key) r) ≡ false
-key-replaced r i key true e h = e
-key-replaced r i key false e h = h
+key-replaced : (r new : Registration) (is_own : Bool) → is_under 0 new ≡ false
+    → is_under 0 r ≡ false → is_under 0 (cond is_own new r) ≡ false
+key-replaced r new true e h = e
+key-replaced r new false e h = h
 
-has_key-replaced : (rs : List Registration) (i key : ℕ) → (key == 0) ≡ false
-    → has_key rs 0 ≡ false → has_key (with_key_replaced rs i key) 0 ≡ false
-has_key-replaced [] i key e h = refl
-has_key-replaced (r ∷ rs) i key e h =
+has_key-replaced : (rs : List Registration) (new : Registration) → is_under 0 new ≡ false
+    → has_key rs 0 ≡ false → has_key (with_replaced rs new) 0 ≡ false
+has_key-replaced [] new e h = refl
+has_key-replaced (r ∷ rs) new e h =
     let parts = or_parts (is_under 0 r) (has_key rs 0) h in
-    rw (key-replaced r i key (is_of i r) e parts.0, has_key-replaced rs i key e parts.1) refl
+    rw (key-replaced r new (is_of new.initiator r) e parts.0, has_key-replaced rs new e parts.1) refl
 
-has_key-push : (rs : List Registration) (i key : ℕ) → (key == 0) ≡ false → has_key rs 0 ≡ false
-    → has_key (with_registration rs i key) 0 ≡ false
-has_key-push [] i key e h = rw e refl
-has_key-push (r ∷ rs) i key e h =
+has_key-push : (rs : List Registration) (new : Registration) → is_under 0 new ≡ false
+    → has_key rs 0 ≡ false → has_key (with_registration rs new) 0 ≡ false
+has_key-push [] new e h = rw e refl
+has_key-push (r ∷ rs) new e h =
     let parts = or_parts (is_under 0 r) (has_key rs 0) h in
-    rw (parts.0, has_key-push rs i key e parts.1) refl
+    rw (parts.0, has_key-push rs new e parts.1) refl
 
 -- ---- What is consistent
 
@@ -247,32 +250,80 @@ consistent-filter p rs held new h k n = record {
   holder = n;
 }
 
-consistent-replaced : (rs : List Registration) (held : Option Reservation) (i key : ℕ)
-    → (key == 0) ≡ false → AreConsistent rs held
-    → AreConsistent (with_key_replaced rs i key) held
-consistent-replaced rs held i key e h = record {
-  one_each = λ j. omega (arith, h.one_each j, registrations_of-replaced rs i key j);
-  no_zero_key = has_key-replaced rs i key e h.no_zero_key;
-  at_most_six = omega (arith, h.at_most_six, length-replaced rs i key);
-  held = held-replaced held rs i key h.held;
+consistent-replaced : (rs : List Registration) (held : Option Reservation) (new : Registration)
+    → is_under 0 new ≡ false → AreConsistent rs held → AreConsistent (with_replaced rs new) held
+consistent-replaced rs held new e h = record {
+  one_each = λ j. omega (arith, h.one_each j, registrations_of-replaced rs new j);
+  no_zero_key = has_key-replaced rs new e h.no_zero_key;
+  at_most_six = omega (arith, h.at_most_six, length-replaced rs new);
+  held = held-replaced held rs new h.held;
   holder = h.holder;
 }
 
-six : (rs : List Registration) → (length rs == 6) ≡ false → length rs ≤ 6
-    → length rs + 1 ≤ 6
+six : (rs : List Registration) → (length rs == max_registrations) ≡ false
+    → length rs ≤ max_registrations → length rs + 1 ≤ max_registrations
 six rs e h = grind (arith, nat_tests)
 
-consistent-push : (rs : List Registration) (held : Option Reservation) (i key : ℕ)
-    → is_registered rs i ≡ false → (length rs == 6) ≡ false → (key == 0) ≡ false
-    → AreConsistent rs held → AreConsistent (with_registration rs i key) held
-consistent-push rs held i key new room e h = record {
-  one_each = λ j. registrations_of-push rs i key j new (h.one_each j);
-  no_zero_key = has_key-push rs i key e h.no_zero_key;
-  at_most_six =
-      omega (arith, length-append rs (registration i key ∷ []), six rs room h.at_most_six);
-  held = held-push held rs i key h.held;
+-- all but the room for one registration more
+pub record IsNearlyConsistent (rs : List Registration) (reservation : Option Reservation) : Type 0 where
+  pub one_each : (initiator : ℕ) → registrations_of rs initiator ≤ 1
+  pub no_zero_key : has_key rs 0 ≡ false
+  pub held : is_held_if_any reservation rs ≡ true
+  pub holder : names_holder_if_any reservation ≡ true
+
+nearly-push : (rs : List Registration) (held : Option Reservation) (new : Registration)
+    → is_registered rs new.initiator ≡ false → is_under 0 new ≡ false
+    → IsNearlyConsistent rs held → IsNearlyConsistent (with_registration rs new) held
+nearly-push rs held new unknown e h = record {
+  one_each = λ j. registrations_of-push rs new j unknown (h.one_each j);
+  no_zero_key = has_key-push rs new e h.no_zero_key;
+  held = held-push held rs new h.held;
   holder = h.holder;
 }
+
+nearly : (rs : List Registration) (held : Option Reservation) → AreConsistent rs held
+    → IsNearlyConsistent rs held
+nearly rs held h = record {
+  one_each = h.one_each;
+  no_zero_key = h.no_zero_key;
+  held = h.held;
+  holder = h.holder;
+}
+
+consistent-within : (rs : List Registration) (held : Option Reservation) → IsNearlyConsistent rs held
+    → length rs ≤ max_registrations → AreConsistent rs held
+consistent-within rs held h room = record {
+  one_each = h.one_each;
+  no_zero_key = h.no_zero_key;
+  at_most_six = room;
+  held = h.held;
+  holder = h.holder;
+}
+
+consistent-push : (rs : List Registration) (held : Option Reservation) (new : Registration)
+    → is_registered rs new.initiator ≡ false → (length rs == max_registrations) ≡ false
+    → is_under 0 new ≡ false → AreConsistent rs held → AreConsistent (with_registration rs new) held
+consistent-push rs held new unknown room e h =
+    consistent-within (with_registration rs new) held
+    (nearly-push rs held new unknown e (nearly rs held h))
+    (omega (arith, length-append rs (new ∷ []), six rs room h.at_most_six))
+
+-- others are registered together with the caller
+nearly-too : (held : Option Reservation) (list : OutList) (rs : List Registration) (named : Option ℕ)
+    → (list.service_action_key == 0) ≡ false → IsNearlyConsistent rs held
+    → IsNearlyConsistent (registered_too list rs named) held
+nearly-too held list rs None e h = h
+nearly-too held list rs (Some i) e h =
+    cond_both (is_registered rs i) rs (with_registration rs (registration_by list i))
+    (λ all. IsNearlyConsistent all held) (λ _. h)
+    (λ unknown. nearly-push rs held (registration_by list i) unknown e h)
+
+nearly-each : (held : Option Reservation) (list : OutList) (named : List (Option ℕ))
+    (rs : List Registration) → (list.service_action_key == 0) ≡ false → IsNearlyConsistent rs held
+    → IsNearlyConsistent (fold (registered_too list) rs named) held
+nearly-each held list [] rs e h = h
+nearly-each held list (one ∷ named) rs e h =
+    nearly-each held list named (registered_too list rs one) e (nearly-too held list rs one e h)
 
 consistent-held : (rs : List Registration) (held new : Option Reservation) → AreConsistent rs held
     → is_held_if_any new rs ≡ true → names_holder_if_any new ≡ true → AreConsistent rs new
@@ -296,26 +347,41 @@ consistent-none = record {
 
 -- ---- Outcomes
 
-consistent-register : (state : ReservationState) (i sark : ℕ) (aptpl : Bool)
-    → IsConsistent state
-    → FirstIs (EffectIs IsConsistentChange) (register_cases state i sark aptpl)
+consistent-register : (state : ReservationState) (i : ℕ) (list : OutList) → IsConsistent state
+    → FirstIs (EffectIs IsConsistentChange) (register_cases state i list)
 unfolding register_cases
-consistent-register state i sark aptpl h =
+consistent-register state i list h =
     let all = state.registrations in
     let held = state.reservation in
+    let own = registration_by list i in
     let others = λ (r : Registration). not (is_of i r) in
     case_or (EffectIs IsConsistentChange) _ _ (λ _. effective IsConsistentChange _ h)
     (λ zero. case_or (EffectIs IsConsistentChange) _ _ (λ _. refused IsConsistentChange _)
     (λ full. case_or (EffectIs IsConsistentChange) _ _
     (λ new. effective IsConsistentChange _
-    (consistent-push all held i sark (not-true _ new) (and_false _ _ new full)
-    (and_false _ _ new zero) h))
+    (consistent-push all held own (not-true _ new) (and_false _ _ new full) (and_false _ _ new zero) h))
     (λ _. case_or (EffectIs IsConsistentChange) _ _
-    (λ other. effective IsConsistentChange _ (consistent-replaced all held i sark (not-true _ other) h))
+    (λ other. effective IsConsistentChange _ (consistent-replaced all held own (not-true _ other) h))
     (λ _. last_case (EffectIs IsConsistentChange) _ _ refl
     (effective IsConsistentChange _
     (consistent-filter others all held _ h (held-while_held held _)
     (named-while_held held _ h.holder)))))))
+
+consistent-together : (state : ReservationState) (i : ℕ) (list : OutList) → IsConsistent state
+    → FirstIs (EffectIs IsConsistentChange) (register_together_cases state i list)
+unfolding register_together_cases registered_together
+consistent-together state i list h =
+    let all = state.registrations in
+    let held = state.reservation in
+    let together = registered_together all i list in
+    case_or (EffectIs IsConsistentChange) _ _ (λ _. refused IsConsistentChange _)
+    (λ own. case_or (EffectIs IsConsistentChange) _ _ (λ _. refused IsConsistentChange _)
+    (λ _. case_or (EffectIs IsConsistentChange) _ _ (λ _. refused IsConsistentChange _)
+    (λ room. last_case (EffectIs IsConsistentChange) _ _ refl
+    (effective IsConsistentChange _
+    (consistent-within together held
+    (nearly-each held list (Some i ∷ list.others) all (or_parts _ _ own).1 (nearly all held h))
+    (grind (arith, nat_tests)))))))
 
 consistent-reserve : (state : ReservationState) (i : ℕ) (type : ReservationType)
     → is_registered state.registrations i ≡ true → IsConsistent state
@@ -371,34 +437,34 @@ consistent-preempt rules state i type sark here h =
 
 -- a caller whose key is accepted is registered, unless it registers
 consistent-action : (rules : Rules) (state : ReservationState) (i : ℕ) (action : OutAction)
-    (type : Option ReservationType) (key sark : ℕ) (aptpl : Bool)
-    → accepts_key state.registrations i action key ≡ true → IsConsistent state
-    → EffectIs IsConsistentChange (action_outcome rules state i action type sark aptpl)
-consistent-action rules state i Register type key sark aptpl a h =
-    (consistent-register state i sark aptpl h).first
-consistent-action rules state i Reserve type key sark aptpl a h =
-    let here = is_registered-under state.registrations i key a in
+    (type : Option ReservationType) (list : OutList)
+    → accepts_key state.registrations i action list.reservation_key ≡ true → IsConsistent state
+    → EffectIs IsConsistentChange (action_outcome rules state i action type list)
+consistent-action rules state i Register type list a h =
+    choice (EffectIs IsConsistentChange) list.spec_i_pt _ _
+    (λ _. (consistent-together state i list h).first) (λ _. (consistent-register state i list h).first)
+consistent-action rules state i Reserve type list a h =
+    let here = is_registered-under state.registrations i list.reservation_key a in
     typed IsConsistentChange type _ (λ type. (consistent-reserve state i type here h).first)
-consistent-action rules state i Release type key sark aptpl a h =
+consistent-action rules state i Release type list a h =
     releasing IsConsistentChange rules state i type h (λ type. consistent-release state i type h)
-consistent-action rules state i Clear type key sark aptpl a h =
+consistent-action rules state i Clear type list a h =
     effective IsConsistentChange _ consistent-none
-consistent-action rules state i Preempt type key sark aptpl a h =
-    let here = is_registered-under state.registrations i key a in
-    (consistent-preempt rules state i type sark here h).first
-consistent-action rules state i PreemptAndAbort type key sark aptpl a h =
-    let here = is_registered-under state.registrations i key a in
-    (consistent-preempt rules state i type sark here h).first
-consistent-action rules state i RegisterAndIgnoreExistingKey type key sark aptpl a h =
-    (consistent-register state i sark aptpl h).first
+consistent-action rules state i Preempt type list a h =
+    let here = is_registered-under state.registrations i list.reservation_key a in
+    (consistent-preempt rules state i type list.service_action_key here h).first
+consistent-action rules state i PreemptAndAbort type list a h =
+    let here = is_registered-under state.registrations i list.reservation_key a in
+    (consistent-preempt rules state i type list.service_action_key here h).first
+consistent-action rules state i RegisterAndIgnoreExistingKey type list a h =
+    (consistent-register state i list h).first
 
 pub consistent-outcome : (rules : Rules) (state : ReservationState) (i : ℕ) (action : OutAction)
     (scope_type : ℕ) (list : OutList) → IsConsistent state
     → EffectIs IsConsistentChange (outcome rules state i action scope_type list)
 consistent-outcome rules state i action scope_type list h =
     if-accepted IsConsistentChange rules state i action scope_type list
-    (λ accepted. consistent-action rules state i action (type_of scope_type) list.reservation_key
-    list.service_action_key list.aptpl accepted h)
+    (λ accepted. consistent-action rules state i action (type_of scope_type) list accepted h)
 
 pub consistent-state_after : (state : ReservationState) (o : Outcome) → IsConsistent state
     → EffectIs IsConsistentChange o → IsConsistent (state_after state o)

@@ -12,7 +12,8 @@ use Rattle.sg_wire.specs.declared.command.Class.TheVariants.{Always, Reads, Writ
 use Rattle.sg_units.specs.Access.{access_of, allowed, allows, highest_class, is_within, standing_of}
 use Rattle.sg_units.specs.Laws.{CountsChanges, HasOneHolder, IsHeldByAll, IsRefused}
 use Rattle.sg_units.specs.ReserveOut.{Outcome, action_outcome, generation_after, outcome}
-use Rattle.sg_units.specs.ReserveOut.{preempt_cases, register_cases, release_cases}
+use Rattle.sg_units.specs.ReserveOut.{preempt_cases, register_cases, register_together_cases}
+use Rattle.sg_units.specs.ReserveOut.{release_cases}
 use Rattle.sg_units.specs.ReserveOut.{reserve_cases, state_after, unchanged}
 use Rattle.sg_units.specs.Registrations.{is_of, is_registered, is_registered_under, is_under}
 use Rattle.sg_units.specs.Registrations.{registrations_of}
@@ -43,8 +44,8 @@ use Rattle.sg_units.specs.declared.types.ReservationType.TheVariants.{WriteExclu
 use Rattle.sg_units.specs.declared.types.ReservationType.TheVariants.{ExclusiveAccessAllRegistrants}
 use Rattle.sg_units.specs.declared.unit_attention.UnitAttention.{UnitAttention}
 use Rattle.sg_units.proofs.ConsistencyLemmas.{is_registered-under, registrations_of-cons}
-use Rattle.sg_units.proofs.OutcomeLemmas.{EffectIs, FirstIs, case_or, if-accepted, effective, last_case}
-use Rattle.sg_units.proofs.OutcomeLemmas.{refused, releasing, taking, typed}
+use Rattle.sg_units.proofs.OutcomeLemmas.{EffectIs, FirstIs, case_or, choice, if-accepted, effective}
+use Rattle.sg_units.proofs.OutcomeLemmas.{last_case, refused, releasing, taking, typed}
 
 -- ---- One key each
 
@@ -300,16 +301,26 @@ counts : (state : ReservationState) (change : ReservationChange)
 counts state change is =
     effective (Counted state) change (λ e. absurd (false≢true (sym e ∙ is)))
 
-counted-register : (state : ReservationState) (i sark : ℕ) (aptpl : Bool)
-    → FirstIs (EffectIs (Counted state)) (register_cases state i sark aptpl)
+counted-register : (state : ReservationState) (i : ℕ) (list : OutList)
+    → FirstIs (EffectIs (Counted state)) (register_cases state i list)
 unfolding register_cases
-counted-register state i sark aptpl =
+counted-register state i list =
     let P = Counted state in
     case_or (EffectIs P) _ _ (λ _. stays state _ _)
     (λ _. case_or (EffectIs P) _ _ (λ _. refused P _)
     (λ _. case_or (EffectIs P) _ _ (λ _. counts state _ refl)
     (λ _. case_or (EffectIs P) _ _ (λ _. counts state _ refl)
     (λ _. last_case (EffectIs P) _ _ refl (counts state _ refl)))))
+
+counted-together : (state : ReservationState) (i : ℕ) (list : OutList)
+    → FirstIs (EffectIs (Counted state)) (register_together_cases state i list)
+unfolding register_together_cases
+counted-together state i list =
+    let P = Counted state in
+    case_or (EffectIs P) _ _ (λ _. refused P _)
+    (λ _. case_or (EffectIs P) _ _ (λ _. refused P _)
+    (λ _. case_or (EffectIs P) _ _ (λ _. refused P _)
+    (λ _. last_case (EffectIs P) _ _ refl (counts state _ refl))))
 
 counted-reserve : (state : ReservationState) (i : ℕ) (type : ReservationType)
     → FirstIs (EffectIs (Counted state)) (reserve_cases state i type)
@@ -343,28 +354,29 @@ counted-preempt rules state i type sark =
     (λ _. last_case (EffectIs P) _ _ refl (counts state _ refl))))))
 
 counted-action : (rules : Rules) (state : ReservationState) (i : ℕ) (action : OutAction)
-    (type : Option ReservationType) (sark : ℕ) (aptpl : Bool)
-    → EffectIs (Counted state) (action_outcome rules state i action type sark aptpl)
-counted-action rules state i Register type sark aptpl =
-    (counted-register state i sark aptpl).first
-counted-action rules state i Reserve type sark aptpl =
+    (type : Option ReservationType) (list : OutList)
+    → EffectIs (Counted state) (action_outcome rules state i action type list)
+counted-action rules state i Register type list =
+    choice (EffectIs (Counted state)) list.spec_i_pt _ _ (λ _. (counted-together state i list).first)
+    (λ _. (counted-register state i list).first)
+counted-action rules state i Reserve type list =
     typed (Counted state) type _ (λ type. (counted-reserve state i type).first)
-counted-action rules state i Release type sark aptpl =
+counted-action rules state i Release type list =
     releasing (Counted state) rules state i type (λ _. refl) (counted-release state i)
-counted-action rules state i Clear type sark aptpl = counts state _ refl
-counted-action rules state i Preempt type sark aptpl =
-    (counted-preempt rules state i type sark).first
-counted-action rules state i PreemptAndAbort type sark aptpl =
-    (counted-preempt rules state i type sark).first
-counted-action rules state i RegisterAndIgnoreExistingKey type sark aptpl =
-    (counted-register state i sark aptpl).first
+counted-action rules state i Clear type list = counts state _ refl
+counted-action rules state i Preempt type list =
+    (counted-preempt rules state i type list.service_action_key).first
+counted-action rules state i PreemptAndAbort type list =
+    (counted-preempt rules state i type list.service_action_key).first
+counted-action rules state i RegisterAndIgnoreExistingKey type list =
+    (counted-register state i list).first
 
 counted-outcome : (rules : Rules) (state : ReservationState) (i : ℕ) (action : OutAction)
     (scope_type : ℕ) (list : OutList)
     → EffectIs (Counted state) (outcome rules state i action scope_type list)
 counted-outcome rules state i action scope_type list =
     if-accepted (Counted state) rules state i action scope_type list
-    (λ _. counted-action rules state i action (type_of scope_type) list.service_action_key list.aptpl)
+    (λ _. counted-action rules state i action (type_of scope_type) list)
 
 same_or_next : (increments : Bool) (n : ℕ)
     → (generation_after increments n ≡ n) ⊎ (generation_after increments n ≡ (n + 1) % 2 ^ 32)

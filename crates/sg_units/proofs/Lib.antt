@@ -7,6 +7,7 @@ pub mod LengthLemmas
 -- PERSISTENT RESERVE OUT.
 pub mod OutcomeLemmas
 pub mod ConsistencyLemmas
+pub mod TogetherLemmas
 -- Power cycles, and the laws.
 pub mod PowerLemmas
 pub mod RestoredLemmas

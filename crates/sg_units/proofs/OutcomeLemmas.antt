@@ -78,19 +78,28 @@ releasing P rules state i type idle h =
     choice (EffectIs P) (rules.release_of_nothing_ignores_type && not (is_holder state i)) _ _
     (λ _. effective P _ idle) (λ _. typed P type _ (λ type. (h type).first))
 
--- a command is refused, or its key is accepted and it has the outcome of its service action
+-- a command is refused, or its flags are supported, its key is accepted and it has the outcome of its
+-- service action
+pub if-supported : (P : ReservationChange → Type 0) (rules : Rules) (state : ReservationState) (i : ℕ)
+    (action : OutAction) (scope_type : ℕ) (list : OutList)
+    → (has_unsupported_flag rules action list ≡ false
+    → accepts_key state.registrations i action list.reservation_key ≡ true
+    → EffectIs P (action_outcome rules state i action (type_of scope_type) list))
+    → EffectIs P (outcome rules state i action scope_type list)
+unfolding outcome
+if-supported P rules state i action scope_type list h =
+    let accepts = accepts_key state.registrations i action list.reservation_key in
+    choice (EffectIs P) (has_unsupported_flag rules action list) _ _ (λ _. refused P (Field flags_at))
+    (λ supported. choice (EffectIs P) (not accepts) _ _ (λ _. refused P Conflict)
+    (λ yes. h supported (not-false accepts yes)))
+
 pub if-accepted : (P : ReservationChange → Type 0) (rules : Rules) (state : ReservationState) (i : ℕ)
     (action : OutAction) (scope_type : ℕ) (list : OutList)
     → (accepts_key state.registrations i action list.reservation_key ≡ true
-    → EffectIs P
-    (action_outcome rules state i action (type_of scope_type) list.service_action_key list.aptpl))
+    → EffectIs P (action_outcome rules state i action (type_of scope_type) list))
     → EffectIs P (outcome rules state i action scope_type list)
-unfolding outcome
 if-accepted P rules state i action scope_type list h =
-    let accepts = accepts_key state.registrations i action list.reservation_key in
-    choice (EffectIs P) (has_unsupported_flag action list) _ _ (λ _. refused P (Field flags_at))
-    (λ _. choice (EffectIs P) (not accepts) _ _ (λ _. refused P Conflict)
-    (λ yes. h (not-false accepts yes)))
+    if-supported P rules state i action scope_type list (λ _ accepted. h accepted)
 
 pub and_false : (a b : Bool) → a ≡ true → (a && b) ≡ false → b ≡ false
 and_false true b h k = k

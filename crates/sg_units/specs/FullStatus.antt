@@ -1,9 +1,10 @@
 -- READ FULL STATUS (SPC-4, 6.15.5).
-use Rattle.std.specs.Prelude.{ℕ, ◌+◌, ◌*◌, List, [], ◌∷◌, ◌++◌, length, if◌then◌else◌}
+use Rattle.std.specs.Prelude.{ℕ, ◌+◌, ◌*◌, Bool, List, [], ◌∷◌, ◌++◌, length, if◌then◌else◌}
 use Rattle.std.specs.Prelude.{Option, Some, None}
 use Rattle.std.specs.List.{flat_map}
 use Rattle.sg_wire.specs.Fields.{Field, field, fields_bytes}
 use Rattle.sg_wire.specs.TargetPort.{relative_target_port}
+use Rattle.sg_wire.specs.TransportId.{transport_id, transport_id_length}
 use Rattle.sg_units.specs.Registrations.{max_registrations}
 use Rattle.sg_units.specs.Reservations.{holds}
 use Rattle.sg_units.specs.ReservationType.{code_of}
@@ -11,22 +12,6 @@ use Rattle.sg_units.specs.ReserveIn.{header}
 use Rattle.sg_units.specs.declared.registrations.Registration.{Registration}
 use Rattle.sg_units.specs.declared.reservation.Reservation.{Reservation}
 use Rattle.sg_units.specs.declared.reservation_state.ReservationState.{ReservationState}
-
--- ---- A TransportID (SPC-4, 7.6.4)
-
--- The initiators are SAS ports with locally assigned names (NAA 3h), so that their numbers show.
-abbrev pub sas_address : (initiator : ℕ) → ℕ
-sas_address initiator = 0x3000000000000100 + initiator
-
--- FORMAT CODE 0h and PROTOCOL IDENTIFIER 6h, three reserved bytes, SAS ADDRESS, and twelve
--- reserved bytes.
--- Departure (SPC-4, 7.6.4): the TransportID of the initiator's own protocol there.
-abbrev pub transport_id : (initiator : ℕ) → List Field
-transport_id initiator =
-    field 1 0x06 ∷ field 3 0 ∷ field 8 (sas_address initiator) ∷ field 12 0 ∷ []
-
-abbrev pub transport_id_length : ℕ
-transport_id_length = 24
 
 -- ---- A full status descriptor
 
@@ -43,14 +28,19 @@ held_type None registrant = 0
 held_type (Some reservation) registrant =
     if holds reservation registrant then code_of reservation.kind else 0
 
+-- ALL_TG_PT, bit 1: the registration is for every target port.
+abbrev pub ports_flag : (all_tg_pt : Bool) → ℕ
+ports_flag all_tg_pt = if all_tg_pt then 2 else 0
+
 -- The fields of the descriptor, in order. First come RESERVATION KEY, four reserved bytes,
--- ALL_TG_PT 0 with R_HOLDER, and SCOPE with TYPE. Then come four reserved bytes, RELATIVE TARGET
+-- ALL_TG_PT with R_HOLDER, and SCOPE with TYPE. Then come four reserved bytes, RELATIVE TARGET
 -- PORT IDENTIFIER, ADDITIONAL DESCRIPTOR LENGTH, and the TransportID.
+-- Choice (SPC-4, 6.15.5): with ALL_TG_PT the RELATIVE TARGET PORT IDENTIFIER is not defined.
 abbrev pub full_status_fields : Option Reservation → Registration → List Field
 full_status_fields reservation r =
     field 8 r.key
     ∷ field 4 0
-    ∷ field 1 (holder_flag reservation r.initiator)
+    ∷ field 1 (ports_flag r.all_tg_pt + holder_flag reservation r.initiator)
     ∷ field 1 (held_type reservation r.initiator)
     ∷ field 4 0
     ∷ field 2 relative_target_port

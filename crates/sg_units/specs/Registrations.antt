@@ -8,8 +8,9 @@ use Rattle.sg_units.specs.declared.registrations.Registration.{Registration}
 abbrev pub max_registrations : ℕ
 max_registrations = 6
 
-abbrev pub registration : (initiator key : ℕ) → Registration
-registration initiator key = record { initiator = initiator; key = key }
+abbrev pub registration : (initiator key : ℕ) → (all_tg_pt : Bool) → Registration
+registration initiator key all_tg_pt =
+    record { initiator = initiator; key = key; all_tg_pt = all_tg_pt }
 
 abbrev pub is_of : (initiator : ℕ) → Registration → Bool
 is_of initiator r = r.initiator == initiator
@@ -45,14 +46,13 @@ registrations_of registrations initiator = count_by (is_of initiator) registrati
 
 -- ---- What they become
 
-abbrev pub with_registration : List Registration → (initiator key : ℕ) → List Registration
-with_registration registrations initiator key =
-    registrations ++ registration initiator key ∷ []
+abbrev pub with_registration : List Registration → Registration → List Registration
+with_registration registrations r = registrations ++ r ∷ []
 
--- An initiator's key is replaced.
-abbrev pub with_key_replaced : List Registration → (initiator key : ℕ) → List Registration
-with_key_replaced registrations initiator key =
-    map (λ r. if is_of initiator r then registration initiator key else r) registrations
+-- A registration takes the place of its initiator's.
+abbrev pub with_replaced : List Registration → Registration → List Registration
+with_replaced registrations new =
+    map (λ r. if is_of new.initiator r then new else r) registrations
 
 abbrev pub without_initiator : List Registration → (initiator : ℕ) → List Registration
 without_initiator registrations initiator = filter (λ r. not (is_of initiator r)) registrations

@@ -60,14 +60,20 @@ reservation_data state = reservation_data_of state state.reservation
 abbrev capabilities_length : (following : List ℕ) → Field
 capabilities_length following = field 2 (2 + length following)
 
--- Byte 2. PTPL_C, bit 0: registrations and reservation can persist through a power loss. RLR_C,
--- CRH, SIP_C and ATP_C are 0. So the disk does not support REPLACE LOST RESERVATION, exceptions for
--- RESERVE and RELEASE, SPEC_I_PT or ALL_TG_PT.
+-- Byte 2. SIP_C, bit 3, and ATP_C, bit 2: the disk supports SPEC_I_PT and ALL_TG_PT. PTPL_C, bit 0:
+-- registrations and reservation can persist through a power loss. RLR_C and CRH are 0. So the disk does
+-- not support REPLACE LOST RESERVATION, or exceptions for RESERVE and RELEASE.
+abbrev sip_c : ℕ
+sip_c = 0x08
+
+abbrev atp_c : ℕ
+atp_c = 0x04
+
 abbrev ptpl_c : ℕ
 ptpl_c = 0x01
 
-abbrev capable_bits : Field
-capable_bits = field 1 ptpl_c
+abbrev capable_bits : Rules → Field
+capable_bits rules = field 1 (if rules.specifies_ports then sip_c + atp_c + ptpl_c else ptpl_c)
 
 -- Byte 3. TMV, bit 7: the type mask is valid. ALLOW COMMANDS, bits 6 to 4: which commands of others
 -- a reservation allows. PTPL_A, bit 0: registrations and reservation do persist.
@@ -107,7 +113,7 @@ reserved = field 2 0
 abbrev capabilities_after_length : Rules → ReservationState → List ℕ
 capabilities_after_length rules state =
     fields_bytes (
-    capable_bits ∷ activated_bits rules state ∷ type_mask 0 ∷ type_mask 1 ∷ reserved ∷ []
+    capable_bits rules ∷ activated_bits rules state ∷ type_mask 0 ∷ type_mask 1 ∷ reserved ∷ []
     )
 
 abbrev pub capabilities_data : Rules → ReservationState → List ℕ

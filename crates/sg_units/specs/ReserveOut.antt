@@ -1,16 +1,18 @@
 -- PERSISTENT RESERVE OUT (SPC-4, 5.13).
-use Rattle.std.specs.Prelude.{ℕ, ◌+◌, ◌%◌, ◌^◌, ◌==◌, Bool, true, false, not, ◌&&◌, ◌||◌}
+use Rattle.std.specs.Prelude.{ℕ, ◌+◌, ◌%◌, ◌^◌, ◌==◌, nat_lt, Bool, true, false, not, ◌&&◌, ◌||◌}
 use Rattle.std.specs.Prelude.{if◌then◌else◌, List, [], ◌∷◌, length, map, Result, Ok, Err}
 use Rattle.std.specs.Prelude.{Option, Some, None, is_some, is_none, unwrap_or}
-use Rattle.std.specs.List.{range_with_len}
+use Rattle.std.specs.List.{fold, range_with_len}
 use Rattle.std.specs.Option.{option_map_or}
 use Rattle.sg_wire.specs.Initiator.{initiator_count}
 use Rattle.sg_wire.specs.declared.profile.Rules.{Rules}
 use Rattle.sg_units.specs.UnsupportedFlags.{has_unsupported_flag}
-use Rattle.sg_wire.specs.OutList.{flags_at, service_action_key_at}
+use Rattle.sg_wire.specs.OutList.{flags_at, service_action_key_at, transport_ids_at}
+use Rattle.sg_wire.specs.TransportId.{transport_id_length}
 use Rattle.sg_units.specs.Raised.{Conditions}
 use Rattle.sg_units.specs.Registrations.{has_key, is_registered, is_registered_under, max_registrations}
-use Rattle.sg_units.specs.Registrations.{with_key_replaced, with_registration, without_initiator}
+use Rattle.sg_units.specs.Registrations.{registration, with_registration, with_replaced}
+use Rattle.sg_units.specs.Registrations.{without_initiator}
 use Rattle.sg_units.specs.Registrations.{without_key, without_key_of_others, without_others}
 use Rattle.sg_units.specs.Reservations.{AreConsistent, has_holder, has_type, is_holder, taken}
 use Rattle.sg_units.specs.Reservations.{while_held}
@@ -101,23 +103,62 @@ released_unless_type held type = if has_type held type then None else Some Reser
 
 -- ---- The service actions. SARK is the SERVICE ACTION RESERVATION KEY
 
+-- The registration that a parameter list asks for.
+abbrev pub registration_by : OutList → (initiator : ℕ) → Registration
+registration_by list initiator = registration initiator list.service_action_key list.all_tg_pt
+
 -- REGISTER and REGISTER AND IGNORE EXISTING KEY (SPC-4, 5.13, registering and unregistering). If
 -- an initiator that is not registered sends key 0, then nothing changes, PRGENERATION and APTPL
 -- included.
-unfoldable pub register_cases : ReservationState → (caller sark : ℕ) → (aptpl : Bool) → List Case
-register_cases state caller sark aptpl =
+-- Choice (SPC-4, 6.16.3): a new key may leave ALL_TG_PT as it was.
+unfoldable pub register_cases : ReservationState → (caller : ℕ) → OutList → List Case
+register_cases state caller list =
     let all = state.registrations in
     let held = state.reservation in
     let known = is_registered all caller in
     let rest = without_initiator all caller in
+    let own = registration_by list caller in
+    let sark = list.service_action_key in
     when (not known && sark == 0) (Ok (unchanged state))
     ∷ when (not known && length all == max_registrations) (Err NoRoom)
-    ∷ when (not known) (Ok (registering state (with_registration all caller sark) aptpl))
-    ∷ when (not (sark == 0)) (Ok (registering state (with_key_replaced all caller sark) aptpl))
-    ∷ otherwise (Ok (record (registering state rest aptpl) {
+    ∷ when (not known) (Ok (registering state (with_registration all own) list.aptpl))
+    ∷ when (not (sark == 0)) (Ok (registering state (with_replaced all own) list.aptpl))
+    ∷ otherwise (Ok (record (registering state rest list.aptpl) {
       reservation = while_held held rest;
       for_remaining = released_unless_held held rest;
     }))
+    ∷ []
+
+-- Each initiator that a TransportID names is registered. If it is registered already, it is passed over.
+-- Choice (SPC-4, 5.13, registering): that may be an error.
+abbrev pub registered_too : OutList → List Registration → Option ℕ → List Registration
+registered_too list registrations None = registrations
+registered_too list registrations (Some initiator) =
+    if is_registered registrations initiator then registrations
+    else with_registration registrations (registration_by list initiator)
+
+-- The caller is registered, and then the others in the order of the list.
+unfoldable pub registered_together : List Registration → (caller : ℕ) → OutList → List Registration
+registered_together all caller list = fold (registered_too list) all (Some caller ∷ list.others)
+
+-- The first byte of the first TransportID that names no initiator of the disk. The first of them all
+-- begins at byte `at`.
+abbrev pub first_unknown : (at : ℕ) → (others : List (Option ℕ)) → Option ℕ
+first_unknown at [] = None
+first_unknown at (None ∷ others) = Some at
+first_unknown at (Some initiator ∷ others) = first_unknown (at + transport_id_length) others
+
+-- REGISTER with SPEC_I_PT, which registers other initiators together with its own (SPC-4, 5.13,
+-- registering). All of them are registered, or none is.
+unfoldable pub register_together_cases : ReservationState → (caller : ℕ) → OutList → List Case
+register_together_cases state caller list =
+    let all = state.registrations in
+    let unknown = first_unknown transport_ids_at list.others in
+    let registrations = registered_together all caller list in
+    when (is_registered all caller || list.service_action_key == 0) (Err (Field flags_at))
+    ∷ when (is_some unknown) (Err (Field (unwrap_or unknown flags_at)))
+    ∷ when (nat_lt max_registrations (length registrations)) (Err NoRoom)
+    ∷ otherwise (Ok (registering state registrations list.aptpl))
     ∷ []
 
 -- RESERVE (SPC-4, 5.13, reserving).
@@ -220,19 +261,20 @@ preempt_cases rules state caller type sark =
 -- ---- The command
 
 abbrev pub action_outcome : Rules → ReservationState → (caller : ℕ) → OutAction
-    → Option ReservationType → (sark : ℕ) → (aptpl : Bool) → Outcome
-action_outcome rules state i Register type sark aptpl =
-    first_case (register_cases state i sark aptpl)
-action_outcome rules state i Reserve type sark aptpl =
+    → Option ReservationType → OutList → Outcome
+action_outcome rules state i Register type list =
+    if list.spec_i_pt then first_case (register_together_cases state i list)
+    else first_case (register_cases state i list)
+action_outcome rules state i Reserve type list =
     with_type type (λ type. first_case (reserve_cases state i type))
-action_outcome rules state i Release type sark aptpl = release_outcome rules state i type
-action_outcome rules state i Clear type sark aptpl = cleared
-action_outcome rules state i Preempt type sark aptpl =
-    first_case (preempt_cases rules state i type sark)
-action_outcome rules state i PreemptAndAbort type sark aptpl =
-    first_case (preempt_cases rules state i type sark)
-action_outcome rules state i RegisterAndIgnoreExistingKey type sark aptpl =
-    first_case (register_cases state i sark aptpl)
+action_outcome rules state i Release type list = release_outcome rules state i type
+action_outcome rules state i Clear type list = cleared
+action_outcome rules state i Preempt type list =
+    first_case (preempt_cases rules state i type list.service_action_key)
+action_outcome rules state i PreemptAndAbort type list =
+    first_case (preempt_cases rules state i type list.service_action_key)
+action_outcome rules state i RegisterAndIgnoreExistingKey type list =
+    first_case (register_cases state i list)
 
 -- The RESERVATION KEY has to be the caller's. To register for the first time it has to be 0, and
 -- REGISTER AND IGNORE EXISTING KEY ignores it.
@@ -249,9 +291,9 @@ outcome rules state caller action scope_type list =
     let accepts = accepts_key state.registrations caller action list.reservation_key in
     let type = type_of scope_type in
     first_case (
-    when (has_unsupported_flag action list) (Err (Field flags_at))
+    when (has_unsupported_flag rules action list) (Err (Field flags_at))
     ∷ when (not accepts) (Err Conflict)
-    ∷ otherwise (action_outcome rules state caller action type list.service_action_key list.aptpl)
+    ∷ otherwise (action_outcome rules state caller action type list)
     ∷ [])
 
 -- ---- What it leaves

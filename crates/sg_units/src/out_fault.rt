@@ -14,7 +14,7 @@ pub enum OutFault {
     BadRelease,
     /// INVALID FIELD IN PARAMETER LIST, 26h/00h, at this byte of the list, from 0.
     #[error("byte {0} of the parameter list has a value that is not supported")]
-    Field(u8),
+    Field(u16),
     /// INVALID FIELD IN CDB, 24h/00h, at byte 2: the scope and type.
     #[error("the scope or the type is not valid")]
     BadType,

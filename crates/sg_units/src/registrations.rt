@@ -5,7 +5,7 @@ ghost use Rattle.sg_units.specs.Registrations.{has_key, is_of, is_registered, is
 ghost use Rattle.sg_units.specs.Registrations.{key_of, max_registrations, registered_mask};
 ghost use Rattle.sg_units.specs.Registrations.{registrations_of};
 ghost use Rattle.sg_units.specs.Restored.{each_once};
-ghost use Rattle.sg_units.specs.Registrations.{with_key_replaced, with_registration};
+ghost use Rattle.sg_units.specs.Registrations.{with_registration, with_replaced};
 ghost use Rattle.sg_units.specs.Registrations.{without_initiator, without_key};
 ghost use Rattle.sg_units.specs.Registrations.{without_key_of_others, without_others};
 
@@ -20,6 +20,8 @@ pub struct Registration {
     pub initiator: Initiator,
     /// The reservation key.
     pub key: u64,
+    /// ALL_TG_PT: the registration is for every target port.
+    pub all_tg_pt: bool,
 }
 
 impl Registration {
@@ -168,21 +170,21 @@ impl Registrations {
     }
 
     /// Adds a registration.
-    pub(crate) fn register(&mut self, initiator: Initiator, key: u64)
+    pub(crate) fn register(&mut self, registration: Registration)
         requires { length self.old < max_registrations }
-        ensures { self.new ≡ with_registration self.old initiator key }
+        ensures { self.new ≡ with_registration self.old registration }
     {
-        self.items.push(Registration { initiator, key });
+        self.items.push(registration);
     }
 
-    /// The registrations with an initiator's key replaced.
-    pub(crate) fn with_key_replaced(&self, initiator: Initiator, key: u64) -> Registrations
-        ensures { result ≡ with_key_replaced self.now initiator key }
+    /// The registrations with one in the place of its initiator's.
+    pub(crate) fn with_replaced(&self, new: &Registration) -> Registrations
+        ensures { result ≡ with_replaced self.now new.now }
     {
         let mut items = ArrayVec::new();
         for registration in self.items.as_slice() {
-            if registration.is_of(initiator) {
-                items.push(Registration { initiator, key });
+            if registration.is_of(new.initiator) {
+                items.push(*new);
             } else {
                 items.push(*registration);
             }

@@ -5,8 +5,13 @@ use crate::{OutFault, OutList, Raised, Registration, Reservation, ReservationCha
 use sg_wire::{Class, Cut, Initiator, OutAction, Rules};
 use std::marker::Model;
 
-// Flags of REPORT CAPABILITIES. Byte 2: persist through power loss capable. Byte 3: the type mask
-// is valid, and persist through power loss activated.
+// Flags of REPORT CAPABILITIES. Byte 2: specify initiator ports capable, all target ports capable, and
+// persist through power loss capable. Byte 3: the type mask is valid, and persist through power loss
+// activated.
+const SIP_C: u8 = 0x08;
+
+const ATP_C: u8 = 0x04;
+
 const PTPL_C: u8 = 0x01;
 
 const TMV: u8 = 0x80;
@@ -247,8 +252,13 @@ impl Reservations {
         } else {
             allowed
         };
+        let capable = if rules.specifies_ports {
+            SIP_C + ATP_C + PTPL_C
+        } else {
+            PTPL_C
+        };
         let [first, second] = TYPE_MASK;
-        cut.put(&[0x00, 0x08, PTPL_C, flags, first, second, 0x00, 0x00]);
+        cut.put(&[0x00, 0x08, capable, flags, first, second, 0x00, 0x00]);
     }
 }
 

@@ -1,10 +1,13 @@
 -- The parameter list of PERSISTENT RESERVE OUT (SPC-4, 6.16.3).
-use Rattle.std.specs.Prelude.{ℕ, List, drop, slice_index}
+use Rattle.std.specs.Prelude.{ℕ, ◌-◌, ◌*◌, ◌==◌, nat_le, Bool, ◌&&◌, List, [], drop, length}
+use Rattle.std.specs.Prelude.{slice_index, if◌then◌else◌}
 use Rattle.byteorder.specs.Endian.{big_number}
 use Rattle.sg_wire.specs.Bits.{has_bit}
+use Rattle.sg_wire.specs.Initiator.{initiator_count}
+use Rattle.sg_wire.specs.TransportId.{named_initiators, transport_id_length}
 use Rattle.sg_wire.specs.declared.out_list.OutList.{OutList}
 
--- Its length in bytes.
+-- The length of its fields in bytes. With SPEC_I_PT more follows.
 abbrev pub list_length : ℕ
 list_length = 24
 
@@ -15,13 +18,35 @@ service_action_key_at = 8
 abbrev pub flags_at : ℕ
 flags_at = 20
 
+-- With SPEC_I_PT the places of TRANSPORTID PARAMETER DATA LENGTH, and of the TransportIDs after it.
+abbrev pub transport_ids_length_at : ℕ
+transport_ids_length_at = 24
+
+abbrev pub transport_ids_at : ℕ
+transport_ids_at = 28
+
+-- SPEC_I_PT: TransportIDs follow the fields.
+abbrev pub has_transport_ids : List ℕ → Bool
+has_transport_ids bytes = has_bit (slice_index bytes flags_at) 0x08
+
+-- TRANSPORTID PARAMETER DATA LENGTH counts the bytes after it. There are no more TransportIDs than
+-- initiators.
+-- Choice (SPC-4, 6.16.3): a list may name an initiator more than once.
+abbrev pub has_whole_ids : List ℕ → Bool
+has_whole_ids bytes =
+    nat_le transport_ids_at (length bytes)
+    && (big_number 4 (drop transport_ids_length_at bytes) == length bytes - transport_ids_at
+    && nat_le (length bytes - transport_ids_at) (transport_id_length * initiator_count))
+
 -- The list that bytes contain.
 -- Choice (SPC-4, 3.3, reserved): a reserved bit that is set may be refused.
 abbrev pub out_list : List ℕ → OutList
 out_list bytes = record {
   reservation_key = big_number 8 bytes;
   service_action_key = big_number 8 (drop service_action_key_at bytes);
-  spec_i_pt = has_bit (slice_index bytes flags_at) 0x08;
+  spec_i_pt = has_transport_ids bytes;
   all_tg_pt = has_bit (slice_index bytes flags_at) 0x04;
   aptpl = has_bit (slice_index bytes flags_at) 0x01;
+  others =
+      if has_transport_ids bytes then named_initiators (drop transport_ids_at bytes) else [];
 }

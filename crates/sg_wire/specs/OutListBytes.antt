@@ -9,8 +9,12 @@ flag_byte list =
     (if list.spec_i_pt then 0x08 else 0) + (if list.all_tg_pt then 0x04 else 0)
     + (if list.aptpl then 0x01 else 0)
 
--- The bytes of a list: the keys, four bytes of zero, the flags, and three bytes of zero.
+-- The keys, four bytes of zero, the flags, and three bytes of zero.
+abbrev pub list_bytes : (key action_key flags : ℕ) → List ℕ
+list_bytes key action_key flags =
+    big_bytes 8 key ++ big_bytes 8 action_key ++ replicate 4 0 ++ flags ∷ replicate 3 0
+
+-- The bytes of a list's fields.
 abbrev pub out_list_bytes : OutList → List ℕ
 out_list_bytes list =
-    big_bytes 8 list.reservation_key ++ big_bytes 8 list.service_action_key
-    ++ replicate 4 0 ++ flag_byte list ∷ replicate 3 0
+    list_bytes list.reservation_key list.service_action_key (flag_byte list)

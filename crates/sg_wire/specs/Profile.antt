@@ -61,6 +61,7 @@ maximum_transfer_length = extended_limits.transfer_length
 -- Departure (SPC-4, 5.13.11.2): on a base disk, RELEASE of nothing may be refused for its TYPE.
 -- Departure (SPC-4, 4.5.2.4.2): on a base disk, MODE SELECT points into a field of several bytes.
 -- Choice (SPC-4, 6.15.4): a base disk does not say which commands a reservation allows.
+-- Choice (SPC-4, 6.15.4): a base disk supports neither SPEC_I_PT nor ALL_TG_PT.
 abbrev pub rules_of : Profile → Rules
 rules_of Base = record {
   zero_reaches_last = false;
@@ -74,6 +75,7 @@ rules_of Base = record {
   preempt_needs_a_key = false;
   release_of_nothing_ignores_type = false;
   points_at_fields = false;
+  specifies_ports = false;
   allow_commands = 0;
 }
 rules_of Extended = record {
@@ -88,5 +90,6 @@ rules_of Extended = record {
   preempt_needs_a_key = true;
   release_of_nothing_ignores_type = true;
   points_at_fields = true;
+  specifies_ports = true;
   allow_commands = 3;
 }

@@ -80,6 +80,9 @@ pub struct Rules {
     /// A field pointer into the list of a MODE SELECT goes to the first byte of a field of several
     /// bytes (SPC-4, 4.5.2.4.2).
     pub points_at_fields: bool,
+    /// REGISTER can name other initiators by SPEC_I_PT. A registration can be for every target port by
+    /// ALL_TG_PT (SPC-4, 6.16.3).
+    pub specifies_ports: bool,
     /// ALLOW COMMANDS of REPORT CAPABILITIES (SPC-4, 6.15.4).
     pub allow_commands: u8,
 }
@@ -96,6 +99,7 @@ const BASE_RULES: Rules = Rules {
     preempt_needs_a_key: false,
     release_of_nothing_ignores_type: false,
     points_at_fields: false,
+    specifies_ports: false,
     allow_commands: 0,
 };
 
@@ -111,6 +115,7 @@ const EXTENDED_RULES: Rules = Rules {
     preempt_needs_a_key: true,
     release_of_nothing_ignores_type: true,
     points_at_fields: true,
+    specifies_ports: true,
     allow_commands: 3,
 };
 

@@ -2,6 +2,7 @@
 
 from itertools import cycle
 
+from reservations import SPEC_I_PT, transport_id
 from rows_of import row
 from rows_of.lines import POWER_ON_TAKEN, raw, test_unit_ready
 from rows_of.tour import ACTIONS, SECTIONS, Tour, A, B, C, F, reserve_in, reserve_out
@@ -204,7 +205,8 @@ def list_lengths():
 def each_flag():
     """SPEC_I_PT, ALL_TG_PT, APTPL and the reserved bits of list byte 20 (SPC-4, 6.16.3)
 
-    SPEC_I_PT is refused by each action, ALL_TG_PT by those that register.
+    On a base disk each action refuses SPEC_I_PT, and those that register refuse ALL_TG_PT. An
+    extended disk takes ALL_TG_PT. It takes SPEC_I_PT of REGISTER, whose list is too short here.
     """
     yield from POWER_ON_TAKEN
     yield reserve_out(0, "REGISTER", 0, A)
@@ -230,3 +232,46 @@ def each_flag():
     yield with_reserved_bytes(2, "RELEASE", C, 0, 0x06, 0xF7)
     yield with_reserved_bytes(2, "CLEAR", C, 0, 0x06, 0xF7)
     yield from observed
+
+
+# -------------------------------------------------------------------- TransportIDs, for an extended disk
+
+
+def register_together(caller, key, transport_ids, listed=None):
+    """REGISTER with SPEC_I_PT. PARAMETER LIST LENGTH is the length of the list, unless it is given."""
+    data = (bytes(8) + key.to_bytes(8, "big") + bytes([0, 0, 0, 0, SPEC_I_PT, 0, 0, 0])
+            + len(transport_ids).to_bytes(4, "big") + transport_ids)
+    length = len(data) if listed is None else listed
+    return raw(caller, bytes([0x5F, 0, 0, 0, 0]) + length.to_bytes(4, "big") + b"\0", data)
+
+
+@row("persistent-reserve-out/each-bit-of-a-transport-id", profile="extended")
+def each_bit_of_a_transport_id():
+    """Each bit of a TransportID is turned. It names no initiator then, or another one (SPC-4, 7.6.4)."""
+    yield from POWER_ON_TAKEN
+    for named in (5, 0):
+        for bit in range(8 * len(transport_id(named))):
+            other = bytearray(transport_id(named))
+            other[bit // 8] ^= 0x80 >> bit % 8
+            yield register_together(6, A, bytes(other))
+            if bytes(other) in map(transport_id, range(8)):
+                yield from (reserve_in(6, 3), reserve_out(6, "CLEAR", A))
+    yield reserve_in(6, 3)
+
+
+@row("persistent-reserve-out/each-length-of-a-list-with-spec-i-pt", profile="extended")
+def each_length_of_a_list_with_spec_i_pt():
+    """Only a list of whole TransportIDs is accepted, with up to eight of them (SPC-4, 6.16.3)
+
+    TRANSPORTID PARAMETER DATA LENGTH is right first. Then it is that of three TransportIDs, whatever
+    PARAMETER LIST LENGTH is.
+    """
+    names = b"".join(map(transport_id, (4, 2, 7, 2, 1, 4, 4, 0, 3, 5)))
+    yield from POWER_ON_TAKEN
+    for length in range(len(names)):
+        yield register_together(6, B, names[:length])
+        if length % 24 == 0 and length <= 8 * 24:
+            yield from (reserve_in(6, 3), reserve_out(6, "CLEAR", B))
+    for listed in range(28 + 3 * 24 + 1):
+        yield register_together(6, C, names[:3 * 24], listed)
+    yield reserve_in(6, 3)

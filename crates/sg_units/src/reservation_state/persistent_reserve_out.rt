@@ -21,8 +21,8 @@ impl ReservationState {
     ) -> Result<ReservationChange, OutFault>
         ensures { result ≡ outcome rules self.now caller action scope_type list.now }
     {
-        if has_unsupported_flag(list, action) {
-            return Err(OutFault::Field(OutList::FLAGS_AT as u8));
+        if has_unsupported_flag(rules, list, action) {
+            return Err(OutFault::Field(OutList::FLAGS_AT as u16));
         }
         if !self.accepts_key(caller, action, list.reservation_key) {
             return Err(OutFault::Conflict);
@@ -57,32 +57,32 @@ impl ReservationState {
         kind: Option<ReservationType>,
         list: &OutList,
     ) -> Result<ReservationChange, OutFault>
-        ensures { result ≡ action_outcome rules self.now caller action kind
-            list.now.service_action_key list.now.aptpl }
+        ensures { result ≡ action_outcome rules self.now caller action kind list.now }
     {
-        let service_action_key = list.service_action_key;
         match action {
+            OutAction::Register if list.spec_i_pt => self.register_together(caller, list),
             OutAction::Register | OutAction::RegisterAndIgnoreExistingKey => {
-                self.register(caller, service_action_key, list.aptpl)
+                self.register(caller, list)
             }
             OutAction::Reserve => { self.reserve(caller, kind.ok_or(OutFault::BadType)?) }
             OutAction::Release => self.release(rules, caller, kind),
             OutAction::Clear => Ok(self.clear()),
             // No command is there to abort: each has ended before the next begins.
             OutAction::Preempt | OutAction::PreemptAndAbort => {
-                self.preempt(rules, caller, kind, service_action_key)
+                self.preempt(rules, caller, kind, list.service_action_key)
             }
         }
     }
 }
 
 /// Returns `true` if a flag is set that is not supported with a service action.
-fn has_unsupported_flag(list: &OutList, action: OutAction) -> bool
-    ensures { result ≡ has_unsupported_flag action list.now }
+fn has_unsupported_flag(rules: Rules, list: &OutList, action: OutAction) -> bool
+    ensures { result ≡ has_unsupported_flag rules action list.now }
 {
     match action {
-        OutAction::Register | OutAction::RegisterAndIgnoreExistingKey => {
-            list.spec_i_pt || list.all_tg_pt
+        OutAction::Register => !rules.specifies_ports && (list.spec_i_pt || list.all_tg_pt),
+        OutAction::RegisterAndIgnoreExistingKey => {
+            list.spec_i_pt || !rules.specifies_ports && list.all_tg_pt
         }
         OutAction::Reserve
         | OutAction::Release

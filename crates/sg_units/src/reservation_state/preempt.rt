@@ -25,7 +25,7 @@ impl ReservationState {
             first_case (preempt_cases rules self.now caller kind service_action_key) }
     {
         if self.needs_some_key(rules) && service_action_key == 0 {
-            return Err(OutFault::Field(OutList::SERVICE_ACTION_KEY_AT as u8));
+            return Err(OutFault::Field(OutList::SERVICE_ACTION_KEY_AT as u16));
         }
         let mut registrations = self.registrations.copied();
         if self.is_key_of_holder(service_action_key) {

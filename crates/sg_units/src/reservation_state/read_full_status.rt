@@ -1,9 +1,9 @@
-// READ FULL STATUS (SPC-4, 6.15.5). Initiators have the names of SAS ports.
+// READ FULL STATUS (SPC-4, 6.15.5).
 ghost use Rattle.std.specs.Prelude.{◌≡◌, ◌≤◌, length};
 ghost use Rattle.std.specs.List.{flat_map};
 ghost use Rattle.sg_wire.specs.Cut.{Puts};
 ghost use Rattle.sg_units.specs.FullStatus.{full_status_data, full_status_descriptor};
-ghost use Rattle.sg_units.specs.FullStatus.{held_type, holder_flag, longest_reserve_in, sas_address};
+ghost use Rattle.sg_units.specs.FullStatus.{held_type, holder_flag, longest_reserve_in, ports_flag};
 
 use super::ReservationState;
 use super::persistent_reserve_in::header;
@@ -11,12 +11,10 @@ use crate::registrations::MAX_REGISTRATIONS;
 use crate::{Registration, Reservation};
 use byteorder::{BigEndian, ByteOrder};
 use sg_wire::laws::parts_are_put_in_turn;
-use sg_wire::{Cut, Initiator};
+use sg_wire::{Cut, Initiator, TransportIds, transport_id};
 
-// Lengths in bytes: of a full status descriptor, and of the TransportID that it ends with.
+/// The length of a full status descriptor, in bytes. It ends with a TransportID.
 const FULL_STATUS_LENGTH: usize = 48;
-
-const TRANSPORT_ID_LENGTH: u32 = 24;
 
 /// The length of the longest data of PERSISTENT RESERVE IN, in bytes: READ FULL STATUS with all
 /// registrations that there is room for.
@@ -25,11 +23,11 @@ pub const LONGEST_RESERVE_IN_DATA: usize = 8 + FULL_STATUS_LENGTH * MAX_REGISTRA
 /// RELATIVE TARGET PORT IDENTIFIER of the one port of the disk.
 const RELATIVE_TARGET_PORT: u16 = 1;
 
-/// PROTOCOL IDENTIFIER of a SAS initiator port, with FORMAT CODE 0h.
-const SAS: u8 = 0x06;
+/// ALL_TG_PT: the registration is for every target port.
+const ALL_TG_PT: u8 = 0x02;
 
-/// The locally assigned SAS ADDRESS of initiator 0.
-const FIRST_SAS_ADDRESS: u64 = 0x3000_0000_0000_0100;
+/// Where the TransportID is in a descriptor.
+const TRANSPORT_ID_AT: usize = 24;
 
 impl ReservationState {
     pub(crate) fn read_full_status(&self, cut: &mut Cut)
@@ -72,13 +70,19 @@ fn full_status_descriptor(
     let initiator = registration.initiator;
     let mut bytes = [0; FULL_STATUS_LENGTH];
     BigEndian::write_u64(&mut bytes, registration.key);
-    bytes[12] = holder_flag(reservation, initiator);
+    bytes[12] = ports_flag(registration) + holder_flag(reservation, initiator);
     bytes[13] = held_type(reservation, initiator);
     BigEndian::write_u16(&mut bytes[18..], RELATIVE_TARGET_PORT);
-    BigEndian::write_u32(&mut bytes[20..], TRANSPORT_ID_LENGTH);
-    bytes[24] = SAS;
-    BigEndian::write_u64(&mut bytes[28..], sas_address(initiator));
+    BigEndian::write_u32(&mut bytes[20..], TransportIds::LENGTH as u32);
+    bytes[TRANSPORT_ID_AT..].copy_from_slice(&transport_id(initiator));
     bytes
+}
+
+/// ALL_TG_PT, beside R_HOLDER.
+fn ports_flag(registration: &Registration) -> u8
+    ensures { result ≡ ports_flag registration.now.all_tg_pt }
+{
+    if registration.all_tg_pt { ALL_TG_PT } else { 0 }
 }
 
 /// R_HOLDER.
@@ -99,10 +103,4 @@ fn held_type(reservation: &Option<Reservation>, registrant: Initiator) -> u8
         Some(reservation) if reservation.is_held_by(registrant) => reservation.kind.code(),
         _ => 0,
     }
-}
-
-fn sas_address(initiator: Initiator) -> u64
-    ensures { result ≡ sas_address initiator }
-{
-    FIRST_SAS_ADDRESS + u64::from(initiator.number())
 }

@@ -2,14 +2,14 @@
 // The check comes before.
 ghost use Rattle.std.specs.Prelude.{◌≡◌};
 ghost use Rattle.sg_units.specs.ReserveOut.{first_case, register_cases, registering};
-ghost use Rattle.sg_units.specs.ReserveOut.{released_unless_held};
+ghost use Rattle.sg_units.specs.ReserveOut.{registration_by, released_unless_held};
 ghost use Rattle.sg_units.specs.Registrations.{without_initiator};
 ghost use Rattle.sg_units.specs.Reservations.{while_held};
 
 use super::ReservationState;
 use crate::registrations::Registrations;
 use crate::reservation_change::ReservationChange;
-use crate::{OutFault, Reservation, UnitAttention};
+use crate::{OutFault, OutList, Registration, Reservation, UnitAttention};
 use sg_wire::Initiator;
 
 impl ReservationState {
@@ -19,30 +19,27 @@ impl ReservationState {
     pub(super) fn register(
         &self,
         caller: Initiator,
-        service_action_key: u64,
-        aptpl: bool,
+        list: &OutList,
     ) -> Result<ReservationChange, OutFault>
-        ensures { result ≡
-            first_case (register_cases self.now caller service_action_key aptpl) }
+        ensures { result ≡ first_case (register_cases self.now caller list.now) }
     {
+        let own = registration_by(list, caller);
         if self.registrations.has(caller) {
-            if service_action_key == 0 {
-                return Ok(self.unregistered(caller, aptpl));
+            if own.key == 0 {
+                return Ok(self.unregistered(caller, list.aptpl));
             }
-            let replaced = self
-                .registrations
-                .with_key_replaced(caller, service_action_key);
-            return Ok(self.registering(replaced, aptpl));
+            let replaced = self.registrations.with_replaced(&own);
+            return Ok(self.registering(replaced, list.aptpl));
         }
-        if service_action_key == 0 {
+        if own.key == 0 {
             return Ok(self.unchanged());
         }
         if self.registrations.is_full() {
             return Err(OutFault::NoRoom);
         }
         let mut registrations = self.registrations.copied();
-        registrations.register(caller, service_action_key);
-        Ok(self.registering(registrations, aptpl))
+        registrations.register(own);
+        Ok(self.registering(registrations, list.aptpl))
     }
 
     /// An initiator is unregistered. The reservation ends if no registrant holds it any more.
@@ -74,5 +71,16 @@ impl ReservationState {
             }
             _ => None,
         }
+    }
+}
+
+/// The registration of an initiator that a parameter list asks for.
+pub(super) fn registration_by(list: &OutList, initiator: Initiator) -> Registration
+    ensures { result ≡ registration_by list.now initiator }
+{
+    Registration {
+        initiator,
+        key: list.service_action_key,
+        all_tg_pt: list.all_tg_pt,
     }
 }

@@ -9,4 +9,4 @@ returns-clause-bytes c = search rules
 pub returns-clause-reads_back : goal.returns-clause-reads_back
 returns-clause-reads_back c =
     ap out_list (returns-clause-bytes c)
-    ∙ reads_back-out_list c.args.self (search rules) (search rules)
+    ∙ reads_back-out_list c.args.self.now c.list_bytes.ensures.key c.list_bytes.ensures.action_key
