@@ -117,7 +117,7 @@ class Device:
         if blocked and self.comes_before_a_conflict(self.attentions[initiator][0]):  # 2
             raise CheckCondition(sense.UNIT_ATTENTION, self.attentions[initiator].pop(0))
         is_known = cdb[0] in OPERATION_CODES[self.profile]
-        layout = layout_of(cdb) if is_known else None
+        layout = layout_of(cdb, self.profile) if is_known else None
         if layout and not self.reservations.allow(initiator, class_of(cdb, layout)):  # 3
             raise reservations.Conflict
         if blocked:  # 4

@@ -106,13 +106,16 @@ OF_EXTENDED = {0x04, 0x1B, 0x1D, 0x2E, 0x2F, 0x34, 0x37, 0x3F, 0x48, 0x4D, 0x89,
 # Fields that only a disk of the extended profile knows. A base disk refuses their bits.
 FIELDS_OF_EXTENDED = {("WRITE SAME(16)", "ndob")}
 
+# Service actions that only a disk of the extended profile knows, of an operation code that both know.
+ACTIONS_OF_EXTENDED = {(0x5F, 0x07)}
+
 # These two have a name for each service action, from 00h on.
 SERVICE_ACTIONS = {
     "PERSISTENT RESERVE IN": (
         "READ KEYS", "READ RESERVATION", "REPORT CAPABILITIES", "READ FULL STATUS"),
     "PERSISTENT RESERVE OUT": (
         "REGISTER", "RESERVE", "RELEASE", "CLEAR", "PREEMPT", "PREEMPT AND ABORT",
-        "REGISTER AND IGNORE EXISTING KEY"),
+        "REGISTER AND IGNORE EXISTING KEY", "REGISTER AND MOVE"),
 }
 
 # The length of a CDB by the group code, bits 7 to 5 of the operation code (SPC-4, OPERATION CODE).
@@ -195,16 +198,19 @@ def read_table():
 
 
 LAYOUTS = read_table()
-OPERATION_CODES = {"extended": {code for code, _ in LAYOUTS}}  # that a disk of a profile knows
-OPERATION_CODES["base"] = OPERATION_CODES["extended"] - OF_EXTENDED
+LAYOUTS_OF = {"extended": LAYOUTS}  # that a disk of a profile knows
+LAYOUTS_OF["base"] = {
+    (code, action): layout for (code, action), layout in LAYOUTS.items()
+    if code not in OF_EXTENDED and (code, action) not in ACTIONS_OF_EXTENDED}
+OPERATION_CODES = {profile: {code for code, _ in its} for profile, its in LAYOUTS_OF.items()}
 CODES_WITH_ACTIONS = {code for code, action in LAYOUTS if action is not None}
 
 
-def layout_of(cdb):
+def layout_of(cdb, profile):
     """The layout of a CDB with a known operation code; None if its service action is unknown."""
     if cdb[0] not in CODES_WITH_ACTIONS:
         return LAYOUTS[cdb[0], None]
-    return LAYOUTS.get((cdb[0], cdb[1] & 0x1F if len(cdb) > 1 else 0))
+    return LAYOUTS_OF[profile].get((cdb[0], cdb[1] & 0x1F if len(cdb) > 1 else 0))
 
 
 def class_of(cdb, layout):

@@ -6,11 +6,12 @@ and then a bit is turned. So most states of a small disk come up within some hun
 
 import random
 
-from device import PROFILES
-from layouts import LAYOUTS, OPERATION_CODES
+from device import PROFILES, Device
+from layouts import LAYOUTS_OF
 from modes import CHANGEABLE, DEFAULT
 from random_words import attention_words, fault_words, show_line, tool_line
-from reservations import ALL_TG_PT, SPEC_I_PT, TYPES, transport_id
+from reservations import ALL_TG_PT, SPEC_I_PT, TYPES, UNREG, transport_id
+from script import Run
 
 INITIATORS = (0, 0, 0, 0, 1, 1, 1, 2, 2, 3, 4, 5, 6, 7)
 # Some commands are more frequent in a script: of reservations, mode pages, provisioning, blocks,
@@ -31,6 +32,10 @@ THEMES = (
      *2 * ("REPORT SUPPORTED OPERATION CODES",), "REPORT SUPPORTED TASK MANAGEMENT FUNCTIONS",
      "REPORT TARGET PORT GROUPS"),
     (),
+)
+# Of an extended disk, too: moves of a reservation, with few lines that end it.
+THEMES_OF_EXTENDED = (
+    (*4 * ("REGISTER AND MOVE", "REGISTER"), *2 * ("RESERVE", "READ FULL STATUS")),
 )
 OFTEN = 6
 TOOL_LINES = ("sg_inq", "sg_inq -l 5", "sg_vpd -p di", "sg_vpd -p bl", "sg_modes", "sg_modes -c 3",
@@ -60,13 +65,23 @@ class Script:
         self.pool = self.random.choice((1, 4, 9))
         self.type = self.random.choice(TYPES)  # most RESERVE, RELEASE and PREEMPT name it
         self.bad = 0  # where the blocks of the last fault begin, or of the last WRITE LONG
-        theme = self.random.choice(THEMES)
+        self.run, self.key = Run(Device(self.blocks, self.pool, profile)), None
+        theme = self.random.choice(
+            THEMES if self.profile == "base" else THEMES + THEMES_OF_EXTENDED)
         self.layouts = [
-            it for it in LAYOUTS.items() if it[0][0] in OPERATION_CODES[self.profile]
+            it for it in LAYOUTS_OF[self.profile].items()
             for _ in range(1 + OFTEN * theme.count(it[1].name))]
 
     def text(self, lines):
-        return "".join(self.line() + "\n" for _ in range(lines))
+        return "".join(self.executed(self.line()) + "\n" for _ in range(lines))
+
+    def executed(self, line):
+        """A line that the model of an extended disk has executed. So later lines know who holds the
+        reservation: only the holder can move it."""
+        if self.profile == "extended":
+            self.run.line(0, line.encode())
+            self.run.printed.clear()
+        return line
 
     def line(self):
         if self.profile == "extended":
@@ -85,8 +100,24 @@ class Script:
             return show_line(self.random, self.profile)
         if place < 0.25:
             return f"fill {initiator} {self.address()} {self.small()} {self.small()}"
-        cdb, data_out = self.command()
+        (code, action), layout = self.random.choice(self.layouts)
+        initiator = self.sender(initiator, layout.name)
+        cdb, data_out = self.command(code, action, layout)
         return f"raw {initiator} {cdb.hex() or '-'} {data_out.hex() or '-'}"
+
+    def sender(self, initiator, command):
+        """Who sends a command. A registrant mostly reserves an extended disk, and the holder moves the
+        reservation, each with its own key."""
+        state, self.key = self.run.device.reservations, None
+        fitting = {
+            "REGISTER": [initiator],
+            "RESERVE": [*state.keys],
+            "REGISTER AND MOVE": [it for it in state.keys if it == state.taker],
+        }.get(command)
+        if self.profile == "extended" and fitting and not self.is_rare(0.15):
+            initiator = self.random.choice(fitting)
+            self.key = state.keys.get(initiator, 0)
+        return initiator
 
     def usual_tool_line(self):
         """A tool whose words are valid, if its address and count are."""
@@ -148,9 +179,8 @@ class Script:
             self.capacity = asked
         return asked
 
-    def command(self):
-        """A CDB with data-out, of any layout, rarely with a wrong bit or too short."""
-        (code, action), layout = self.random.choice(self.layouts)
+    def command(self, code, action, layout):
+        """A CDB with data-out, rarely with a wrong bit or too short."""
         values = {name: self.value(name, layout.name) for name in layout.fields}
         if layout.name == "WRITE LONG(10)":
             self.bad = values["address"]
@@ -260,18 +290,28 @@ class Script:
         """The list of PERSISTENT RESERVE OUT: most keys are 0 or 1, so many are the right ones."""
         key, action_key = self.random.choice((0, 1, 1, 1)), self.random.choice((0, 1, 1, 1, 2))
         flags = self.random.randrange(256) if self.is_rare(0.03) else self.random.choice((0, 1))
+        key = key if self.key is None or self.is_rare(0.1) else self.key
         more = b""
         if self.profile == "extended":
             flags |= ALL_TG_PT if self.is_rare(0.2) else 0
             if self.is_rare(0.2 if command == "REGISTER" else 0.02):
                 flags |= SPEC_I_PT
                 key, more = self.random.choice((0, 0, 0, 1)), self.transport_ids()
-        return (key.to_bytes(8, "big") + action_key.to_bytes(8, "big")
-                + bytes([0, 0, 0, 0, flags, 0, 0, 0]) + more)
+        last = bytes([0, 0, 0, 0, flags, 0, 0, 0]) + more
+        if command == "REGISTER AND MOVE":
+            last = self.list_of_move(flags)
+        return key.to_bytes(8, "big") + action_key.to_bytes(8, "big") + last
 
-    def transport_ids(self):
+    def list_of_move(self, flags):
+        """What follows the keys in a list of REGISTER AND MOVE: mostly port 1 and one TransportID."""
+        flags |= UNREG if self.is_rare(0.4) else 0
+        port = self.random.choice((0, 2, 256)) if self.is_rare(0.05) else 1
+        named = self.transport_ids((0, *20 * (1,), 2))
+        return bytes([0, flags]) + port.to_bytes(2, "big") + named
+
+    def transport_ids(self, counts=(0, 1, 1, 1, 2, 2, 3, 5, 8, 9)):
         """TransportIDs after their length, now and then with a wrong bit, cut or with a wrong length."""
-        count = self.random.choice((0, 1, 1, 1, 2, 2, 3, 5, 8, 9))
+        count = self.random.choice(counts)
         named = self.random.choices(INITIATORS, k=count)
         data = bytearray(b"".join(map(transport_id, named)))
         if data and self.is_rare(0.25):

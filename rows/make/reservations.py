@@ -1,6 +1,7 @@
 """Persistent reservations: PERSISTENT RESERVE IN and OUT (SPC-4, 5.13, 6.15 and 6.16)."""
 
 from blocks import need_data_out
+from pages import RELATIVE_TARGET_PORT
 from sense import (
     ILLEGAL_REQUEST,
     INSUFFICIENT_REGISTRATION_RESOURCES,
@@ -9,6 +10,7 @@ from sense import (
     RESERVATIONS_PREEMPTED,
     RESERVATIONS_RELEASED,
     CheckCondition,
+    invalid_field_in_cdb,
     invalid_field_in_parameter_list,
     parameter_list_length_error,
 )
@@ -35,6 +37,10 @@ NEED_TYPE = {"base": ("RESERVE", "RELEASE"), "extended": ("RESERVE",)}
 # SPC-4, 6.15.4: none is told, or what a reservation of another initiator allows (011b)
 ALLOW_COMMANDS = {"base": 0, "extended": 3}
 SPEC_I_PT, ALL_TG_PT, APTPL = 0x08, 0x04, 0x01  # of list byte 20
+# In the list of REGISTER AND MOVE (SPC-4, 6.16.4) UNREG and APTPL are bits of byte 17. RELATIVE TARGET
+# PORT IDENTIFIER, TRANSPORTID PARAMETER DATA LENGTH and the TransportID follow.
+UNREG, MOVE_FLAGS_AT = 0x02, 17
+MOVE_PORT_AT, MOVE_LENGTH_AT, MOVE_TRANSPORT_ID_AT = 18, 20, 24
 # The flags that the service actions that register refuse. The other service actions refuse SPEC_I_PT.
 REFUSED_FLAGS = {
     "base": {"REGISTER": SPEC_I_PT | ALL_TG_PT,
@@ -154,16 +160,20 @@ def full_status_descriptor(state, registrant):
     """ALL_TG_PT and R_HOLDER are bits of one byte."""
     holds = registrant in state.holders()
     flags = (0x02 if state.of_all_ports[registrant] else 0) | (0x01 if holds else 0)
-    port, name = 1, transport_id(registrant)
+    name = transport_id(registrant)
     return (state.keys[registrant].to_bytes(8, "big") + bytes(4)
             + bytes([flags, state.type if holds else 0]) + bytes(4)
-            + port.to_bytes(2, "big") + len(name).to_bytes(4, "big") + name)
+            + RELATIVE_TARGET_PORT.to_bytes(2, "big") + len(name).to_bytes(4, "big") + name)
 
 
 def transport_id(initiator):
     """The TransportID of a SAS initiator port (SPC-4, 7.6.4)"""
     address = 0x30 << 56 | 0x0100 | initiator
     return bytes([0x06, 0, 0, 0]) + address.to_bytes(8, "big") + bytes(12)
+
+
+# The initiators by their TransportIDs. One with a reserved bit that is set names nobody.
+NAMED_BY = {transport_id(initiator): initiator for initiator in INITIATORS}
 
 
 # ------------------------------------------------------------------------- PERSISTENT RESERVE OUT
@@ -177,10 +187,11 @@ class Request:
         self.state = device.reservations
         self.key = int.from_bytes(parameters[0:8], "big")
         self.action_key = int.from_bytes(parameters[8:16], "big")
+        self.parameters = bytes(parameters)
         self.spec_i_pt = bool(parameters[20] & SPEC_I_PT)
         self.all_tg_pt = bool(parameters[20] & ALL_TG_PT)
         self.aptpl = bool(parameters[20] & APTPL)
-        self.transport_ids = parameters[TRANSPORT_IDS_AT:]
+        self.transport_ids = self.parameters[TRANSPORT_IDS_AT:]
         self.registered_before = list(self.state.keys)
 
     def notify(self, initiators, code):
@@ -199,9 +210,11 @@ def persistent_reserve_out(device, caller, command, data_out):
     if command.name in NEED_TYPE[device.profile]:
         check_scope_and_type(command)
     parameters = need_data_out(device, data_out, command["list_length"])
-    check_length(device, command, parameters)
-    if parameters[20] & REFUSED_FLAGS[device.profile].get(command.name, SPEC_I_PT):
-        raise invalid_field_in_parameter_list(20)
+    if command.name == "REGISTER AND MOVE":
+        check_length_of_move(parameters)
+    else:
+        check_length(device, command, parameters)
+        check_flags(device, command, parameters)
     request = Request(device, caller, command, parameters)
     check_key(request)
     ACTIONS[command.name](request)
@@ -218,6 +231,19 @@ def check_length(device, command, parameters):
     else:
         fits = command.name != "REGISTER" or has_whole_transport_ids(parameters)
     if not fits:
+        raise parameter_list_length_error()
+
+
+def check_flags(device, command, parameters):
+    """SPC-4, 6.16.3: flags that the disk does not support, or not with the service action"""
+    if parameters[20] & REFUSED_FLAGS[device.profile].get(command.name, SPEC_I_PT):
+        raise invalid_field_in_parameter_list(20)
+
+
+def check_length_of_move(parameters):
+    """SPC-4, 6.16.4: TRANSPORTID PARAMETER DATA LENGTH counts the bytes after it."""
+    said = int.from_bytes(parameters[MOVE_LENGTH_AT:MOVE_TRANSPORT_ID_AT], "big")
+    if len(parameters) != MOVE_TRANSPORT_ID_AT + said:
         raise parameter_list_length_error()
 
 
@@ -287,14 +313,47 @@ def register_together(request):
 
 
 def named_initiators(transport_ids):
-    """The initiators that TransportIDs name, in their order (SPC-4, 7.6.4). A reserved bit that is set
-    is an error, too."""
-    names = {transport_id(initiator): initiator for initiator in INITIATORS}
+    """The initiators that TransportIDs name, in their order (SPC-4, 7.6.4)."""
     for at in range(0, len(transport_ids), TRANSPORT_ID_LENGTH):
-        name = bytes(transport_ids[at:at + TRANSPORT_ID_LENGTH])
-        if name not in names:
+        name = transport_ids[at:at + TRANSPORT_ID_LENGTH]
+        if name not in NAMED_BY:
             raise invalid_field_in_parameter_list(TRANSPORT_IDS_AT + at)
-        yield names[name]
+        yield NAMED_BY[name]
+
+
+def register_and_move(request):
+    """SPC-4, 5.13 (registering and moving the reservation) and 6.16.4. SCOPE and TYPE do not matter. No
+    initiator gets a unit attention."""
+    state, caller = request.state, request.caller
+    if state.type is None:
+        raise invalid_field_in_cdb(1)
+    if state.type in ALL_REGISTRANTS or state.taker != caller:
+        raise Conflict
+    flags, named = request.parameters[MOVE_FLAGS_AT], destination(request)
+    left = [who for who in state.keys if who != caller or not flags & UNREG]
+    if named not in state.keys and len(left) == MOST_REGISTRANTS:
+        raise CheckCondition(ILLEGAL_REQUEST, INSUFFICIENT_REGISTRATION_RESOURCES)
+    if flags & UNREG:
+        del state.keys[caller]
+    state.register(named, request.action_key, all_tg_pt=False)
+    state.take(named, state.type)
+    state.aptpl = bool(flags & APTPL)
+    state.count_change()
+
+
+def destination(request):
+    """The initiator to which a list moves the reservation (SPC-4, 6.16.4), after the faults of the list"""
+    port = int.from_bytes(request.parameters[MOVE_PORT_AT:MOVE_LENGTH_AT], "big")
+    name = request.parameters[MOVE_TRANSPORT_ID_AT:]
+    if request.action_key == 0:
+        raise invalid_field_in_parameter_list(8)
+    if port != RELATIVE_TARGET_PORT:
+        raise invalid_field_in_parameter_list(MOVE_PORT_AT)
+    if not name:
+        raise invalid_field_in_parameter_list(MOVE_LENGTH_AT)
+    if NAMED_BY.get(name, request.caller) == request.caller:
+        raise invalid_field_in_parameter_list(MOVE_TRANSPORT_ID_AT)
+    return NAMED_BY[name]
 
 
 def reserve(request):
@@ -370,4 +429,5 @@ ACTIONS = {
     "PREEMPT": preempt,
     "PREEMPT AND ABORT": preempt,
     "REGISTER AND IGNORE EXISTING KEY": register,
+    "REGISTER AND MOVE": register_and_move,
 }

@@ -1,11 +1,12 @@
 """Rows of PERSISTENT RESERVE OUT (SPC-4, 5.13 and 6.16)."""
 
-from itertools import cycle
+from itertools import cycle, product
 
-from reservations import SPEC_I_PT, transport_id
+from reservations import SPEC_I_PT, UNREG, transport_id
 from rows_of import row
 from rows_of.lines import POWER_ON_TAKEN, raw, test_unit_ready
-from rows_of.tour import ACTIONS, SECTIONS, Tour, A, B, C, F, reserve_in, reserve_out
+from rows_of.tour import (
+    ACTIONS, ACTIONS_OF_BOTH, SECTIONS, Tour, A, B, C, F, reserve_in, reserve_out)
 
 REGISTRANTS = [(0, A), (1, B), (2, C), (3, C)]
 # The sender, and the keys that it sends, its own first. 3 does as 2, and 4 is not registered.
@@ -210,7 +211,7 @@ def each_flag():
     """
     yield from POWER_ON_TAKEN
     yield reserve_out(0, "REGISTER", 0, A)
-    for number, action in enumerate(ACTIONS):
+    for number, action in enumerate(ACTIONS_OF_BOTH):
         yield f"# service action {number}"
         for flags in (*(1 << bit for bit in range(8)), 0xFF, 0xF2, 0x0D, 0x05, 0x09):
             yield reserve_out(2, action, 0, 0, 0x01, flags)
@@ -275,3 +276,70 @@ def each_length_of_a_list_with_spec_i_pt():
     for listed in range(28 + 3 * 24 + 1):
         yield register_together(6, C, names[:3 * 24], listed)
     yield reserve_in(6, 3)
+
+
+# ------------------------------------------------------- REGISTER AND MOVE, which an extended disk has
+
+
+def list_of_move(key, action_key, names, flags=0):
+    """The list of REGISTER AND MOVE to the one target port (SPC-4, 6.16.4)"""
+    return (key.to_bytes(8, "big") + action_key.to_bytes(8, "big") + bytes([0, flags, 0, 1])
+            + len(names).to_bytes(4, "big") + names)
+
+
+def move(caller, data, listed=None):
+    """REGISTER AND MOVE. PARAMETER LIST LENGTH is the length of the list, unless it is given."""
+    length = len(data) if listed is None else listed
+    cdb = bytes([0x5F, ACTIONS.index("REGISTER AND MOVE"), 0, 0, 0]) + length.to_bytes(4, "big") + b"\0"
+    return raw(caller, cdb, data)
+
+
+@row("persistent-reserve-out/register-and-move-under-each-type", profile="extended")
+def register_and_move():
+    """Each initiator moves the reservation to each kind of initiator, under each type (SPC-4, 5.13)
+
+    1 is a registrant, 3 is one that shares its key, and 5 is not registered. 0 is the holder, unless
+    each registrant is.
+    """
+    tour = Tour(REGISTRANTS, range(6), "extended")
+    for held_type in SECTIONS:
+        tour.section(held_type)
+        for caller, keys in KEYS.items():
+            for key in keys[1:]:
+                tour.attempt(move(caller, list_of_move(key, F, transport_id(5))))
+            for named, action_key, flags in product((1, 3, 5, 0), (A, C, F, 0), (0, UNREG)):
+                data = list_of_move(keys[0], action_key, transport_id(named), flags)
+                tour.attempt(move(caller, data))
+    return tour.lines
+
+
+@row("persistent-reserve-out/each-length-of-a-list-of-register-and-move", profile="extended")
+def each_length_of_a_list_of_register_and_move():
+    """Only a list with one whole TransportID is accepted (SPC-4, 6.16.4)
+
+    TRANSPORTID PARAMETER DATA LENGTH is right first. Then it is that of one TransportID, whatever
+    PARAMETER LIST LENGTH is.
+    """
+    names = b"".join(map(transport_id, (4, 2, 7, 2, 1, 4, 4, 0, 3, 5)))
+    tour = Tour([(6, A)], (4, 6), "extended")
+    tour.hold(0x3)
+    for length in range(len(names) + 1):
+        tour.attempt(move(6, list_of_move(A, B, names[:length])))
+    for listed in range(24 + 3 * 24 + 1):
+        tour.attempt(move(6, list_of_move(A, B, names[:24]) + names[24:3 * 24], listed))
+    tour.observe()
+    return tour.lines
+
+
+@row("persistent-reserve-out/each-bit-of-a-list-of-register-and-move", profile="extended")
+def each_bit_of_a_list_of_register_and_move():
+    """Each bit of a list is turned: a fault, another key or initiator, a flag, or ignored (SPC-4, 6.16.4)"""
+    data = list_of_move(A, B, transport_id(4))
+    tour = Tour([(6, A)], range(8), "extended")
+    tour.hold(0x1)
+    for bit in range(8 * len(data)):
+        other = bytearray(data)
+        other[bit // 8] ^= 0x80 >> bit % 8
+        tour.attempt(move(6, bytes(other)))
+    tour.observe()
+    return tour.lines

@@ -5,9 +5,9 @@ from words import hex_bytes
 
 
 class Session:
-    def __init__(self):
+    def __init__(self, profile="base"):
         self.lines = []
-        self.device = Device(4096, 4)
+        self.device = Device(4096, 4, profile)
 
     def send(self, *lines):
         """Adds lines of `raw` to the script, and returns the reply to the last one."""

@@ -20,6 +20,7 @@ SECTIONS = {
     0x8: "exclusive access, all registrants",
 }
 ACTIONS = SERVICE_ACTIONS["PERSISTENT RESERVE OUT"]
+ACTIONS_OF_BOTH = ACTIONS[:7]  # that disks of both profiles have
 
 
 def reserve_out(initiator, action, key=0, action_key=0, scope_and_type=0, flags=0):
@@ -35,9 +36,9 @@ def reserve_in(initiator, action, length=0x100):
 
 
 class Tour(Session):
-    def __init__(self, registrants, watched):
+    def __init__(self, registrants, watched, profile="base"):
         """`registrants` are pairs of initiator and key; those `watched` show unit attentions."""
-        super().__init__()
+        super().__init__(profile)
         self.registrants, self.watched = registrants, watched
         self.is_set_up = self.is_observed = True
         self.send(*POWER_ON_TAKEN)
@@ -78,10 +79,14 @@ class Tour(Session):
 
     def command(self, *parameters):
         """Sends a PERSISTENT RESERVE OUT in the state that was set up, and shows its change."""
+        self.attempt(reserve_out(*parameters))
+
+    def attempt(self, line):
+        """Does the same with a line."""
         if not self.is_set_up:
             self.set_up()
         generation = self.device.reservations.generation
-        self.send(reserve_out(*parameters))
+        self.send(line)
         self.is_observed = False
         if self.state() != self.set_up_state or self.device.reservations.generation != generation:
             self.observe()
