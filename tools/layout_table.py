@@ -83,8 +83,10 @@ class Row(NamedTuple):
     profile: str
     opcode: int
     # The service action, or the names and numbers of all of them. Then SERVICE ACTION is the first field.
+    # Some of them may be of an extended disk only, though the operation code is of both.
     action: Optional[int]
     actions: Dict[str, int]
+    of_extended: List[str]
     fields: List[Field]
     # Free bits: the disk knows the used ones, and does not look at the ignored ones.
     used: List[Field]
@@ -233,14 +235,14 @@ def profile_page() -> str:
     return (TOP / "docs/PROFILE.md").read_text(encoding="utf-8")
 
 
-def titles() -> Dict[Tuple[int, Optional[int]], Tuple[str, str]]:
-    """The titles of commands and their sections, by operation code and service action."""
-    found: Dict[Tuple[int, Optional[int]], Tuple[str, str]] = {}
+def titles() -> Dict[Tuple[int, Optional[int]], Tuple[str, str, str]]:
+    """The titles of commands, their sections and disks, by operation code and service action."""
+    found: Dict[Tuple[int, Optional[int]], Tuple[str, str, str]] = {}
     table = re.findall(r"(?m)^\| (\w\w)h(?:, actions? (\w\w)h(?: to (\w\w)h)?)? \| ([^|]+) \| \d+ \| "
-                       r"([^|]+) \|", profile_page())
-    for opcode, first, last, title, section in table:
+                       r"([^|]+) \| (both|extended) \|", profile_page())
+    for opcode, first, last, title, section, disks in table:
         for action in range(int(first, 16), int(last or first, 16) + 1) if first else [None]:
-            found[int(opcode, 16), action] = title, section
+            found[int(opcode, 16), action] = title, section, disks
     return found
 
 
@@ -336,14 +338,17 @@ def rows() -> List[Row]:
         codes = [(opcode, it) for it in numbers or [action]]
         if any(it not in named for it in codes):
             raise ValueError(f"docs/PROFILE.md lacks a command with operation code {opcode:02X}h")
-        (title, section), *_ = [named.pop(it) for it in codes]
+        in_profile = [named.pop(it) for it in codes]
+        title, section, _ = in_profile[0]
+        of_extended = [it for it, (_, _, disks) in zip(actions, in_profile) if disks == "extended"]
         family = family_of(title)
         here = labelled[title if title in labelled else family]
         fields = fields_at([it["place"] for it in value["fields"]], here)
         if actions:
             fields.insert(0, Field("SERVICE ACTION", 1, 1, 4, 0))
         found.append(Row(title, section, data_out[family], value["profile"].name.lower(), opcode, action,
-                         actions, fields, free_fields(free, "used"), free_fields(free, "ignored")))
+                         actions, of_extended, fields, free_fields(free, "used"),
+                         free_fields(free, "ignored")))
     if named:
         raise ValueError(f"docs/PROFILE.md has commands that the table lacks: {named}")
     return found

@@ -133,6 +133,8 @@ BY_HAND = [
     (commands.persistent_reserve_in(ReserveIn.READ_FULL_STATUS), "5e 03 00 00 00 00 00 ff ff 00"),
     (commands.persistent_reserve_out(ReserveOut.PREEMPT, type=ReservationType.WRITE_EXCLUSIVE,
                                      parameter_list_length=24), "5f 04 01 00 00 00 00 00 18 00"),
+    (commands.persistent_reserve_out(ReserveOut.REGISTER_AND_MOVE, parameter_list_length=48),
+     "5f 07 00 00 00 00 00 00 30 00"),
     (commands.report_luns(select_report=2, allocation_length=16), "a0 00 02 00 00 00 00 00 00 10 00 00"),
     (commands.start_stop_unit(start=True, immed=True), "1b 01 00 00 01 00"),
     (commands.format_unit(fmtdata=True), "04 10 00 00 00 00"),

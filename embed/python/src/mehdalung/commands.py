@@ -23,6 +23,7 @@ class ReserveOut(IntEnum):
     PREEMPT = 0x04
     PREEMPT_AND_ABORT = 0x05
     REGISTER_AND_IGNORE_EXISTING_KEY = 0x06
+    REGISTER_AND_MOVE = 0x07  # only an extended disk has it
 
 
 def test_unit_ready() -> bytes:

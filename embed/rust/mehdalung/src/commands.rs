@@ -1441,6 +1441,8 @@ pub mod reserve_out {
     pub const PREEMPT_AND_ABORT: u8 = 0x05;
     /// REGISTER AND IGNORE EXISTING KEY.
     pub const REGISTER_AND_IGNORE_EXISTING_KEY: u8 = 0x06;
+    /// REGISTER AND MOVE. Only an extended disk has it.
+    pub const REGISTER_AND_MOVE: u8 = 0x07;
 }
 
 /// PERSISTENT RESERVE OUT, operation code 5Fh (SPC-4, 6.16).

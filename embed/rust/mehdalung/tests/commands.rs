@@ -90,6 +90,7 @@ fn primary_commands_are_as_by_hand() {
             persistent_reserve_out(reserve_out::PREEMPT, 9, 5, 0x0102_0318);
         "5F 06 00 00 00 00 00 00 18 00"
             persistent_reserve_out(reserve_out::REGISTER_AND_IGNORE_EXISTING_KEY, 0, 0, 24);
+        "5F 07 00 00 00 00 00 00 30 00" persistent_reserve_out(reserve_out::REGISTER_AND_MOVE, 0, 0, 48);
     }
 }
 

@@ -129,5 +129,6 @@ pub fn cdbs() -> Vec<Vec<u8>> {
         persistent_reserve_out(4, 0xF, 0xF, u32::MAX).to_vec(),
         persistent_reserve_out(5, 0xF, 0xF, u32::MAX).to_vec(),
         persistent_reserve_out(6, 0xF, 0xF, u32::MAX).to_vec(),
+        persistent_reserve_out(7, 0xF, 0xF, u32::MAX).to_vec(),
     ]
 }
