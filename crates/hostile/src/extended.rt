@@ -1,11 +1,11 @@
 // The CDBs of the commands that only a disk of the extended profile has, as SPC-4, SBC-3 and
 // docs/PROFILE.md give them. WRITE SAME(16) is here, because it has NDOB there.
-use crate::ending::Ending::Good;
+use crate::ending::Ending::{Conflict, Good};
 use crate::table::Row;
 
 /// The commands, in the order of their operation codes. WRITE LONG is left out: it marks a block, and
 /// then other commands end otherwise.
-pub(crate) const EXTENDED_COMMANDS: [Row; 29] = [
+pub(crate) const EXTENDED_COMMANDS: [Row; 30] = [
     Row {
         name: "format unit",
         cdb: &[0x04, 0x10, 0x00, 0x00, 0x00, 0x00],
@@ -82,6 +82,13 @@ pub(crate) const EXTENDED_COMMANDS: [Row; 29] = [
         named: &[0xFF, 0x00, 0xFF, 0xFF, 0x00, 0xFF, 0xFF, 0xFF, 0xFF, 0x00],
         data_out: 0,
         ending: Good,
+    },
+    Row {
+        name: "register and move",
+        cdb: &[0x5F, 0x07, 0x01, 0x00, 0x00, 0x00, 0x00, 0x00, 0x18, 0x00],
+        named: &[0xFF, 0x1F, 0xFF, 0x00, 0x00, 0xFF, 0xFF, 0xFF, 0xFF, 0x00],
+        data_out: 24,
+        ending: Conflict,
     },
     Row {
         name: "compare and write",

@@ -49,7 +49,7 @@ unfolding command_in
 by-ready-row profile [] some code = absurd (omega (arith, some))
 by-ready-row profile (opcode ∷ rest) some code =
     ap (λ code. command_by_rows profile (opcode ∷ rest) (rows_in profile code)) code
-    ∙ ap (command_by_rows profile (opcode ∷ rest)) (rows-same profile TestUnitReady refl)
+    ∙ ap (command_by_rows profile (opcode ∷ rest)) (rows-same profile TestUnitReady refl refl)
 
 pub ready-read : (profile : Profile) (cdb : List ℕ) → 1 ≤ length cdb → get_or cdb 0 0 ≡ 0x00
     → IsDecoded cdb name.TestUnitReady → command_in profile cdb ≡ Ok TestUnitReady
@@ -72,7 +72,7 @@ unfolding command_in
 by-read-row profile [] some code = absurd (omega (arith, some))
 by-read-row profile (opcode ∷ rest) some code =
     ap (λ code. command_by_rows profile (opcode ∷ rest) (rows_in profile code)) code
-    ∙ ap (command_by_rows profile (opcode ∷ rest)) (rows-same profile (Read10 no_blocks_10) refl)
+    ∙ ap (command_by_rows profile (opcode ∷ rest)) (rows-same profile (Read10 no_blocks_10) refl refl)
 
 pub blocks-read : (profile : Profile) (cdb : List ℕ) (extent : Extent10) → 1 ≤ length cdb
     → get_or cdb 0 0 ≡ 0x28 → IsDecoded cdb name.Read10

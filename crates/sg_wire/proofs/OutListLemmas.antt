@@ -17,6 +17,8 @@ list_with key action_key spec_i_pt all_tg_pt aptpl = record {
   spec_i_pt = spec_i_pt;
   all_tg_pt = all_tg_pt;
   aptpl = aptpl;
+  unreg = false;
+  port = 0;
   others = [];
 }
 
@@ -56,7 +58,7 @@ module _ (key action_key : ℕ) (small : key < 2 ^ 64) (also : action_key < 2 ^ 
 
 pub reads_back-out_list : (list : OutList) → list.reservation_key < 2 ^ 64
     → list.service_action_key < 2 ^ 64
-    → out_list (out_list_bytes list) ≡ record list { others = [] }
+    → out_list (out_list_bytes list) ≡ record list { unreg = false; port = 0; others = [] }
 reads_back-out_list list small also =
     by_flags list.reservation_key list.service_action_key small also list.spec_i_pt list.all_tg_pt
     list.aptpl
@@ -64,8 +66,11 @@ reads_back-out_list list small also =
 pub short : (bytes : List ℕ) → length bytes ≤ 28 → named_initiators (drop 28 bytes) ≡ []
 short bytes h = ap named_initiators (drop_all 28 bytes h)
 
-pub whole : (bytes : List ℕ)
-    → named_initiators (take (length bytes - 28) (drop 28 bytes)) ≡ named_initiators (drop 28 bytes)
-whole bytes =
+pub whole : (bytes : List ℕ) (start : ℕ)
+    → named_initiators (take (length bytes - start) (drop start bytes))
+    ≡ named_initiators (drop start bytes)
+whole bytes start =
     ap named_initiators
-    (take_all (length bytes - 28) (drop 28 bytes) (omega (arith, length-drop 28 bytes)))
+    (take_all (length bytes - start) (drop start bytes) (omega (arith, length-drop start bytes)))
+
+pub ruleset rest = whole

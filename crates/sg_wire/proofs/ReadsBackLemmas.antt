@@ -351,7 +351,7 @@ format-read c h =
     let same : cdb_of (command.ReportTargetPortGroups c) ≡ cdb =
     ap (λ b. 0xA3 ∷ b ∷ drop 2 cdb) (add_comm 10 (c.format * 32)) in
     let its : service_action cdb ≡ 0x0A = and_mask (c.format * 32 + 10) 5 ∙ omega arith in
-    ap (command_in Extended) same ∙ decodes Extended cdb name.ReportTargetPortGroups its
+    ap (command_in Extended) same ∙ decodes Extended cdb name.ReportTargetPortGroups its refl
     ∙ decoded l h (command.ReportTargetPortGroups c) refl refl
 
 reads_back : (command : Command) → ReadsBack command

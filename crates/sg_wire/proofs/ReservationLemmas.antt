@@ -13,10 +13,11 @@ use Rattle.sg_wire.specs.CdbDecoding.{command_by_row, first_bad, has_action_of, 
 use Rattle.sg_wire.specs.CdbDecoding.{service_action, unless_bad}
 use Rattle.sg_wire.specs.Layout.{Layout, layout}
 use Rattle.sg_wire.specs.Table.{command_with, fits_masks}
-use Rattle.sg_wire.specs.declared.profile.Profile.TheVariants.{Extended}
-use Rattle.sg_wire.specs.ReservationAction.{out_code, each_out_action, out_action_with}
+use Rattle.sg_wire.specs.declared.profile.Profile.{Profile}
+use Rattle.sg_wire.specs.declared.profile.Profile.TheVariants.{Base, Extended}
+use Rattle.sg_wire.specs.ReservationAction.{out_code, out_action_with, out_actions_of}
 
-abbrev out_row : OutAction → Layout
+abbrev pub out_row : OutAction → Layout
 out_row action = layout (reserve_out action 0 0)
 
 mapped-cond : (action : OutAction) (other : Option OutAction) (is_found : Bool)
@@ -35,12 +36,14 @@ find-row cdb (action ∷ actions) =
 long_enough : (count : ℕ) → 10 ≤ count → nat_lt count 10 ≡ false
 long_enough count h = grind (arith, nat_tests)
 
-pub reserve_out-known : (cdb : List ℕ) (action : OutAction) → 10 ≤ length cdb
-    → out_action_with (service_action cdb) ≡ Some action
-    → command_with 0x5F cdb ≡ command_by_row Extended cdb (Some (out_row action))
+pub reserve_out-known : (profile : Profile) (cdb : List ℕ) (action : OutAction) → 10 ≤ length cdb
+    → out_action_with profile (service_action cdb) ≡ Some action
+    → command_with profile 0x5F cdb ≡ command_by_row Extended cdb (Some (out_row action))
 unfolding command_with
-reserve_out-known cdb action whole known =
-    rw (long_enough (length cdb) whole, find-row cdb each_out_action, known) refl
+reserve_out-known Base cdb action whole known =
+    rw (long_enough (length cdb) whole, find-row cdb (out_actions_of Base), known) refl
+reserve_out-known Extended cdb action whole known =
+    rw (long_enough (length cdb) whole, find-row cdb (out_actions_of Extended), known) refl
 
 -- no byte is bad if the masks fit
 abbrev fit : (is_short : Bool) (count : ℕ) → Option ℕ → Result Unit CdbFault
@@ -59,23 +62,23 @@ unless_bad-refused value true count bad fault e h = cc
 unless_bad-refused value false count None fault e h = cc
 unless_bad-refused value false count (Some byte) fault e h = cc
 
-pub reserve_out-refused : (cdb : List ℕ) (action : OutAction) (fault : CdbFault) → 10 ≤ length cdb
-    → out_action_with (service_action cdb) ≡ Some action
-    → fits_masks (masks (out_row action)) cdb ≡ Err fault → command_with 0x5F cdb ≡ Err fault
+pub reserve_out-refused : (profile : Profile) (cdb : List ℕ) (action : OutAction) (fault : CdbFault)
+    → 10 ≤ length cdb → out_action_with profile (service_action cdb) ≡ Some action
+    → fits_masks (masks (out_row action)) cdb ≡ Err fault → command_with profile 0x5F cdb ≡ Err fault
 unfolding fits_masks
-reserve_out-refused cdb action fault whole known refused =
-    reserve_out-known cdb action whole known
+reserve_out-refused profile cdb action fault whole known refused =
+    reserve_out-known profile cdb action whole known
     ∙ unless_bad-refused (reserve_out action (get_or cdb 2 0) (big_number 4 (drop 5 cdb)))
     (nat_lt (length cdb) 10) (length cdb) (first_bad 0 (masks (out_row action)) cdb) fault
     (long_enough (length cdb) whole) refused
 
-pub reserve_out-fits : (cdb : List ℕ) (action : OutAction) → 10 ≤ length cdb
-    → out_action_with (service_action cdb) ≡ Some action
-    → fits_masks (masks (out_row action)) cdb ≡ Ok tt → command_with 0x5F cdb
+pub reserve_out-fits : (profile : Profile) (cdb : List ℕ) (action : OutAction) → 10 ≤ length cdb
+    → out_action_with profile (service_action cdb) ≡ Some action
+    → fits_masks (masks (out_row action)) cdb ≡ Ok tt → command_with profile 0x5F cdb
     ≡ Ok (reserve_out action (get_or cdb 2 0) (big_number 4 (drop 5 cdb)))
 unfolding fits_masks
-reserve_out-fits cdb action whole known fits =
+reserve_out-fits profile cdb action whole known fits =
     let bits = masks (out_row action) in
-    reserve_out-known cdb action whole known
+    reserve_out-known profile cdb action whole known
     ∙ unless_bad-fit (reserve_out action (get_or cdb 2 0) (big_number 4 (drop 5 cdb)))
     (nat_lt (length cdb) (length bits)) (length cdb) (first_bad 0 bits cdb) fits

@@ -11,10 +11,10 @@ use Rattle.sg_wire.specs.CdbDecoding.{class_by_row, class_by_rows, class_in, com
 use Rattle.sg_wire.specs.CdbDecoding.{command_by_rows}
 use Rattle.sg_wire.specs.CdbDecoding.{command_in, first_bad, has_action_of, is_blocked_in, make_from}
 use Rattle.sg_wire.specs.CdbDecoding.{masks, masks_in, rows_in, service_action, unless_bad}
-use Rattle.sg_wire.specs.Commands.{reserve_in, reserve_out}
-use Rattle.sg_wire.specs.Layout.{Layout, layout, length_of}
+use Rattle.sg_wire.specs.Commands.{reserve_in}
+use Rattle.sg_wire.specs.Layout.{Layout, layout, length_of, table}
 use Rattle.sg_wire.specs.Profile.{is_in}
-use Rattle.sg_wire.specs.ReservationAction.{each_in_action, each_out_action}
+use Rattle.sg_wire.specs.ReservationAction.{each_in_action, out_actions_of}
 use Rattle.sg_wire.specs.Table.{HasAction, IsDecodedIn, IsFound, IsNamed, IsNamedByNone, IsRefusedIn}
 use Rattle.sg_wire.specs.Table.{IsRow, blocked_found, class_found, class_of_name, command_named}
 use Rattle.sg_wire.specs.Table.{command_of_name}
@@ -31,11 +31,13 @@ use Rattle.sg_wire.specs.declared.command.table.Name.{Name}
 use Rattle.sg_wire.specs.declared.command.table.Name.TheVariants as name
 use Rattle.sg_wire.specs.declared.command.table.Row.{Row}
 use Rattle.sg_wire.specs.declared.profile.Profile.{Profile}
-use Rattle.sg_wire.specs.declared.profile.Profile.TheVariants.{Extended}
+use Rattle.sg_wire.specs.declared.profile.Profile.TheVariants.{Base, Extended}
 use Rattle.sg_wire.proofs.ActionLemmas.{first-of-three, first-of-two, is_its, is_no, none-of-three}
 use Rattle.sg_wire.proofs.ActionLemmas.{none-of-two, second-of-three, second-of-two, third-of-three}
 use Rattle.sg_wire.proofs.FieldLemmas.{same-found}
-use Rattle.sg_wire.proofs.ProfileLemmas.{first_opcode, has_row, none-in, rows-none, rows-same}
+use Rattle.sg_wire.proofs.ReservationLemmas.{out_row}
+use Rattle.sg_wire.proofs.ProfileLemmas.{blocked-rows, first_opcode, has_row, is_whole, none-in, none-of-them}
+use Rattle.sg_wire.proofs.ProfileLemmas.{rows-none, rows-same}
 
 abbrev unless_short : {A : Type 0} → (is_short : Bool) → List ℕ → Result A CdbFault → Result A CdbFault
 unless_short is_short cdb read = if is_short then Err (Short (length cdb)) else read
@@ -155,28 +157,36 @@ module _ (profile : Profile) (cdb : List ℕ) where
   unless_short_10 read = if nat_lt (length cdb) 10 then Err (Short (length cdb)) else read
 
   -- the name of a CDB's row decides its command
-  pub decodes : (named : Name) → HasAction cdb named
+  decodes-whole : (named : Name) → is_whole (command_named named) ≡ true → HasAction cdb named
       → command_by_rows profile cdb (rows_in Extended (layout_of named).opcode)
       ≡ command_of_name profile named cdb
   unfolding command_with
-  decodes name.PersistentReserveIn h =
+  decodes-whole name.PersistentReserveOut whole h = cc
+  decodes-whole name.PersistentReserveIn whole h =
       ap unless_short_10
       (same-found profile cdb (λ action. layout (reserve_in action 0)) (λ action. refl) each_in_action)
-  decodes name.PersistentReserveOut h =
-      ap unless_short_10
-      (same-found profile cdb (λ action. layout (reserve_out action 0 0)) (λ action. refl) each_out_action)
-  decodes name.ReadCapacity16 h = ap (unless_short_by 0x9E) (capacity-found cdb h)
-  decodes name.GetLbaStatus h = ap (unless_short_by 0x9E) (status-found cdb h)
-  decodes name.ReportSupportedOperationCodes h = ap (unless_short_by 0xA3) (codes-found cdb h)
-  decodes name.ReportSupportedTaskManagementFunctions h =
+  decodes-whole name.ReadCapacity16 whole h = ap (unless_short_by 0x9E) (capacity-found cdb h)
+  decodes-whole name.GetLbaStatus whole h = ap (unless_short_by 0x9E) (status-found cdb h)
+  decodes-whole name.ReportSupportedOperationCodes whole h = ap (unless_short_by 0xA3) (codes-found cdb h)
+  decodes-whole name.ReportSupportedTaskManagementFunctions whole h =
       ap (unless_short_by 0xA3) (functions-found cdb h)
-  decodes name.ReportTargetPortGroups h = ap (unless_short_by 0xA3) (port_groups-found cdb h)
-  decodes name.SanitizeBlockErase h = ap (unless_short_by 0x48) (block_erase-found cdb h)
-  decodes name.SanitizeCryptographicErase h =
+  decodes-whole name.ReportTargetPortGroups whole h = ap (unless_short_by 0xA3) (port_groups-found cdb h)
+  decodes-whole name.SanitizeBlockErase whole h = ap (unless_short_by 0x48) (block_erase-found cdb h)
+  decodes-whole name.SanitizeCryptographicErase whole h =
       ap (unless_short_by 0x48) (cryptographic_erase-found cdb h)
-  decodes name.SanitizeExitFailureMode h =
+  decodes-whole name.SanitizeExitFailureMode whole h =
       ap (unless_short_by 0x48) (exit_failure_mode-found cdb h)
-  decodes named h = refl
+  decodes-whole named whole h = refl
+
+  pub decodes : (named : Name) → HasAction cdb named → is_in (layout_of named).profile profile ≡ true
+      → command_by_rows profile cdb (rows_in profile (layout_of named).opcode)
+      ≡ command_of_name profile named cdb
+  unfolding command_with
+  decodes name.PersistentReserveOut h has = refl
+  decodes name.TestUnitReady h has = refl
+  decodes named h has =
+      ap (command_by_rows profile cdb) (rows-same profile (command_named named) refl has)
+      ∙ decodes-whole named refl h
 
 -- ---- what the table has for a CDB
 
@@ -203,50 +213,54 @@ abbrev Agrees : Profile → List ℕ → Name → Type 0
 Agrees profile cdb named = (class_in profile cdb ≡ Some (class_of_name cdb named))
     × (is_blocked_in profile cdb ≡ (layout_of named).blocked_by_attention)
 
-agrees : (named : Name) (rest : List ℕ) → HasAction ((layout_of named).opcode ∷ rest) named
+agrees-out : (profile : Profile) (rest : List ℕ) → Agrees profile (0x5F ∷ rest) name.PersistentReserveOut
+unfolding class_in is_blocked_in
+agrees-out Base rest =
+    (ap Some (always-found (0x5F ∷ rest) out_row (λ action. refl) (out_actions_of Base)), refl)
+agrees-out Extended rest =
+    (ap Some (always-found (0x5F ∷ rest) out_row (λ action. refl) (out_actions_of Extended)), refl)
+
+agrees : (named : Name) (rest : List ℕ) → is_whole (command_named named) ≡ true
+    → HasAction ((layout_of named).opcode ∷ rest) named
     → Agrees Extended ((layout_of named).opcode ∷ rest) named
 unfolding class_in is_blocked_in
-agrees name.PersistentReserveIn rest h = (
+agrees name.PersistentReserveOut rest whole h = cc
+agrees name.PersistentReserveIn rest whole h = (
   ap Some (always-found (0x5E ∷ rest) (λ action. layout (reserve_in action 0)) (λ action. refl)
       each_in_action),
   refl,
 )
-agrees name.PersistentReserveOut rest h = (
-  ap Some (always-found (0x5F ∷ rest) (λ action. layout (reserve_out action 0 0)) (λ action. refl)
-      each_out_action),
-  refl,
-)
-agrees name.ReadCapacity16 rest h =
+agrees name.ReadCapacity16 rest whole h =
     (ap (λ found. Some (class_or_always (0x9E ∷ rest) found)) (capacity-found (0x9E ∷ rest) h), refl)
-agrees name.GetLbaStatus rest h =
+agrees name.GetLbaStatus rest whole h =
     (ap (λ found. Some (class_or_always (0x9E ∷ rest) found)) (status-found (0x9E ∷ rest) h), refl)
-agrees name.ReportSupportedOperationCodes rest h =
+agrees name.ReportSupportedOperationCodes rest whole h =
     (ap (λ found. Some (class_or_always (0xA3 ∷ rest) found)) (codes-found (0xA3 ∷ rest) h), refl)
-agrees name.ReportSupportedTaskManagementFunctions rest h =
+agrees name.ReportSupportedTaskManagementFunctions rest whole h =
     (ap (λ found. Some (class_or_always (0xA3 ∷ rest) found)) (functions-found (0xA3 ∷ rest) h), refl)
-agrees name.ReportTargetPortGroups rest h =
+agrees name.ReportTargetPortGroups rest whole h =
     (ap (λ found. Some (class_or_always (0xA3 ∷ rest) found)) (port_groups-found (0xA3 ∷ rest) h), refl)
-agrees name.SanitizeBlockErase rest h =
+agrees name.SanitizeBlockErase rest whole h =
     (ap (λ found. Some (class_or_always (0x48 ∷ rest) found)) (block_erase-found (0x48 ∷ rest) h), refl)
-agrees name.SanitizeCryptographicErase rest h = (
+agrees name.SanitizeCryptographicErase rest whole h = (
   ap (λ found. Some (class_or_always (0x48 ∷ rest) found))
       (cryptographic_erase-found (0x48 ∷ rest) h),
   refl,
 )
-agrees name.SanitizeExitFailureMode rest h =
+agrees name.SanitizeExitFailureMode rest whole h =
     (ap (λ found. Some (class_or_always (0x48 ∷ rest) found)) (exit_failure_mode-found (0x48 ∷ rest) h), refl)
-agrees named rest h = (refl, refl)
+agrees named rest whole h = (refl, refl)
 
 -- a service action that no command of the operation code has
 pub other_16 : (cdb : List ℕ) → service_action cdb ≢ 0x10 → service_action cdb ≢ 0x12
-    → IsNamedByNone cdb 0x9E
+    → IsNamedByNone Extended cdb 0x9E
 unfolding IsNamedByNone
 other_16 cdb h k =
     none-of-two cdb (layout_of name.ReadCapacity16) (layout_of name.GetLbaStatus) (is_no _ 0x10 h)
     (is_no _ 0x12 k)
 
 pub other_maintenance : (cdb : List ℕ) → service_action cdb ≢ 0x0C → service_action cdb ≢ 0x0D
-    → service_action cdb ≢ 0x0A → IsNamedByNone cdb 0xA3
+    → service_action cdb ≢ 0x0A → IsNamedByNone Extended cdb 0xA3
 unfolding IsNamedByNone
 other_maintenance cdb h k m =
     none-of-three cdb (layout_of name.ReportSupportedOperationCodes)
@@ -254,7 +268,7 @@ other_maintenance cdb h k m =
     (is_no _ 0x0C h) (is_no _ 0x0D k) (is_no _ 0x0A m)
 
 pub other_sanitize : (cdb : List ℕ) → service_action cdb ≢ 0x02 → service_action cdb ≢ 0x03
-    → service_action cdb ≢ 0x1F → IsNamedByNone cdb 0x48
+    → service_action cdb ≢ 0x1F → IsNamedByNone Extended cdb 0x48
 unfolding IsNamedByNone
 other_sanitize cdb h k m =
     none-of-three cdb (layout_of name.SanitizeBlockErase) (layout_of name.SanitizeCryptographicErase)
@@ -279,13 +293,6 @@ pub ruleset without_maintenance_action = (other_maintenance, has_byte_in)
 
 pub ruleset without_sanitize_action = (other_sanitize, has_byte_of_sanitize)
 
--- all of them are blocked by an attention, or none
-blocked-rows : (named : Name)
-    → list_all (λ (l : Layout). l.blocked_by_attention) (rows_in Extended (layout_of named).opcode)
-    ≡ (layout_of named).blocked_by_attention
-blocked-rows name.TestUnitReady = refl
-blocked-rows named = refl
-
 module _ (cdb : List ℕ) (opcode : ℕ) where
   none-class : (rows : List Layout) → find (has_action_of cdb) rows ≡ None
       → first_opcode rows ≡ Some opcode → class_by_rows cdb rows ≡ Some Always
@@ -305,16 +312,25 @@ module _ (cdb : List ℕ) (opcode : ℕ) where
       else Err (BadField 1)) same
 
 module _ (profile : Profile) where
+  agrees-same : (named : Name) → is_whole (command_named named) ≡ true → (rest : List ℕ)
+      → is_in (layout_of named).profile profile ≡ true
+      → HasAction ((layout_of named).opcode ∷ rest) named
+      → Agrees profile ((layout_of named).opcode ∷ rest) named
+  unfolding class_in is_blocked_in
+  agrees-same named whole rest has h =
+      let same = rows-same profile (command_named named) whole has in
+      let extended = agrees named rest whole h in (
+        ap (class_by_rows ((layout_of named).opcode ∷ rest)) same ∙ extended.0,
+        ap (list_all (λ (l : Layout). l.blocked_by_attention)) same ∙ extended.1,
+      )
+
   agrees-in : (named : Name) (rest : List ℕ) → is_in (layout_of named).profile profile ≡ true
       → HasAction ((layout_of named).opcode ∷ rest) named
       → Agrees profile ((layout_of named).opcode ∷ rest) named
   unfolding class_in is_blocked_in
-  agrees-in named rest has h =
-      let same = rows-same profile (command_named named) has in
-      let whole = agrees named rest h in (
-        ap (class_by_rows ((layout_of named).opcode ∷ rest)) same ∙ whole.0,
-        ap (list_all (λ (l : Layout). l.blocked_by_attention)) same ∙ whole.1,
-      )
+  agrees-in name.PersistentReserveOut rest has h = agrees-out profile rest
+  agrees-in name.TestUnitReady rest has h = agrees-same name.TestUnitReady refl rest has h
+  agrees-in named rest has h = agrees-same named refl rest has h
 
   agrees-named : (named : Name) (cdb : List ℕ) → is_in (layout_of named).profile profile ≡ true
       → IsNamed cdb named → Agrees profile cdb named
@@ -323,12 +339,15 @@ module _ (profile : Profile) where
       subst (λ (code : ℕ). HasAction (code ∷ rest) named → Agrees profile (code ∷ rest) named)
       (sym h.1) (agrees-in named rest has) h.2
 
-  -- the rows of a CDB whose service action none of them has
-  rows-without : (cdb : List ℕ) (row : Bor Row) → IsFound profile cdb (NoServiceAction row)
-      → rows_in profile (get_or cdb 0 0) ≡ rows_in Extended (layout_of row.now.name).opcode
-  rows-without cdb row h =
-      ap (rows_in profile) h.1
-      ∙ rows-same profile (command_named row.now.name) (ap (λ p. is_in p profile) (sym h.2.0) ∙ h.3)
+  -- the profile has a row of the operation code, none of which has the service action of the CDB
+  has-code : (cdb : List ℕ) (row : Bor Row) → IsFound profile cdb (NoServiceAction row)
+      → is_in (layout_of row.now.name).profile profile ≡ true
+  has-code cdb row h = ap (λ p. is_in p profile) (sym h.2.0) ∙ h.3
+
+  first-without : (cdb : List ℕ) (row : Bor Row) → IsFound profile cdb (NoServiceAction row)
+      → first_opcode (rows_in profile (layout_of row.now.name).opcode)
+      ≡ Some (layout_of row.now.name).opcode
+  first-without cdb row h = has_row profile (command_named row.now.name) (has-code cdb row h)
 
   row-class : (named : Name) (cdb : List ℕ) (belongs : Profile) → IsNamed cdb named
       → belongs ≡ (layout_of named).profile
@@ -344,8 +363,8 @@ module _ (profile : Profile) where
   class_in-found [] (NoServiceAction row) h = absurd (omega (arith, h.0))
   class_in-found (opcode ∷ rest) (NoServiceAction row) h =
       let code = (layout_of row.now.name).opcode in
-      ap (class_by_rows (opcode ∷ rest)) (rows-without (opcode ∷ rest) row h)
-      ∙ none-class (opcode ∷ rest) code (rows_in Extended code) h.4 (has_row (command_named row.now.name))
+      ap (λ code. class_by_rows (opcode ∷ rest) (rows_in profile code)) h.1
+      ∙ none-class (opcode ∷ rest) code (rows_in profile code) h.4 (first-without (opcode ∷ rest) row h)
   class_in-found [] NoOpcode h = refl
   class_in-found (opcode ∷ rest) NoOpcode h = ap (class_by_rows (opcode ∷ rest)) (h (omega arith))
 
@@ -356,8 +375,8 @@ module _ (profile : Profile) where
       (agrees-named row.now.name cdb (ap (λ p. is_in p profile) (sym h.1.0) ∙ h.2) h.0).1 ∙ sym h.1.3
   blocked-found [] (NoServiceAction row) h = absurd (omega (arith, h.0))
   blocked-found (opcode ∷ rest) (NoServiceAction row) h =
-      ap (list_all (λ (l : Layout). l.blocked_by_attention)) (rows-without (opcode ∷ rest) row h)
-      ∙ blocked-rows row.now.name ∙ sym h.2.3
+      ap (λ code. list_all (λ (l : Layout). l.blocked_by_attention) (rows_in profile code)) h.1
+      ∙ blocked-rows profile (command_named row.now.name) (has-code (opcode ∷ rest) row h) ∙ sym h.2.3
   blocked-found [] NoOpcode h = refl
   blocked-found (opcode ∷ rest) NoOpcode h =
       ap (list_all (λ (l : Layout). l.blocked_by_attention)) (h (omega arith))
@@ -378,8 +397,8 @@ module _ (profile : Profile) where
       let code = (layout_of row.now.name).opcode in
       let wanted : length_of code ≡ length row.now.masks.now =
       sym (ap length h.2.4 ∙ whole-row Extended row.now.name) in
-      ap (command_by_rows profile cdb) (rows-without cdb row h)
-      ∙ none-command cdb code profile (rows_in Extended code) h.4 (has_row (command_named row.now.name))
+      ap (λ code. command_by_rows profile cdb (rows_in profile code)) h.1
+      ∙ none-command cdb code profile (rows_in profile code) h.4 (first-without cdb row h)
       ∙ ap (λ n. if nat_lt (length cdb) n then Err (Short (length cdb)) else Err (BadField 1)) wanted
 
   pub row-fits : (cdb : List ℕ) (row : Bor Row) → IsFound profile cdb (NoServiceAction row)
@@ -405,31 +424,32 @@ module _ (profile : Profile) where
   refused-opcode (opcode ∷ rest) some h = ap (command_by_rows profile (opcode ∷ rest)) (h some)
 
   -- and a CDB with a row is decoded by it
-  by_rows : (cdb : List ℕ) (row : Bor Row) → IsFound profile cdb (FoundRow row)
-      → command_in profile cdb
-      ≡ command_by_rows profile cdb (rows_in Extended (layout_of row.now.name).opcode)
-  unfolding command_in
-  by_rows [] row h = absurd (omega (arith, h.0.0))
-  by_rows (opcode ∷ rest) row h =
-      ap (λ code. command_by_rows profile (opcode ∷ rest) (rows_in profile code)) h.0.1
-      ∙ ap (command_by_rows profile (opcode ∷ rest))
-      (rows-same profile (command_named row.now.name) (ap (λ p. is_in p profile) (sym h.1.0) ∙ h.2))
-
   pub read-row : (cdb : List ℕ) (row : Bor Row) → IsFound profile cdb (FoundRow row)
       → command_in profile cdb ≡ command_of_name profile row.now.name cdb
-  read-row cdb row h = by_rows cdb row h ∙ decodes profile cdb row.now.name h.0.2
+  unfolding command_in
+  read-row [] row h = absurd (omega (arith, h.0.0))
+  read-row (opcode ∷ rest) row h =
+      ap (λ code. command_by_rows profile (opcode ∷ rest) (rows_in profile code)) h.0.1
+      ∙ decodes profile (opcode ∷ rest) row.now.name h.0.2
+      (ap (λ p. is_in p profile) (sym h.1.0) ∙ h.2)
 
   -- a profile that has the row of a CDB finds it, and a profile that lacks it finds none
   pub row-has : (cdb : List ℕ) (row : Bor Row) → IsFound Extended cdb (FoundRow row)
       → is_in row.now.profile profile ≡ true → IsFound profile cdb (FoundRow row)
   row-has cdb row h has = (h.0, h.1, has)
 
+  none-named : (named : Name) → is_in (layout_of named).profile profile ≡ false
+      → rows_in profile (layout_of named).opcode ≡ []
+  none-named name.PersistentReserveOut lacks = cc
+  none-named name.TestUnitReady lacks = cc
+  none-named named lacks = rows-none profile (command_named named) refl lacks
+
   none-of : (cdb : List ℕ) (row : Row) → IsRow row
       → get_or cdb 0 0 ≡ (layout_of row.name).opcode → is_in row.profile profile ≡ false
       → IsFound profile cdb NoOpcode
   none-of cdb row is code lacks some =
       ap (rows_in profile) code
-      ∙ rows-none profile (command_named row.name) (ap (λ p. is_in p profile) (sym is.0) ∙ lacks)
+      ∙ none-named row.name (ap (λ p. is_in p profile) (sym is.0) ∙ lacks)
 
   pub row-lacks : (cdb : List ℕ) (row : Bor Row) → IsFound Extended cdb (FoundRow row)
       → is_in row.now.profile profile ≡ false → IsFound profile cdb NoOpcode
@@ -437,7 +457,10 @@ module _ (profile : Profile) where
 
   pub code-has : (cdb : List ℕ) (row : Bor Row) → IsFound Extended cdb (NoServiceAction row)
       → is_in row.now.profile profile ≡ true → IsFound profile cdb (NoServiceAction row)
-  code-has cdb row h has = (h.0, h.1, h.2, has, h.4)
+  unfolding IsNamedByNone
+  code-has cdb row h has =
+      let none = none-of-them profile (layout_of row.now.name).opcode (has_action_of cdb) table h.4 in
+      (h.0, h.1, h.2, has, none)
 
   pub code-lacks : (cdb : List ℕ) (row : Bor Row) → IsFound Extended cdb (NoServiceAction row)
       → is_in row.now.profile profile ≡ false → IsFound profile cdb NoOpcode

@@ -1,7 +1,7 @@
 -- Laws of CDBs, of answers that are put in parts, and of CDB USAGE DATA.
 use Rattle.std.specs.Prelude.{◌≡◌, ◌≢◌, ◌<◌, ◌≤◌, ℕ, ◌^◌, ◌==◌, List, [], ◌++◌, length, map, take}
 use Rattle.std.specs.Prelude.{Some, Ok, Err, Bool, true, false, not, ◌&&◌, ◌||◌, if◌then◌else◌}
-use Rattle.std.specs.Prelude.{bit_and, slice_index}
+use Rattle.std.specs.Prelude.{bit_and, find, slice_index}
 use Rattle.std.specs.List.{Contains, list_all, list_any}
 use Rattle.std.specs.Borrow.{GName}
 use Rattle.sg_wire.specs.Bits.{has_bit}
@@ -9,8 +9,8 @@ use Rattle.sg_wire.specs.CdbFields.{Field, Place, allows_field, mask_in}
 use Rattle.sg_wire.specs.Cut.{IsLeftIn, Puts, answer_of}
 use Rattle.sg_wire.specs.CutAnswer.{CutAnswer, empty_answer, put, replace}
 use Rattle.sg_wire.specs.FirstBytes.{first_bytes, overwritten}
-use Rattle.sg_wire.specs.CdbDecoding.{action_places, class_in, command_in, first_bad, is_blocked_in}
-use Rattle.sg_wire.specs.CdbDecoding.{mask_of, masks, rows_in}
+use Rattle.sg_wire.specs.CdbDecoding.{action_places, class_in, command_in, first_bad, has_action_of}
+use Rattle.sg_wire.specs.CdbDecoding.{is_blocked_in, mask_of, masks, rows_in}
 use Rattle.sg_wire.specs.CdbEncoding.{cdb_of}
 use Rattle.sg_wire.specs.Layout.{Layout, layout, length_of}
 use Rattle.sg_wire.specs.Profile.{is_in}
@@ -42,17 +42,18 @@ ProfilesAreClosed =
     → command_in profile cdb ≡ Ok command → has_command profile command ≡ true
 
 -- A profile only adds: a CDB that is a command in one profile is the same command in each profile
--- that has it, and of the same class. Its operation code has the same rows. A unit attention blocks it
--- in both profiles or in neither. An extended disk allows each bit of a CDB that a base disk allows.
+-- that has it, and of the same class. The CDB has the same row. A unit attention blocks it in both
+-- profiles or in neither. An extended disk allows each bit of a CDB that a base disk allows.
 pub record ProfilesOnlyAdd : Type 0 where
   pub command : (profile : Profile) (cdb : List ℕ) (command : Command)
       → command_in profile cdb ≡ Ok command → IsReadAs cdb command
   pub class : (one other : Profile) (cdb : List ℕ) (command : Command)
       → command_in one cdb ≡ Ok command → has_command other command ≡ true
       → class_in other cdb ≡ class_in one cdb
-  pub rows : (one other : Profile) (cdb : List ℕ) (command : Command)
+  pub row : (one other : Profile) (cdb : List ℕ) (command : Command)
       → command_in one cdb ≡ Ok command → has_command other command ≡ true
-      → rows_in other (layout command).opcode ≡ rows_in one (layout command).opcode
+      → find (has_action_of cdb) (rows_in other (layout command).opcode)
+      ≡ find (has_action_of cdb) (rows_in one (layout command).opcode)
   pub attention : (one other : Profile) (cdb : List ℕ) (command : Command)
       → command_in one cdb ≡ Ok command → has_command other command ≡ true
       → is_blocked_in other cdb ≡ is_blocked_in one cdb

@@ -47,7 +47,7 @@ use Rattle.sg_wire.specs.FreeBits.{FreeBits, cache_bits, diagnostic_bits, dpo_bi
 use Rattle.sg_wire.specs.FreeBits.{format_bits, group_number, immed_bit, immed_bits, log_bits, no_bits}
 use Rattle.sg_wire.specs.FreeBits.{sanitize_bits, start_bits}
 use Rattle.sg_wire.specs.PageControl.{page_control_code}
-use Rattle.sg_wire.specs.ReservationAction.{in_code, out_code, each_in_action, each_out_action}
+use Rattle.sg_wire.specs.ReservationAction.{in_code, out_code, out_profile, each_in_action, each_out_action}
 use Rattle.sg_wire.specs.declared.profile.Profile.{Profile}
 use Rattle.sg_wire.specs.declared.profile.Profile.TheVariants.{Base, Extended}
 
@@ -81,11 +81,11 @@ pub record Layout : Type 0 where
   pub free : FreeBits
   pub make : Maker fields
 
--- A row of the base profile: each disk has its command.
-abbrev base : ℕ → ServiceAction → Class → Bool → (fields : List Field) → FreeBits → Maker fields
-    → Layout
-base opcode action class blocked fields free make = record {
-  profile = Base;
+-- A row of a profile.
+abbrev row : Profile → ℕ → ServiceAction → Class → Bool → (fields : List Field) → FreeBits
+    → Maker fields → Layout
+row profile opcode action class blocked fields free make = record {
+  profile = profile;
   opcode = opcode;
   action = action;
   class = class;
@@ -95,11 +95,17 @@ base opcode action class blocked fields free make = record {
   make = make;
 }
 
+-- A row of the base profile: each disk has its command.
+abbrev base : ℕ → ServiceAction → Class → Bool → (fields : List Field) → FreeBits → Maker fields
+    → Layout
+base opcode action class blocked fields free make =
+    row Base opcode action class blocked fields free make
+
 -- A row of the extended profile.
 abbrev extended : ℕ → ServiceAction → Class → Bool → (fields : List Field) → FreeBits → Maker fields
     → Layout
 extended opcode action class blocked fields free make =
-    record (base opcode action class blocked fields free make) { profile = Extended }
+    row Extended opcode action class blocked fields free make
 
 -- INQUIRY, REPORT LUNS and REQUEST SENSE are executed in spite of a pending unit attention (SPC-4,
 -- 6.6.1, 6.33 and 6.39).
@@ -390,7 +396,8 @@ layout (command.GetLbaStatus c) =
 layout (command.PersistentReserveIn c) =
     base 0x5E (named (in_code c.action)) Always blocked (reserve_in c) no_bits (make.reserve_in c.action)
 layout (command.PersistentReserveOut c) =
-    base 0x5F (named (out_code c.action)) Always blocked (reserve_out c) no_bits (make.reserve_out c.action)
+    row (out_profile c.action) 0x5F (named (out_code c.action)) Always blocked (reserve_out c) no_bits
+    (make.reserve_out c.action)
 
 -- Each command once; if its service action is a value of it, the command comes once with each
 -- service action. Only the places of its fields matter here, not their values.

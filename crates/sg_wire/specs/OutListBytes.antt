@@ -1,4 +1,5 @@
--- The bytes of the parameter list of PERSISTENT RESERVE OUT, as they are written (SPC-4, 6.16.3).
+-- The bytes of the parameter list of PERSISTENT RESERVE OUT, as they are written (SPC-4, 6.16.3). The list
+-- of REGISTER AND MOVE has another format, and is not written.
 use Rattle.std.specs.Prelude.{ℕ, ◌+◌, List, ◌∷◌, ◌++◌, replicate, if◌then◌else◌}
 use Rattle.byteorder.specs.Endian.{big_bytes}
 use Rattle.sg_wire.specs.declared.out_list.OutList.{OutList}

@@ -1,6 +1,7 @@
 -- The service actions of PERSISTENT RESERVE IN and PERSISTENT RESERVE OUT (SPC-4, 6.15 and
 -- 6.16).
-use Rattle.std.specs.Prelude.{ℕ, ◌==◌, List, [], ◌∷◌, find, Option}
+use Rattle.std.specs.Prelude.{ℕ, ◌==◌, List, [], ◌∷◌, filter, find, Option}
+use Rattle.sg_wire.specs.Profile.{is_in}
 use Rattle.sg_wire.specs.declared.command.in_action.InAction.{InAction}
 use Rattle.sg_wire.specs.declared.command.in_action.InAction.TheVariants.{ReadKeys, ReadReservation}
 use Rattle.sg_wire.specs.declared.command.in_action.InAction.TheVariants.{ReportCapabilities}
@@ -10,6 +11,9 @@ use Rattle.sg_wire.specs.declared.command.out_action.OutAction.TheVariants.{Regi
 use Rattle.sg_wire.specs.declared.command.out_action.OutAction.TheVariants.{Release, Clear, Preempt}
 use Rattle.sg_wire.specs.declared.command.out_action.OutAction.TheVariants.{PreemptAndAbort}
 use Rattle.sg_wire.specs.declared.command.out_action.OutAction.TheVariants.{RegisterAndIgnoreExistingKey}
+use Rattle.sg_wire.specs.declared.command.out_action.OutAction.TheVariants.{RegisterAndMove}
+use Rattle.sg_wire.specs.declared.profile.Profile.{Profile}
+use Rattle.sg_wire.specs.declared.profile.Profile.TheVariants.{Base, Extended}
 
 -- The code of each, in the SERVICE ACTION field.
 abbrev pub in_code : InAction → ℕ
@@ -26,6 +30,7 @@ out_code Clear = 0x03
 out_code Preempt = 0x04
 out_code PreemptAndAbort = 0x05
 out_code RegisterAndIgnoreExistingKey = 0x06
+out_code RegisterAndMove = 0x07
 
 abbrev pub each_in_action : List InAction
 each_in_action = ReadKeys ∷ ReadReservation ∷ ReportCapabilities ∷ ReadFullStatus ∷ []
@@ -39,11 +44,20 @@ each_out_action =
     ∷ Preempt
     ∷ PreemptAndAbort
     ∷ RegisterAndIgnoreExistingKey
+    ∷ RegisterAndMove
     ∷ []
 
--- The service action with a code.
+-- Those that a disk of a profile has. REGISTER AND MOVE belongs to the extended profile.
+abbrev pub out_profile : OutAction → Profile
+out_profile RegisterAndMove = Extended
+out_profile action = Base
+
+abbrev pub out_actions_of : Profile → List OutAction
+out_actions_of profile = filter (λ action. is_in (out_profile action) profile) each_out_action
+
+-- The service action with a code, on a disk of a profile.
 abbrev pub in_action_with : ℕ → Option InAction
 in_action_with code = find (λ action. code == in_code action) each_in_action
 
-abbrev pub out_action_with : ℕ → Option OutAction
-out_action_with code = find (λ action. code == out_code action) each_out_action
+abbrev pub out_action_with : Profile → ℕ → Option OutAction
+out_action_with profile code = find (λ action. code == out_code action) (out_actions_of profile)

@@ -142,7 +142,7 @@ descriptor_length true = 20
 
 -- A row has what its operation code's commands are reported with.
 abbrev pub Describes : Row → Layout → Type 0
-Describes row l = (row.profile ≡ l.profile) × (row.opcode ≡ l.opcode) × (row.usage.now ≡ usage l)
+Describes row l = (row.opcode ≡ l.opcode) × (row.usage.now ≡ usage l)
 
 -- ---- The row of a CDB
 
@@ -163,9 +163,9 @@ abbrev pub IsNamed : List ℕ → Name → Type 0
 IsNamed cdb named =
     (1 ≤ length cdb) × (slice_index cdb 0 ≡ (layout_of named).opcode) × HasAction cdb named
 
--- No command of an operation code has the service action of the CDB.
-unfoldable pub IsNamedByNone : List ℕ → (opcode : ℕ) → Type 0
-IsNamedByNone cdb opcode = find (has_action_of cdb) (rows_in Extended opcode) ≡ None
+-- On a disk of a profile, no command of an operation code has the service action of the CDB.
+unfoldable pub IsNamedByNone : Profile → List ℕ → (opcode : ℕ) → Type 0
+IsNamedByNone profile cdb opcode = find (has_action_of cdb) (rows_in profile opcode) ≡ None
 
 -- The table's result for a CDB on a disk of a profile: the row of its command; or a row of its
 -- operation code, of which no command has its service action; or no command has its operation code.
@@ -175,7 +175,7 @@ IsFound profile cdb (FoundRow row) =
 IsFound profile cdb (NoServiceAction row) =
     let opcode = (layout_of row.now.name).opcode in
     (1 ≤ length cdb) × (slice_index cdb 0 ≡ opcode) × IsRow row.now
-    × (is_in row.now.profile profile ≡ true) × IsNamedByNone cdb opcode
+    × (is_in row.now.profile profile ≡ true) × IsNamedByNone profile cdb opcode
 IsFound profile cdb NoOpcode = 1 ≤ length cdb → rows_in profile (slice_index cdb 0) ≡ []
 
 -- The reservation class in the table, and whether a pending unit attention blocks the CDB.
@@ -215,15 +215,16 @@ command_by_in profile l cdb =
 abbrev pub command_by : Layout → List ℕ → Result Command CdbFault
 command_by l cdb = command_by_in Extended l cdb
 
--- The command of a CDB by all layouts of an operation code.
-unfoldable pub command_with : (opcode : ℕ) → List ℕ → Result Command CdbFault
-command_with opcode cdb = command_by_rows Extended cdb (rows_in Extended opcode)
+-- The command of a CDB by all layouts that a disk of a profile has of an operation code.
+unfoldable pub command_with : Profile → (opcode : ℕ) → List ℕ → Result Command CdbFault
+command_with profile opcode cdb = command_by_rows profile cdb (rows_in profile opcode)
 
 -- The command of a CDB by its name, on a disk of a profile. The service action decides about
--- PERSISTENT RESERVE IN and OUT. Only WRITE SAME(16) has a field that depends on the profile.
+-- PERSISTENT RESERVE IN and OUT. Only OUT has a service action, and only WRITE SAME(16) has a field, that
+-- depends on the profile.
 abbrev pub command_of_name : Profile → Name → List ℕ → Result Command CdbFault
-command_of_name profile name.PersistentReserveIn cdb = command_with 0x5E cdb
-command_of_name profile name.PersistentReserveOut cdb = command_with 0x5F cdb
+command_of_name profile name.PersistentReserveIn cdb = command_with Extended 0x5E cdb
+command_of_name profile name.PersistentReserveOut cdb = command_with profile 0x5F cdb
 command_of_name profile name.WriteSame16 cdb =
     command_by_in profile (layout_of name.WriteSame16) cdb
 command_of_name profile named cdb = command_by (layout_of named) cdb

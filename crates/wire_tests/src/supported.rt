@@ -149,12 +149,12 @@ fn the_base_commands_are_reported(rt: HostRuntime) {
 
 #[test]
 fn the_extended_commands_are_reported_with_timeouts(rt: HostRuntime) {
-    let mut buf = [0xEE; 1200];
-    let mut cut = Cut::new(&mut buf, 1200);
+    let mut buf = [0xEE; 1220];
+    let mut cut = Cut::new(&mut buf, 1220);
     let report = SupportReport::AllCommands { timeouts: true };
     report.write(Profile::Extended, &mut cut);
     let written = cut.written();
-    // 59 commands of 20 bytes
-    assert!(rt; written == 1184 && buf[..4] == [0x00, 0x00, 0x04, 0x9C]);
+    // 60 commands of 20 bytes
+    assert!(rt; written == 1204 && buf[..4] == [0x00, 0x00, 0x04, 0xB0]);
     assert!(rt; buf[4..14] == [0x00, 0x00, 0x00, 0x00, 0x00, 0x02, 0x00, 0x06, 0x00, 0x0A]);
 }

@@ -31,7 +31,7 @@ pub(super) enum Entry {
 }
 
 /// All commands, in the table's order.
-static ENTRIES: [Entry; 59] = [
+static ENTRIES: [Entry; 60] = [
     Entry::Named(Name::TestUnitReady),
     Entry::Named(Name::RequestSense),
     Entry::Named(Name::Inquiry),
@@ -91,6 +91,7 @@ static ENTRIES: [Entry; 59] = [
     Entry::ReserveOut(OutAction::Preempt),
     Entry::ReserveOut(OutAction::PreemptAndAbort),
     Entry::ReserveOut(OutAction::RegisterAndIgnoreExistingKey),
+    Entry::ReserveOut(OutAction::RegisterAndMove),
 ];
 
 impl Entry {
@@ -98,7 +99,7 @@ impl Entry {
     #[tactic(auto, unfolding(crate::specs::Table::AreEntries, crate::specs::Table::layouts_of))]
     pub(super) fn each() -> &'static [Entry]
         ensures entries { AreEntries result.now }
-        ensures count { length result.now ≡ 59 }
+        ensures count { length result.now ≡ 60 }
     {
         &ENTRIES
     }
@@ -111,6 +112,17 @@ impl Entry {
             Entry::Named(name) => row_named(name),
             Entry::ReserveIn(_) => &PERSISTENT_RESERVE_IN,
             Entry::ReserveOut(_) => &PERSISTENT_RESERVE_OUT,
+        }
+    }
+
+    /// The profile that the command belongs to.
+    fn profile(self) -> Profile
+        ensures { result ≡ (entry_layout self).profile }
+    {
+        match self {
+            Entry::Named(name) => row_named(name).profile,
+            Entry::ReserveIn(_) => PERSISTENT_RESERVE_IN.profile,
+            Entry::ReserveOut(action) => action.profile(),
         }
     }
 
@@ -144,7 +156,7 @@ impl Entry {
     pub(super) fn is_in(self, profile: Profile) -> bool
         ensures { result ≡ is_in (entry_layout self).profile profile }
     {
-        profile.has(self.row().profile)
+        profile.has(self.profile())
     }
 
     /// Returns `true` if a disk of a profile has the command and it has an operation code.

@@ -1,6 +1,8 @@
-// All service actions except REGISTER AND MOVE and REPLACE LOST RESERVATION: the disk has neither.
+// All service actions except REPLACE LOST RESERVATION, which no disk has.
 ghost use Rattle.std.specs.Prelude.{◌≡◌};
-ghost use Rattle.sg_wire.specs.ReservationAction.{out_action_with, out_code};
+ghost use Rattle.sg_wire.specs.ReservationAction.{out_action_with, out_code, out_profile};
+
+use crate::profile::Profile;
 
 /// A service action of PERSISTENT RESERVE OUT (SPC-4, 6.16), with its code.
 #[derive(Clone, Copy, Debug, PartialEq, Eq)]
@@ -19,14 +21,16 @@ pub enum OutAction {
     PreemptAndAbort = 0x05,
     /// REGISTER AND IGNORE EXISTING KEY.
     RegisterAndIgnoreExistingKey = 0x06,
+    /// REGISTER AND MOVE, on an extended disk.
+    RegisterAndMove = 0x07,
 }
 
 impl OutAction {
-    /// The service action with a code. None if no service action has the code.
-    pub fn with_code(code: u8) -> Option<OutAction>
-        ensures { result ≡ out_action_with code }
+    /// The service action with a code, on a disk of a profile. None if the disk has none with the code.
+    pub fn with_code(profile: Profile, code: u8) -> Option<OutAction>
+        ensures { result ≡ out_action_with profile code }
     {
-        Some(match code {
+        let action = match code {
             0x00 => OutAction::Register,
             0x01 => OutAction::Reserve,
             0x02 => OutAction::Release,
@@ -34,8 +38,24 @@ impl OutAction {
             0x04 => OutAction::Preempt,
             0x05 => OutAction::PreemptAndAbort,
             0x06 => OutAction::RegisterAndIgnoreExistingKey,
+            0x07 => OutAction::RegisterAndMove,
             _ => return None,
-        })
+        };
+        if profile.has(action.profile()) {
+            Some(action)
+        } else {
+            None
+        }
+    }
+
+    /// The profile that it belongs to.
+    pub fn profile(self) -> Profile
+        ensures { result ≡ out_profile self }
+    {
+        match self {
+            OutAction::RegisterAndMove => Profile::Extended,
+            _ => Profile::Base,
+        }
     }
 
     /// Its code.

@@ -9,6 +9,7 @@ use super::rows::{PERSISTENT_RESERVE_IN, PERSISTENT_RESERVE_OUT};
 use super::table::service_action;
 use super::{CdbFault, Command, InAction, OutAction};
 use crate::bytes::CdbBytes;
+use crate::profile::Profile;
 use byteorder::{BigEndian, ByteOrder};
 
 /// The fields of PERSISTENT RESERVE IN (SPC-4, 6.15).
@@ -35,7 +36,7 @@ pub struct PersistentReserveOut {
 
 #[tactic(auto, unfolding(crate::specs::Table::command_with, crate::specs::Table::fits_masks))]
 pub(super) fn decode_persistent_reserve_in(cdb: &[u8]) -> Result<Command, CdbFault>
-    ensures { result ≡ command_with 0x5E cdb.now }
+    ensures { result ≡ command_with Profile.Extended 0x5E cdb.now }
 {
     check_length(cdb, PERSISTENT_RESERVE_IN.masks.len())?;
     let action = InAction::with_code(service_action(cdb)).ok_or(CdbFault::Field(1))?;
@@ -47,11 +48,14 @@ pub(super) fn decode_persistent_reserve_in(cdb: &[u8]) -> Result<Command, CdbFau
 }
 
 #[tactic(auto, unfolding(crate::specs::Table::command_with, crate::specs::Table::fits_masks))]
-pub(super) fn decode_persistent_reserve_out(cdb: &[u8]) -> Result<Command, CdbFault>
-    ensures { result ≡ command_with 0x5F cdb.now }
+pub(super) fn decode_persistent_reserve_out(
+    profile: Profile,
+    cdb: &[u8],
+) -> Result<Command, CdbFault>
+    ensures { result ≡ command_with profile 0x5F cdb.now }
 {
     check_length(cdb, PERSISTENT_RESERVE_OUT.masks.len())?;
-    let action = OutAction::with_code(service_action(cdb)).ok_or(CdbFault::Field(1))?;
+    let action = OutAction::with_code(profile, service_action(cdb)).ok_or(CdbFault::Field(1))?;
     check_masks(PERSISTENT_RESERVE_OUT.masks, cdb)?;
     Ok(Command::PersistentReserveOut(PersistentReserveOut {
         action,

@@ -12,7 +12,7 @@ use Rattle.sg_wire.specs.declared.command.CdbFault.TheVariants.{Short}
 use Rattle.sg_wire.specs.declared.command.Command.{Command}
 use Rattle.sg_wire.specs.Laws.{cut_at, has_command}
 use Rattle.sg_wire.specs.declared.profile.Profile.{Profile}
-use Rattle.sg_wire.proofs.ProfileLemmas.{first_opcode, has-parts, has_row, rows-same}
+use Rattle.sg_wire.proofs.ProfileLemmas.{first_opcode, has-parts, has_row}
 use Rattle.sg_wire.proofs.laws.prefixes_are_refused.Goals as goal
 
 -- an operation code has a row in a profile
@@ -23,7 +23,7 @@ has_row_in : (profile : Profile) (command : Command) → has_command profile com
     → HasRow profile (layout command).opcode
 unfolding HasRow
 has_row_in profile command has =
-    ap first_opcode (rows-same profile command (has-parts profile command has).1) ∙ has_row command
+    has_row profile command (has-parts profile command has).1
 
 -- a CDB is refused as cut if it is shorter than the first row of its operation code says
 cut-by_rows : (profile : Profile) (cdb : List ℕ) (opcode : ℕ) (rows : List Layout)
