@@ -22,7 +22,7 @@ use sg_target::Happening;
 use sg_units::{Initiators, UnitAttention};
 use sg_wire::{
     Command, Extent10, GetLbaStatus, GroupNumber, Initiator, OutAction, PersistentReserveOut,
-    Unmap, WriteSame16,
+    Profile, TransportIds, Unmap, WriteSame16, transport_id,
 };
 use std::io;
 use std::process::ExitCode;
@@ -38,6 +38,9 @@ const EXTENT_LIST: usize = 24;
 
 /// The bytes of the parameter list of PERSISTENT RESERVE OUT.
 const KEY_LIST: usize = 24;
+
+/// The bytes of the parameter list of REGISTER AND MOVE (SPC-4, 6.16.4).
+const MOVE_LIST: usize = 48;
 
 /// What happens next.
 fn next_happening(random: &mut Random) -> Option<Happening> {
@@ -73,10 +76,7 @@ fn next_command(
             Some((unmap(random)?, EXTENT_LIST))
         }
         9 | 10 => Some((status(random, lba), 0)),
-        11 | 12 => {
-            list_keys(random, data_out);
-            Some((reserve_out(random)?, KEY_LIST))
-        }
+        11 | 12 => reserve_out(random, data_out),
         13..=15 => Some((read(lba, count), 0)),
         _ => next_extended(random, lba, count, data_out),
     }
@@ -121,12 +121,23 @@ fn status(random: &mut Random, lba: u32) -> Command {
     })
 }
 
-fn reserve_out(random: &mut Random) -> Option<Command> {
-    Some(Command::PersistentReserveOut(PersistentReserveOut {
-        action: OutAction::with_code(random.byte() % 7)?,
+/// PERSISTENT RESERVE OUT with its parameter list, and the list's length.
+fn reserve_out(random: &mut Random, list: &mut [u8; LONGEST_LIST]) -> Option<(Command, usize)> {
+    let action = OutAction::with_code(Profile::Extended, random.byte() % 8)?;
+    list_keys(random, list);
+    let length = match action {
+        OutAction::RegisterAndMove => {
+            list_move(random, list)?;
+            MOVE_LIST
+        }
+        _ => KEY_LIST,
+    };
+    let command = Command::PersistentReserveOut(PersistentReserveOut {
+        action,
         scope_type: random.byte() % 9,
-        list_length: KEY_LIST as u32,
-    }))
+        list_length: length as u32,
+    });
+    Some((command, length))
 }
 
 /// Writes the parameter list of UNMAP with one descriptor (SBC-3, 5.28.2).
@@ -145,6 +156,19 @@ fn list_keys(random: &mut Random, list: &mut [u8; LONGEST_LIST]) {
     list[15] = random.byte() % 3;
     // APTPL.
     list[20] = random.byte() % 2;
+}
+
+/// Writes the other fields of REGISTER AND MOVE behind the keys, with the TransportID of an initiator that
+/// sends commands (SPC-4, 6.16.4).
+fn list_move(random: &mut Random, list: &mut [u8; LONGEST_LIST]) -> Option<()> {
+    // UNREG and APTPL, RELATIVE TARGET PORT IDENTIFIER, and TRANSPORTID PARAMETER DATA LENGTH.
+    list[17] = random.byte() % 4;
+    list[19] = 1;
+    list[20] = 0;
+    list[23] = TransportIds::LENGTH as u8;
+    let target = transport_id(Initiator::new(random.byte() % 3)?);
+    list[KEY_LIST..MOVE_LIST].copy_from_slice(&target);
+    Some(())
 }
 
 /// Executes the commands, with happenings among them.

@@ -8,7 +8,8 @@ use Rattle.sg_wire.specs.declared.command.in_action.InAction.TheVariants.{Report
 use Rattle.sg_wire.specs.declared.command.in_action.InAction.TheVariants.{ReadFullStatus}
 use Rattle.sg_wire.specs.declared.command.out_action.OutAction.{OutAction}
 use Rattle.sg_wire.specs.declared.command.out_action.OutAction.TheVariants.{Register, Reserve, Release}
-use Rattle.sg_wire.specs.OutList.{has_transport_ids, has_whole_ids, list_length, out_list}
+use Rattle.sg_wire.specs.declared.command.out_action.OutAction.TheVariants.{RegisterAndMove}
+use Rattle.sg_wire.specs.OutList.{has_transport_ids, has_whole_ids, has_whole_move, list_length, list_of}
 use Rattle.sg_wire.specs.Profile.{rules_of}
 use Rattle.sg_wire.specs.declared.profile.Rules.{Rules}
 use Rattle.sg_units.specs.Raised.{raised_for_each}
@@ -64,6 +65,7 @@ bad_type rules action scope_type =
 abbrev pub out_refusal : OutFault → Refusal
 out_refusal out_fault.Conflict = Conflict
 out_refusal out_fault.NoRoom = CheckCondition InsufficientRegistrationResources
+out_refusal out_fault.NoReservation = CheckCondition (InvalidFieldInCdb 1)
 out_refusal out_fault.BadRelease = CheckCondition InvalidRelease
 out_refusal (out_fault.Field byte) = CheckCondition (InvalidFieldInParameterList byte)
 out_refusal out_fault.BadType = CheckCondition (InvalidFieldInCdb 2)
@@ -73,9 +75,10 @@ is_register Register = true
 is_register _ = false
 
 -- Without SPEC_I_PT only the fields are there. A list with SPEC_I_PT has any length if SPEC_I_PT is an
--- error of the list.
+-- error of the list. The list of REGISTER AND MOVE ends behind its TransportID.
 -- Departure (SPC-4, 6.16.3): 26h/00h for SPEC_I_PT in a longer list, on a base disk.
 abbrev pub has_list_length : Rules → OutAction → (list : List ℕ) → Bool
+has_list_length rules RegisterAndMove list = has_whole_move list
 has_list_length rules action list =
     nat_le list_length (length list)
     && (if rules.specifies_ports && has_transport_ids list
@@ -86,7 +89,7 @@ has_list_length rules action list =
 abbrev pub fields_out : Rules → OutAction → (list : List ℕ) → Result OutList Refusal
 fields_out rules action list =
     if has_list_length rules action list
-    then Ok (out_list list)
+    then Ok (list_of action list)
     else Err (CheckCondition ParameterListLengthError)
 
 -- The change that they ask for, or the refusal.

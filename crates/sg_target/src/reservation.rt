@@ -25,7 +25,10 @@ use sg_wire::{
     Cut, InAction, Initiator, OutAction, PersistentReserveIn, PersistentReserveOut, Rules,
 };
 
-/// Where SCOPE and TYPE are in the CDB of PERSISTENT RESERVE OUT.
+/// Where the service action is in the CDB of PERSISTENT RESERVE OUT.
+const SERVICE_ACTION_BYTE: u16 = 1;
+
+/// Where SCOPE and TYPE are.
 const SCOPE_TYPE_BYTE: u16 = 2;
 
 // ---- PERSISTENT RESERVE IN
@@ -91,6 +94,9 @@ impl From<OutFault> for Refusal {
             OutFault::NoRoom => {
                 Refusal::CheckCondition(Reason::InsufficientRegistrationResources)
             }
+            OutFault::NoReservation => Refusal::CheckCondition(Reason::InvalidFieldInCdb {
+                byte: SERVICE_ACTION_BYTE,
+            }),
             OutFault::BadRelease => Refusal::CheckCondition(Reason::InvalidRelease),
             OutFault::Field(byte) => Refusal::CheckCondition(Reason::InvalidFieldInParameterList {
                 byte,
@@ -117,6 +123,9 @@ fn always_needs_type(rules: Rules, action: OutAction) -> bool
 fn has_list_length(rules: Rules, action: OutAction, list: &[u8]) -> bool
     ensures { result ≡ has_list_length rules action list.now }
 {
+    if matches!(action, OutAction::RegisterAndMove) {
+        return OutList::has_whole_move(list);
+    }
     if list.len() < OutList::LENGTH {
         return false;
     }
@@ -153,7 +162,7 @@ pub(crate) fn check_reserve_out<'a>(
     Ok(Operation::ChangeReservations {
         action,
         scope_type,
-        list: OutList::read(list),
+        list: OutList::read(action, list),
     })
 }
 

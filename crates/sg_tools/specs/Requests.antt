@@ -278,6 +278,8 @@ sg_persist rows =
       spec_i_pt = false;
       all_tg_pt = false;
       aptpl = is_set (codes "param-aptpl") rows;
+      unreg = false;
+      port = 0;
       others = [];
     })))))
 

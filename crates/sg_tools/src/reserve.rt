@@ -36,6 +36,8 @@ pub(crate) fn sg_persist(options: &GivenOptions) -> Result<Tool, ToolFault>
         spec_i_pt: false,
         all_tg_pt: false,
         aptpl: options.is_set("param-aptpl"),
+        unreg: false,
+        port: 0,
         others: TransportIds::new(&[]),
     };
     reserve(as_out, &actions, type_code, list)

@@ -1,40 +1,27 @@
 -- Every service action of PERSISTENT RESERVE OUT leaves registrations and reservation consistent.
-use Rattle.std.proofs.Common.{◌≡◌, ◌≤◌, ◌+◌, ◌==◌, ℕ, Bool, true, false, cond, not, ◌&&◌, ◌||◌}
-use Rattle.std.proofs.Common.{List, [], ◌∷◌, length, filter, Option, Some, None, Ok, Err, refl}
+use Rattle.std.proofs.Common.{◌≡◌, ◌≤◌, ◌+◌, ◌==◌, ℕ, Bool, true, false, cond, ◌&&◌, ◌||◌}
+use Rattle.std.proofs.Common.{List, [], ◌∷◌, length, filter, Option, Some, None, refl}
 use Rattle.std.proofs.Common.{ap, ◌∙◌, arith}
 use Rattle.std.specs.Prelude.{if◌then◌else◌}
 use Rattle.std.specs.List.{fold, list_any}
-use Rattle.std.proofs.lemmas.Bool.{cond_both, false≢true, not-true, or_left, or_parts}
+use Rattle.std.proofs.lemmas.Bool.{cond_both, false≢true, or_left, or_parts}
 use Rattle.std.proofs.lemmas.Bool.Decides.{nat_tests}
 use Rattle.std.proofs.lemmas.List.{length-append}
 use Rattle.std.proofs.lemmas.List.Folds.{list_any-append}
 use Rattle.std.proofs.lemmas.List.Sums.{sum_by-cons, sum_by_push, length-filter, count_by-le-length}
-use Rattle.sg_units.specs.ReserveOut.{IsConsistentChange, Outcome, accepts_key, action_outcome}
-use Rattle.sg_units.specs.ReserveOut.{outcome}
-use Rattle.sg_units.specs.ReserveOut.{preempt_cases, register_cases, release_cases}
-use Rattle.sg_units.specs.ReserveOut.{register_together_cases, registered_together, registered_too}
-use Rattle.sg_units.specs.ReserveOut.{registration_by, reserve_cases, state_after}
+use Rattle.sg_units.specs.ReserveOut.{registered_too}
+use Rattle.sg_units.specs.ReserveOut.{registration_by}
 use Rattle.sg_units.specs.Registrations.{has_key, is_of, is_registered, is_registered_under}
 use Rattle.sg_units.specs.Registrations.{is_under}
 use Rattle.sg_units.specs.Registrations.{max_registrations, registrations_of, with_registration}
 use Rattle.sg_units.specs.Registrations.{with_replaced}
-use Rattle.sg_units.specs.ReservationType.{is_all_registrants, type_of}
-use Rattle.sg_units.specs.Reservations.{AreConsistent, IsConsistent, has_holder, holds}
+use Rattle.sg_units.specs.ReservationType.{is_all_registrants}
+use Rattle.sg_units.specs.Reservations.{AreConsistent, has_holder, holds}
 use Rattle.sg_units.specs.Reservations.{is_held_if_any, names_holder, names_holder_if_any, taken}
 use Rattle.sg_units.specs.Reservations.{while_held}
-use Rattle.sg_units.proofs.OutcomeLemmas.{EffectIs, FirstIs, and_false, case_or, choice}
-use Rattle.sg_units.proofs.OutcomeLemmas.{if-accepted, effective}
-use Rattle.sg_units.proofs.OutcomeLemmas.{last_case, refused, releasing, taking, typed}
-use Rattle.sg_wire.specs.declared.command.out_action.OutAction.{OutAction}
-use Rattle.sg_wire.specs.declared.command.out_action.OutAction.TheVariants.{Register, Reserve}
-use Rattle.sg_wire.specs.declared.command.out_action.OutAction.TheVariants.{Release, Clear, Preempt}
-use Rattle.sg_wire.specs.declared.command.out_action.OutAction.TheVariants.{PreemptAndAbort}
-use Rattle.sg_wire.specs.declared.command.out_action.OutAction.TheVariants.{RegisterAndIgnoreExistingKey}
 use Rattle.sg_wire.specs.declared.out_list.OutList.{OutList}
-use Rattle.sg_wire.specs.declared.profile.Rules.{Rules}
 use Rattle.sg_units.specs.declared.registrations.Registration.{Registration}
 use Rattle.sg_units.specs.declared.reservation.Reservation.{Reservation}
-use Rattle.sg_units.specs.declared.reservation_state.ReservationState.{ReservationState}
 use Rattle.sg_units.specs.declared.types.ReservationType.{ReservationType}
 
 -- ---- How often an initiator is registered
@@ -51,7 +38,7 @@ kept r rs ys i true h =
 kept r rs ys i false h = omega (arith, registrations_of-cons r rs i)
 
 -- a filter keeps no more registrations
-registrations_of-filter : (p : Registration → Bool) (rs : List Registration) (i : ℕ)
+pub registrations_of-filter : (p : Registration → Bool) (rs : List Registration) (i : ℕ)
     → registrations_of (filter p rs) i ≤ registrations_of rs i
 registrations_of-filter p [] i = omega arith
 registrations_of-filter p (r ∷ rs) i =
@@ -79,7 +66,7 @@ same_initiator : (r new : Registration) (b : Bool) → (r.initiator == new.initi
 same_initiator r new true h = grind (arith, nat_tests)
 same_initiator r new false h = refl
 
-registrations_of-replaced : (rs : List Registration) (new : Registration) (j : ℕ)
+pub registrations_of-replaced : (rs : List Registration) (new : Registration) (j : ℕ)
     → registrations_of (with_replaced rs new) j ≡ registrations_of rs j
 registrations_of-replaced [] new j = refl
 registrations_of-replaced (r ∷ rs) new j =
@@ -95,18 +82,18 @@ registrations_of-replaced (r ∷ rs) new j =
       rest,
     )
 
-length-replaced : (rs : List Registration) (new : Registration)
+pub length-replaced : (rs : List Registration) (new : Registration)
     → length (with_replaced rs new) ≡ length rs
 length-replaced [] new = refl
 length-replaced (r ∷ rs) new = omega (arith, length-replaced rs new)
 
-length-filter-le : (p : Registration → Bool) (rs : List Registration)
+pub length-filter-le : (p : Registration → Bool) (rs : List Registration)
     → length (filter p rs) ≤ length rs
 length-filter-le p rs = omega (arith, length-filter p rs, count_by-le-length p rs)
 
 -- ---- Holders
 
-has_holder-replaced : (reservation : Reservation) (rs : List Registration) (new : Registration)
+pub has_holder-replaced : (reservation : Reservation) (rs : List Registration) (new : Registration)
     → has_holder reservation (with_replaced rs new) ≡ has_holder reservation rs
 has_holder-replaced reservation [] new = refl
 has_holder-replaced reservation (r ∷ rs) new =
@@ -114,7 +101,7 @@ has_holder-replaced reservation (r ∷ rs) new =
     (same_initiator r new (is_of new.initiator r) refl)
     ∙ ap (λ b. holds reservation r.initiator || b) (has_holder-replaced reservation rs new)
 
-held-replaced : (held : Option Reservation) (rs : List Registration) (new : Registration)
+pub held-replaced : (held : Option Reservation) (rs : List Registration) (new : Registration)
     → is_held_if_any held rs ≡ true → is_held_if_any held (with_replaced rs new) ≡ true
 held-replaced None rs new h = refl
 held-replaced (Some reservation) rs new h = has_holder-replaced reservation rs new ∙ h
@@ -133,7 +120,7 @@ held_if : (reservation : Reservation) (rest : List Registration) (b : Bool)
 held_if reservation rest true h = h
 held_if reservation rest false h = refl
 
-held-while_held : (held : Option Reservation) (rest : List Registration)
+pub held-while_held : (held : Option Reservation) (rest : List Registration)
     → is_held_if_any (while_held held rest) rest ≡ true
 held-while_held None rest = refl
 held-while_held (Some reservation) rest =
@@ -144,7 +131,7 @@ named_if : (reservation : Reservation) (b : Bool) → names_holder_if_any (Some 
 named_if reservation true h = h
 named_if reservation false h = refl
 
-named-while_held : (held : Option Reservation) (rest : List Registration)
+pub named-while_held : (held : Option Reservation) (rest : List Registration)
     → names_holder_if_any held ≡ true → names_holder_if_any (while_held held rest) ≡ true
 named-while_held None rest h = refl
 named-while_held (Some reservation) rest h = named_if reservation (has_holder reservation rest) h
@@ -162,7 +149,7 @@ taken_if : (type : ReservationType) (all_registrants : Bool) (rs : List Registra
 taken_if type true rs i h = anybody rs i h
 taken_if type false rs i h = h
 
-has_holder-taken : (type : ReservationType) (rs : List Registration) (i : ℕ)
+pub has_holder-taken : (type : ReservationType) (rs : List Registration) (i : ℕ)
     → is_registered rs i ≡ true → has_holder (taken type i) rs ≡ true
 has_holder-taken type rs i h = taken_if type (is_all_registrants type) rs i h
 
@@ -171,7 +158,7 @@ named_taken_if : (all_registrants : Bool) (i : ℕ)
 named_taken_if true i = refl
 named_taken_if false i = refl
 
-named-taken : (type : ReservationType) (i : ℕ) → names_holder_if_any (Some (taken type i)) ≡ true
+pub named-taken : (type : ReservationType) (i : ℕ) → names_holder_if_any (Some (taken type i)) ≡ true
 named-taken type i = named_taken_if (is_all_registrants type) i
 
 -- ---- Who stays registered
@@ -194,7 +181,7 @@ filtered_first : (r : Registration) (i : ℕ) (kept : Bool) (ys : List Registrat
 filtered_first r i true ys was f g h = grind arith
 filtered_first r i false ys was f g h = grind arith
 
-is_registered-filter : (p : Registration → Bool) (i : ℕ)
+pub is_registered-filter : (p : Registration → Bool) (i : ℕ)
     → ((r : Registration) → is_of i r ≡ true → p r ≡ true) → (rs : List Registration)
     → is_registered rs i ≡ true → is_registered (filter p rs) i ≡ true
 is_registered-filter p i f [] h = absurd (false≢true h)
@@ -210,7 +197,7 @@ key-filtered : (key : ℕ) (r : Registration) (keep : Bool) (rest : List Registr
 key-filtered key r true rest e h = rw (e, h) refl
 key-filtered key r false rest e h = h
 
-has_key-filter : (p : Registration → Bool) (rs : List Registration) (key : ℕ)
+pub has_key-filter : (p : Registration → Bool) (rs : List Registration) (key : ℕ)
     → has_key rs key ≡ false → has_key (filter p rs) key ≡ false
 has_key-filter p [] key h = refl
 has_key-filter p (r ∷ rs) key h =
@@ -222,7 +209,7 @@ key-replaced : (r new : Registration) (is_own : Bool) → is_under 0 new ≡ fal
 key-replaced r new true e h = e
 key-replaced r new false e h = h
 
-has_key-replaced : (rs : List Registration) (new : Registration) → is_under 0 new ≡ false
+pub has_key-replaced : (rs : List Registration) (new : Registration) → is_under 0 new ≡ false
     → has_key rs 0 ≡ false → has_key (with_replaced rs new) 0 ≡ false
 has_key-replaced [] new e h = refl
 has_key-replaced (r ∷ rs) new e h =
@@ -238,7 +225,7 @@ has_key-push (r ∷ rs) new e h =
 
 -- ---- What is consistent
 
-consistent-filter : (p : Registration → Bool) (rs : List Registration)
+pub consistent-filter : (p : Registration → Bool) (rs : List Registration)
     (held new : Option Reservation) → AreConsistent rs held
     → is_held_if_any new (filter p rs) ≡ true → names_holder_if_any new ≡ true
     → AreConsistent (filter p rs) new
@@ -250,7 +237,7 @@ consistent-filter p rs held new h k n = record {
   holder = n;
 }
 
-consistent-replaced : (rs : List Registration) (held : Option Reservation) (new : Registration)
+pub consistent-replaced : (rs : List Registration) (held : Option Reservation) (new : Registration)
     → is_under 0 new ≡ false → AreConsistent rs held → AreConsistent (with_replaced rs new) held
 consistent-replaced rs held new e h = record {
   one_each = λ j. omega (arith, h.one_each j, registrations_of-replaced rs new j);
@@ -271,7 +258,7 @@ pub record IsNearlyConsistent (rs : List Registration) (reservation : Option Res
   pub held : is_held_if_any reservation rs ≡ true
   pub holder : names_holder_if_any reservation ≡ true
 
-nearly-push : (rs : List Registration) (held : Option Reservation) (new : Registration)
+pub nearly-push : (rs : List Registration) (held : Option Reservation) (new : Registration)
     → is_registered rs new.initiator ≡ false → is_under 0 new ≡ false
     → IsNearlyConsistent rs held → IsNearlyConsistent (with_registration rs new) held
 nearly-push rs held new unknown e h = record {
@@ -281,7 +268,7 @@ nearly-push rs held new unknown e h = record {
   holder = h.holder;
 }
 
-nearly : (rs : List Registration) (held : Option Reservation) → AreConsistent rs held
+pub nearly : (rs : List Registration) (held : Option Reservation) → AreConsistent rs held
     → IsNearlyConsistent rs held
 nearly rs held h = record {
   one_each = h.one_each;
@@ -290,7 +277,7 @@ nearly rs held h = record {
   holder = h.holder;
 }
 
-consistent-within : (rs : List Registration) (held : Option Reservation) → IsNearlyConsistent rs held
+pub consistent-within : (rs : List Registration) (held : Option Reservation) → IsNearlyConsistent rs held
     → length rs ≤ max_registrations → AreConsistent rs held
 consistent-within rs held h room = record {
   one_each = h.one_each;
@@ -300,7 +287,7 @@ consistent-within rs held h room = record {
   holder = h.holder;
 }
 
-consistent-push : (rs : List Registration) (held : Option Reservation) (new : Registration)
+pub consistent-push : (rs : List Registration) (held : Option Reservation) (new : Registration)
     → is_registered rs new.initiator ≡ false → (length rs == max_registrations) ≡ false
     → is_under 0 new ≡ false → AreConsistent rs held → AreConsistent (with_registration rs new) held
 consistent-push rs held new unknown room e h =
@@ -318,14 +305,14 @@ nearly-too held list rs (Some i) e h =
     (λ all. IsNearlyConsistent all held) (λ _. h)
     (λ unknown. nearly-push rs held (registration_by list i) unknown e h)
 
-nearly-each : (held : Option Reservation) (list : OutList) (named : List (Option ℕ))
+pub nearly-each : (held : Option Reservation) (list : OutList) (named : List (Option ℕ))
     (rs : List Registration) → (list.service_action_key == 0) ≡ false → IsNearlyConsistent rs held
     → IsNearlyConsistent (fold (registered_too list) rs named) held
 nearly-each held list [] rs e h = h
 nearly-each held list (one ∷ named) rs e h =
     nearly-each held list named (registered_too list rs one) e (nearly-too held list rs one e h)
 
-consistent-held : (rs : List Registration) (held new : Option Reservation) → AreConsistent rs held
+pub consistent-held : (rs : List Registration) (held new : Option Reservation) → AreConsistent rs held
     → is_held_if_any new rs ≡ true → names_holder_if_any new ≡ true → AreConsistent rs new
 consistent-held rs held new h k n =
     record {
@@ -344,129 +331,3 @@ consistent-none = record {
   held = refl;
   holder = refl;
 }
-
--- ---- Outcomes
-
-consistent-register : (state : ReservationState) (i : ℕ) (list : OutList) → IsConsistent state
-    → FirstIs (EffectIs IsConsistentChange) (register_cases state i list)
-unfolding register_cases
-consistent-register state i list h =
-    let all = state.registrations in
-    let held = state.reservation in
-    let own = registration_by list i in
-    let others = λ (r : Registration). not (is_of i r) in
-    case_or (EffectIs IsConsistentChange) _ _ (λ _. effective IsConsistentChange _ h)
-    (λ zero. case_or (EffectIs IsConsistentChange) _ _ (λ _. refused IsConsistentChange _)
-    (λ full. case_or (EffectIs IsConsistentChange) _ _
-    (λ new. effective IsConsistentChange _
-    (consistent-push all held own (not-true _ new) (and_false _ _ new full) (and_false _ _ new zero) h))
-    (λ _. case_or (EffectIs IsConsistentChange) _ _
-    (λ other. effective IsConsistentChange _ (consistent-replaced all held own (not-true _ other) h))
-    (λ _. last_case (EffectIs IsConsistentChange) _ _ refl
-    (effective IsConsistentChange _
-    (consistent-filter others all held _ h (held-while_held held _)
-    (named-while_held held _ h.holder)))))))
-
-consistent-together : (state : ReservationState) (i : ℕ) (list : OutList) → IsConsistent state
-    → FirstIs (EffectIs IsConsistentChange) (register_together_cases state i list)
-unfolding register_together_cases registered_together
-consistent-together state i list h =
-    let all = state.registrations in
-    let held = state.reservation in
-    let together = registered_together all i list in
-    case_or (EffectIs IsConsistentChange) _ _ (λ _. refused IsConsistentChange _)
-    (λ own. case_or (EffectIs IsConsistentChange) _ _ (λ _. refused IsConsistentChange _)
-    (λ _. case_or (EffectIs IsConsistentChange) _ _ (λ _. refused IsConsistentChange _)
-    (λ room. last_case (EffectIs IsConsistentChange) _ _ refl
-    (effective IsConsistentChange _
-    (consistent-within together held
-    (nearly-each held list (Some i ∷ list.others) all (or_parts _ _ own).1 (nearly all held h))
-    (grind (arith, nat_tests)))))))
-
-consistent-reserve : (state : ReservationState) (i : ℕ) (type : ReservationType)
-    → is_registered state.registrations i ≡ true → IsConsistent state
-    → FirstIs (EffectIs IsConsistentChange) (reserve_cases state i type)
-unfolding reserve_cases
-consistent-reserve state i type here h =
-    let all = state.registrations in
-    case_or (EffectIs IsConsistentChange) _ _
-    (λ _. effective IsConsistentChange _
-    (consistent-held all state.reservation _ h (has_holder-taken type all i here)
-    (named-taken type i)))
-    (λ _. case_or (EffectIs IsConsistentChange) _ _ (λ _. effective IsConsistentChange _ h)
-    (λ _. last_case (EffectIs IsConsistentChange) _ _ refl (refused IsConsistentChange _)))
-
-consistent-release : (state : ReservationState) (i : ℕ) (type : ReservationType)
-    → IsConsistent state → FirstIs (EffectIs IsConsistentChange) (release_cases state i type)
-unfolding release_cases
-consistent-release state i type h =
-    let all = state.registrations in
-    case_or (EffectIs IsConsistentChange) _ _ (λ _. effective IsConsistentChange _ h)
-    (λ _. case_or (EffectIs IsConsistentChange) _ _ (λ _. refused IsConsistentChange _)
-    (λ _. last_case (EffectIs IsConsistentChange) _ _ refl
-    (effective IsConsistentChange _ (consistent-held all state.reservation None h refl refl))))
-
-consistent-preempt : (rules : Rules) (state : ReservationState) (i : ℕ) (type : Option ReservationType)
-    (sark : ℕ) → is_registered state.registrations i ≡ true → IsConsistent state
-    → FirstIs (EffectIs IsConsistentChange) (preempt_cases rules state i type sark)
-unfolding preempt_cases
-consistent-preempt rules state i type sark here h =
-    let all = state.registrations in
-    let held = state.reservation in
-    let others = λ (r : Registration). not (is_under sark r) in
-    let stay = λ (r : Registration). is_of i r || not (is_under sark r) in
-    let stays =
-    is_registered-filter stay i (λ r e. or_left (is_of i r) (not (is_under sark r)) e) all here in
-    let alone = is_registered-filter (is_of i) i (λ r e. e) all here in
-    case_or (EffectIs IsConsistentChange) _ _ (λ _. refused IsConsistentChange _)
-    (λ _. case_or (EffectIs IsConsistentChange) _ _ (λ _. refused IsConsistentChange _)
-    (λ _. case_or (EffectIs IsConsistentChange) _ _
-    (λ _. taking IsConsistentChange held i type _
-    (λ type. effective IsConsistentChange _
-    (consistent-filter stay all held _ h (has_holder-taken type _ i stays) (named-taken type i))))
-    (λ _. case_or (EffectIs IsConsistentChange) _ _
-    (λ _. taking IsConsistentChange held i type _
-    (λ type. effective IsConsistentChange _
-    (consistent-filter (is_of i) all held _ h (has_holder-taken type _ i alone)
-    (named-taken type i))))
-    (λ _. case_or (EffectIs IsConsistentChange) _ _ (λ _. refused IsConsistentChange _)
-    (λ _. last_case (EffectIs IsConsistentChange) _ _ refl
-    (effective IsConsistentChange _
-    (consistent-filter others all held _ h (held-while_held held _)
-    (named-while_held held _ h.holder))))))))
-
--- a caller whose key is accepted is registered, unless it registers
-consistent-action : (rules : Rules) (state : ReservationState) (i : ℕ) (action : OutAction)
-    (type : Option ReservationType) (list : OutList)
-    → accepts_key state.registrations i action list.reservation_key ≡ true → IsConsistent state
-    → EffectIs IsConsistentChange (action_outcome rules state i action type list)
-consistent-action rules state i Register type list a h =
-    choice (EffectIs IsConsistentChange) list.spec_i_pt _ _
-    (λ _. (consistent-together state i list h).first) (λ _. (consistent-register state i list h).first)
-consistent-action rules state i Reserve type list a h =
-    let here = is_registered-under state.registrations i list.reservation_key a in
-    typed IsConsistentChange type _ (λ type. (consistent-reserve state i type here h).first)
-consistent-action rules state i Release type list a h =
-    releasing IsConsistentChange rules state i type h (λ type. consistent-release state i type h)
-consistent-action rules state i Clear type list a h =
-    effective IsConsistentChange _ consistent-none
-consistent-action rules state i Preempt type list a h =
-    let here = is_registered-under state.registrations i list.reservation_key a in
-    (consistent-preempt rules state i type list.service_action_key here h).first
-consistent-action rules state i PreemptAndAbort type list a h =
-    let here = is_registered-under state.registrations i list.reservation_key a in
-    (consistent-preempt rules state i type list.service_action_key here h).first
-consistent-action rules state i RegisterAndIgnoreExistingKey type list a h =
-    (consistent-register state i list h).first
-
-pub consistent-outcome : (rules : Rules) (state : ReservationState) (i : ℕ) (action : OutAction)
-    (scope_type : ℕ) (list : OutList) → IsConsistent state
-    → EffectIs IsConsistentChange (outcome rules state i action scope_type list)
-consistent-outcome rules state i action scope_type list h =
-    if-accepted IsConsistentChange rules state i action scope_type list
-    (λ accepted. consistent-action rules state i action (type_of scope_type) list accepted h)
-
-pub consistent-state_after : (state : ReservationState) (o : Outcome) → IsConsistent state
-    → EffectIs IsConsistentChange o → IsConsistent (state_after state o)
-consistent-state_after state (Ok change) h k = k.shown change refl
-consistent-state_after state (Err fault) h k = h

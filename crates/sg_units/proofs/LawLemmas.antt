@@ -12,7 +12,7 @@ use Rattle.sg_wire.specs.declared.command.Class.TheVariants.{Always, Reads, Writ
 use Rattle.sg_units.specs.Access.{access_of, allowed, allows, highest_class, is_within, standing_of}
 use Rattle.sg_units.specs.Laws.{CountsChanges, HasOneHolder, IsHeldByAll, IsRefused}
 use Rattle.sg_units.specs.ReserveOut.{Outcome, action_outcome, generation_after, outcome}
-use Rattle.sg_units.specs.ReserveOut.{preempt_cases, register_cases, register_together_cases}
+use Rattle.sg_units.specs.ReserveOut.{move_cases, preempt_cases, register_cases, register_together_cases}
 use Rattle.sg_units.specs.ReserveOut.{release_cases}
 use Rattle.sg_units.specs.ReserveOut.{reserve_cases, state_after, unchanged}
 use Rattle.sg_units.specs.Registrations.{is_of, is_registered, is_registered_under, is_under}
@@ -30,6 +30,7 @@ use Rattle.sg_wire.specs.declared.command.out_action.OutAction.TheVariants.{Regi
 use Rattle.sg_wire.specs.declared.command.out_action.OutAction.TheVariants.{Release, Clear, Preempt}
 use Rattle.sg_wire.specs.declared.command.out_action.OutAction.TheVariants.{PreemptAndAbort}
 use Rattle.sg_wire.specs.declared.command.out_action.OutAction.TheVariants.{RegisterAndIgnoreExistingKey}
+use Rattle.sg_wire.specs.declared.command.out_action.OutAction.TheVariants.{RegisterAndMove}
 use Rattle.sg_wire.specs.declared.out_list.OutList.{OutList}
 use Rattle.sg_wire.specs.declared.profile.Rules.{Rules}
 use Rattle.sg_units.specs.declared.registrations.Registration.{Registration}
@@ -322,6 +323,20 @@ counted-together state i list =
     (λ _. case_or (EffectIs P) _ _ (λ _. refused P _)
     (λ _. last_case (EffectIs P) _ _ refl (counts state _ refl))))
 
+counted-move : (state : ReservationState) (i : ℕ) (list : OutList)
+    → FirstIs (EffectIs (Counted state)) (move_cases state i list)
+unfolding move_cases
+counted-move state i list =
+    let P = Counted state in
+    case_or (EffectIs P) _ _ (λ _. refused P _)
+    (λ _. case_or (EffectIs P) _ _ (λ _. refused P _)
+    (λ _. case_or (EffectIs P) _ _ (λ _. refused P _)
+    (λ _. case_or (EffectIs P) _ _ (λ _. refused P _)
+    (λ _. case_or (EffectIs P) _ _ (λ _. refused P _)
+    (λ _. case_or (EffectIs P) _ _ (λ _. refused P _)
+    (λ _. case_or (EffectIs P) _ _ (λ _. refused P _)
+    (λ _. last_case (EffectIs P) _ _ refl (counts state _ refl))))))))
+
 counted-reserve : (state : ReservationState) (i : ℕ) (type : ReservationType)
     → FirstIs (EffectIs (Counted state)) (reserve_cases state i type)
 unfolding reserve_cases
@@ -370,6 +385,7 @@ counted-action rules state i PreemptAndAbort type list =
     (counted-preempt rules state i type list.service_action_key).first
 counted-action rules state i RegisterAndIgnoreExistingKey type list =
     (counted-register state i list).first
+counted-action rules state i RegisterAndMove type list = (counted-move state i list).first
 
 counted-outcome : (rules : Rules) (state : ReservationState) (i : ℕ) (action : OutAction)
     (scope_type : ℕ) (list : OutList)

@@ -8,6 +8,8 @@ pub mod LengthLemmas
 pub mod OutcomeLemmas
 pub mod ConsistencyLemmas
 pub mod TogetherLemmas
+pub mod MoveLemmas
+pub mod ConsistentChangeLemmas
 -- Power cycles, and the laws.
 pub mod PowerLemmas
 pub mod RestoredLemmas

@@ -3,11 +3,13 @@ use Rattle.std.specs.Prelude.{ℕ, ◌+◌, ◌%◌, ◌^◌, ◌==◌, nat_lt, 
 use Rattle.std.specs.Prelude.{if◌then◌else◌, List, [], ◌∷◌, length, map, Result, Ok, Err}
 use Rattle.std.specs.Prelude.{Option, Some, None, is_some, is_none, unwrap_or}
 use Rattle.std.specs.List.{fold, range_with_len}
-use Rattle.std.specs.Option.{option_map_or}
+use Rattle.std.specs.Option.{option_map, option_map_or}
 use Rattle.sg_wire.specs.Initiator.{initiator_count}
 use Rattle.sg_wire.specs.declared.profile.Rules.{Rules}
 use Rattle.sg_units.specs.UnsupportedFlags.{has_unsupported_flag}
-use Rattle.sg_wire.specs.OutList.{flags_at, service_action_key_at, transport_ids_at}
+use Rattle.sg_wire.specs.OutList.{flags_at, moved_to_at, moved_to_length_at, port_at}
+use Rattle.sg_wire.specs.OutList.{service_action_key_at, transport_ids_at}
+use Rattle.sg_wire.specs.TargetPort.{relative_target_port}
 use Rattle.sg_wire.specs.TransportId.{transport_id_length}
 use Rattle.sg_units.specs.Raised.{Conditions}
 use Rattle.sg_units.specs.Registrations.{has_key, is_registered, is_registered_under, max_registrations}
@@ -23,9 +25,10 @@ use Rattle.sg_wire.specs.declared.command.out_action.OutAction.TheVariants.{Regi
 use Rattle.sg_wire.specs.declared.command.out_action.OutAction.TheVariants.{Release, Clear, Preempt}
 use Rattle.sg_wire.specs.declared.command.out_action.OutAction.TheVariants.{PreemptAndAbort}
 use Rattle.sg_wire.specs.declared.command.out_action.OutAction.TheVariants.{RegisterAndIgnoreExistingKey}
+use Rattle.sg_wire.specs.declared.command.out_action.OutAction.TheVariants.{RegisterAndMove}
 use Rattle.sg_units.specs.declared.out_fault.OutFault.{OutFault}
 use Rattle.sg_units.specs.declared.out_fault.OutFault.TheVariants.{Conflict}
-use Rattle.sg_units.specs.declared.out_fault.OutFault.TheVariants.{NoRoom}
+use Rattle.sg_units.specs.declared.out_fault.OutFault.TheVariants.{NoReservation, NoRoom}
 use Rattle.sg_units.specs.declared.out_fault.OutFault.TheVariants.{BadRelease, Field}
 use Rattle.sg_units.specs.declared.out_fault.OutFault.TheVariants.{BadType}
 use Rattle.sg_wire.specs.declared.out_list.OutList.{OutList}
@@ -161,6 +164,50 @@ register_together_cases state caller list =
     ∷ otherwise (Ok (registering state registrations list.aptpl))
     ∷ []
 
+-- A reservation has one holder.
+abbrev pub has_one_holder : Option Reservation → Bool
+has_one_holder held = option_map_or (λ (r : Reservation). is_some r.holder) held false
+
+-- The initiator that the one TransportID of a list names. None if the disk has no such initiator, or if
+-- the list does not have one TransportID.
+abbrev pub moved_to : (others : List (Option ℕ)) → Option ℕ
+moved_to (named ∷ []) = named
+moved_to others = None
+
+-- With UNREG the caller is not registered any more. The initiator that the list names is registered
+-- under its SARK, in whichever way it was registered before.
+-- Choice (SPC-4, 5.13, registering and moving the reservation): a registrant may keep its key.
+abbrev pub with_moved : List Registration → (caller target : ℕ) → OutList → List Registration
+with_moved all caller target list =
+    let left = if list.unreg then without_initiator all caller else all in
+    let new = registration_by list target in
+    if is_registered left target then with_replaced left new else with_registration left new
+
+-- From then on it holds the reservation, whose type stays.
+abbrev pub moved : Option Reservation → (target : ℕ) → Option Reservation
+moved held target = option_map (λ (r : Reservation). record r { holder = Some target }) held
+
+-- REGISTER AND MOVE (SPC-4, 5.13, registering and moving the reservation): the one holder registers another
+-- initiator, which holds the reservation from then on. SCOPE and TYPE do not matter. An initiator that
+-- the disk does not have is refused as the caller itself is.
+-- Choice (SPC-4, 5.13, registering and moving the reservation): the order of the faults of a list.
+unfoldable pub move_cases : ReservationState → (caller : ℕ) → OutList → List Case
+move_cases state caller list =
+    let held = state.reservation in
+    let target = unwrap_or (moved_to list.others) caller in
+    let registrations = with_moved state.registrations caller target list in
+    when (is_none held) (Err NoReservation)
+    ∷ when (not (has_one_holder held && is_holder state caller)) (Err Conflict)
+    ∷ when (list.service_action_key == 0) (Err (Field service_action_key_at))
+    ∷ when (not (list.port == relative_target_port)) (Err (Field port_at))
+    ∷ when (length list.others == 0) (Err (Field moved_to_length_at))
+    ∷ when (target == caller) (Err (Field moved_to_at))
+    ∷ when (nat_lt max_registrations (length registrations)) (Err NoRoom)
+    ∷ otherwise (Ok (record (registering state registrations list.aptpl) {
+      reservation = moved held target;
+    }))
+    ∷ []
+
 -- RESERVE (SPC-4, 5.13, reserving).
 unfoldable pub reserve_cases : ReservationState → (caller : ℕ) → ReservationType → List Case
 reserve_cases state caller type =
@@ -225,10 +272,7 @@ registrations_preempted held rest = Ok (record {
   aptpl = None;
 })
 
--- A reservation has one holder; each registrant holds it; a key is the key of its one holder.
-abbrev pub has_one_holder : Option Reservation → Bool
-has_one_holder held = option_map_or (λ (r : Reservation). is_some r.holder) held false
-
+-- Each registrant holds a reservation; a key is the key of its one holder.
 abbrev pub is_held_by_all : Option Reservation → Bool
 is_held_by_all held = option_map_or (λ (r : Reservation). is_none r.holder) held false
 
@@ -275,6 +319,7 @@ action_outcome rules state i PreemptAndAbort type list =
     first_case (preempt_cases rules state i type list.service_action_key)
 action_outcome rules state i RegisterAndIgnoreExistingKey type list =
     first_case (register_cases state i list)
+action_outcome rules state i RegisterAndMove type list = first_case (move_cases state i list)
 
 -- The RESERVATION KEY has to be the caller's. To register for the first time it has to be 0, and
 -- REGISTER AND IGNORE EXISTING KEY ignores it.

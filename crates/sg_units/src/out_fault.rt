@@ -9,6 +9,9 @@ pub enum OutFault {
     /// INSUFFICIENT REGISTRATION RESOURCES, 55h/04h.
     #[error("there is no room for another registration")]
     NoRoom,
+    /// INVALID FIELD IN CDB, 24h/00h, at byte 1: the service action needs a reservation.
+    #[error("no reservation is held")]
+    NoReservation,
     /// INVALID RELEASE OF PERSISTENT RESERVATION, 26h/04h.
     #[error("the reservation that is held has another type")]
     BadRelease,

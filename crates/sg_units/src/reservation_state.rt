@@ -6,6 +6,7 @@ mod persistent_reserve_out;
 mod preempt;
 mod read_full_status;
 mod register;
+mod register_and_move;
 mod register_together;
 mod reserve;
 

@@ -45,7 +45,8 @@ impl ReservationState {
             | OutAction::Release
             | OutAction::Clear
             | OutAction::Preempt
-            | OutAction::PreemptAndAbort => self.registrations.has_under(caller, key),
+            | OutAction::PreemptAndAbort
+            | OutAction::RegisterAndMove => self.registrations.has_under(caller, key),
         }
     }
 
@@ -71,6 +72,7 @@ impl ReservationState {
             OutAction::Preempt | OutAction::PreemptAndAbort => {
                 self.preempt(rules, caller, kind, list.service_action_key)
             }
+            OutAction::RegisterAndMove => self.register_and_move(caller, list),
         }
     }
 }
@@ -88,6 +90,7 @@ fn has_unsupported_flag(rules: Rules, list: &OutList, action: OutAction) -> bool
         | OutAction::Release
         | OutAction::Clear
         | OutAction::Preempt
-        | OutAction::PreemptAndAbort => list.spec_i_pt,
+        | OutAction::PreemptAndAbort
+        | OutAction::RegisterAndMove => list.spec_i_pt,
     }
 }

@@ -21,7 +21,7 @@ const FULL_STATUS_LENGTH: usize = 48;
 pub const LONGEST_RESERVE_IN_DATA: usize = 8 + FULL_STATUS_LENGTH * MAX_REGISTRATIONS;
 
 /// RELATIVE TARGET PORT IDENTIFIER of the one port of the disk.
-const RELATIVE_TARGET_PORT: u16 = 1;
+pub(super) const RELATIVE_TARGET_PORT: u16 = 1;
 
 /// ALL_TG_PT: the registration is for every target port.
 const ALL_TG_PT: u8 = 0x02;

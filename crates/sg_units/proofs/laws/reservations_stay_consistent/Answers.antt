@@ -1,4 +1,4 @@
-use Rattle.sg_units.proofs.ConsistencyLemmas.{consistent-outcome}
+use Rattle.sg_units.proofs.ConsistentChangeLemmas.{consistent-outcome}
 use Rattle.sg_units.proofs.PowerLemmas.{consistent-power_on}
 use Rattle.sg_units.proofs.laws.reservations_stay_consistent.Goals as goal
 

@@ -1,5 +1,5 @@
 use Rattle.sg_units.specs.ReserveOut.{IsConsistentChange}
-use Rattle.sg_units.proofs.ConsistencyLemmas.{consistent-outcome}
+use Rattle.sg_units.proofs.ConsistentChangeLemmas.{consistent-outcome}
 use Rattle.sg_units.proofs.OutcomeLemmas.{if-ok}
 use Rattle.sg_units.proofs.reservations.Reservations.change.Goals as goal
 
