@@ -6,7 +6,7 @@ use Rattle.sg_wire.specs.CdbDecoding.{command_of}
 use Rattle.sg_wire.specs.Laws.{CommandsHaveTheirClass}
 use Rattle.sg_units.specs.Laws.{OneKeyEach, OthersAreRefused}
 use Rattle.sg_wire.specs.FirstBytes.{first_bytes}
-use Rattle.sg_wire.specs.OutList.{out_list}
+use Rattle.sg_wire.specs.OutList.{list_of as out_list_of}
 use Rattle.sg_wire.specs.Profile.{rules_of}
 use Rattle.sg_target.specs.ReservationCommands.{has_list_length}
 use Rattle.sg_wire.specs.declared.command.CdbFault.{CdbFault}
@@ -112,7 +112,7 @@ whole config (PersistentReserveOut c) data_out operation e key h n =
     let list = first_bytes c.list_length data_out in
     subst (λ (o : Operation). first_blocks n o ≡ o)
     (listed c.action c.scope_type (has_list_length (rules_of config.identity.profile) c.action list)
-    (out_list list)
+    (out_list_of c.action list)
     (CheckCondition ParameterListLengthError) operation e)
     refl
 whole config _ data_out operation e key h n = cc

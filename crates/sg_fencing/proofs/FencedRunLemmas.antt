@@ -4,6 +4,9 @@ use Rattle.std.proofs.Common.{map}
 use Rattle.std.proofs.Common.{refl, sym, subst}
 use Rattle.sg_wire.specs.CdbDecoding.{command_of}
 use Rattle.sg_units.specs.Laws.{OneKeyEach}
+use Rattle.sg_wire.specs.CdbDecoding.{command_in}
+use Rattle.sg_fencing.specs.Fencing.{gives_away}
+use Rattle.sg_target.specs.State.{profile_of}
 use Rattle.sg_fencing.specs.Fencing.{holds_alone}
 use Rattle.sg_fencing.specs.Fencing.{shows_others}
 use Rattle.sg_fencing.specs.Fencing.{view_of}
@@ -36,11 +39,12 @@ module _ (one : OneKeyEach) (i : ℕ) where
   pub own-step : (first second : State) (call : Call) → IsWithinLimits first → IsWithinLimits second
       → first.identity ≡ second.identity → view_of first i ≡ view_of second i
       → holds_alone first i ≡ true → call.initiator ≡ i
+      → gives_away (command_in (profile_of first) call.cdb.now) ≡ false
       → StepsAlike (shows_others (command_of call.cdb.now)) i (step_of first call) (step_of second call)
-  own-step first second call w w' identity view held e =
+  own-step first second call w w' identity view held e keeps =
       let cdb = call.cdb.now in
       let data_out = call.data_out.now in
       subst
       (λ (j : ℕ). StepsAlike (shows_others (command_of cdb)) i (step first j cdb data_out)
       (step second j cdb data_out))
-      (sym e) (own-alike one first second i cdb data_out w w' identity view held)
+      (sym e) (own-alike one first second i cdb data_out w w' identity view held keeps)

@@ -134,6 +134,40 @@ pub only-key_of : OneKeyEach → (state : ReservationState) (i k : ℕ) → IsCo
 only-key_of one state i k c e key h =
     one state i k key c (under-key_of state.registrations i k e) h
 
+-- ---- The own key
+
+unregistered-first : (r : Registration) (i : ℕ) (b : Bool) (ys : List Registration) → is_of i r ≡ b
+    → key_of ys i ≡ None → key_of (cond (not b) (r ∷ ys) ys) i ≡ None
+unregistered-first r i true ys e h = h
+unregistered-first r i false ys e h =
+    key_of-cons r ys i ∙ (ap (λ b. cond b (Some r.key) (key_of ys i)) e ∙ h)
+
+pub key_of-unregistered : (rs : List Registration) (i : ℕ) → key_of (without_initiator rs i) i ≡ None
+key_of-unregistered [] i = refl
+key_of-unregistered (r ∷ rs) i =
+    unregistered-first r i (is_of i r) (without_initiator rs i) refl (key_of-unregistered rs i)
+
+replaced-first : (r new : Registration) (rs : List Registration) (b : Bool)
+    → is_of new.initiator r ≡ b → is_of new.initiator new ≡ true
+    → (is_registered rs new.initiator ≡ true
+    → key_of (with_replaced rs new) new.initiator ≡ Some new.key)
+    → (b || is_registered rs new.initiator) ≡ true
+    → key_of (cond b new r ∷ with_replaced rs new) new.initiator ≡ Some new.key
+replaced-first r new rs true e self rest h =
+    key_of-cons new (with_replaced rs new) new.initiator
+    ∙ ap (λ b. cond b (Some new.key) (key_of (with_replaced rs new) new.initiator)) self
+replaced-first r new rs false e self rest h =
+    key_of-cons r (with_replaced rs new) new.initiator
+    ∙ (ap (λ b. cond b (Some r.key) (key_of (with_replaced rs new) new.initiator)) e ∙ rest h)
+
+pub key_of-own_replaced : (rs : List Registration) (new : Registration)
+    → is_registered rs new.initiator ≡ true
+    → key_of (with_replaced rs new) new.initiator ≡ Some new.key
+key_of-own_replaced [] new h = absurd (false≢true h)
+key_of-own_replaced (r ∷ rs) new h =
+    replaced-first r new rs (is_of new.initiator r) refl (eq-eqb new.initiator new.initiator refl)
+    (key_of-own_replaced rs new) h
+
 -- ---- Others that are registered together with the caller
 
 pub pushed-known : (rs : List Registration) (new : Registration)
@@ -212,7 +246,7 @@ module _ (list : OutList) where
 
 -- ---- One key for all that are registered together
 
-own-pushed : (rs : List Registration) (new : Registration) → is_registered rs new.initiator ≡ false
+pub own-pushed : (rs : List Registration) (new : Registration) → is_registered rs new.initiator ≡ false
     → key_of (with_registration rs new) new.initiator ≡ Some new.key
 own-pushed [] new unknown =
     key_of-cons new [] new.initiator

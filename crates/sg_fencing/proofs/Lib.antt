@@ -23,11 +23,13 @@ mod AlikeLemmas
 -- Commands of the holder.
 mod OwnLemmas
 -- Initiators that are not registered.
+mod MovedLemmas
 mod RegistrationLemmas
 mod OutsiderLemmas
 mod NewcomerLemmas
 mod RegisteringLemmas
 mod TogetherLemmas
+mod HandOverLemmas
 mod OldKeyLemmas
 mod PreemptLemmas
 -- Registrants and others.

@@ -7,17 +7,19 @@ use Rattle.std.proofs.lemmas.Bool.{false≢true, ne_eqb, or_parts}
 use Rattle.std.proofs.lemmas.Option.{cond_some}
 use Rattle.sg_wire.specs.FirstBytes.{first_bytes}
 use Rattle.sg_wire.specs.CdbDecoding.{command_of}
-use Rattle.sg_wire.specs.OutList.{out_list}
+use Rattle.sg_wire.specs.OutList.{list_of as out_list_of}
 use Rattle.sg_wire.specs.declared.command.CdbFault.{CdbFault}
 use Rattle.sg_wire.specs.declared.command.Command.{Command}
 use Rattle.sg_wire.specs.declared.command.Command.TheVariants.{PersistentReserveOut}
 use Rattle.sg_wire.specs.declared.command.out_action.OutAction.{OutAction}
 use Rattle.sg_wire.specs.declared.command.out_action.OutAction.TheVariants.{Register}
 use Rattle.sg_wire.specs.declared.command.out_action.OutAction.TheVariants.{RegisterAndIgnoreExistingKey}
+use Rattle.sg_wire.specs.declared.command.out_action.OutAction.TheVariants.{RegisterAndMove}
 use Rattle.sg_wire.specs.declared.out_list.OutList.{OutList}
 use Rattle.sg_wire.specs.declared.profile.Rules.{Rules}
 use Rattle.sg_units.specs.Registrations.{is_registered, with_registration}
 use Rattle.sg_units.specs.ReservationType.{type_of}
+use Rattle.sg_units.specs.ReserveOut.{accepts_key}
 use Rattle.sg_units.specs.ReserveOut.{Outcome, action_outcome, generation_after, outcome}
 use Rattle.sg_units.specs.ReserveOut.{register_cases, register_together_cases, registered_together}
 use Rattle.sg_units.specs.ReserveOut.{registration_by}
@@ -47,6 +49,7 @@ use Rattle.sg_target.proofs.LiftLemmas.{lifted}
 use Rattle.sg_fencing.proofs.OperationLemmas.{listed}
 use Rattle.sg_fencing.proofs.OthersLemmas.{changed-view}
 use Rattle.sg_fencing.proofs.RegistrationLemmas.{not_so, outcome-leaves}
+use Rattle.sg_fencing.proofs.MovedLemmas.{not-under}
 
 -- ---- The outcome
 
@@ -104,24 +107,28 @@ module _ (rules : Rules) (state : ReservationState) (j : ℕ)
 
   action-adds : (action : OutAction) (type : Option ReservationType) → is_registering action ≡ true
       → has_unsupported_flag rules action list ≡ false
+      → accepts_key state.registrations j action list.reservation_key ≡ true
       → EffectIs AddsIf (action_outcome rules state j action type list)
-  action-adds Register type h supported =
+  action-adds Register type h supported accepted =
       choice (EffectIs AddsIf) list.spec_i_pt _ _ (λ set. (together-adds set).first)
       (λ alone. (register-adds alone).first)
-  action-adds RegisterAndIgnoreExistingKey type h supported =
+  action-adds RegisterAndIgnoreExistingKey type h supported accepted =
       (register-adds (or_parts list.spec_i_pt _ supported).0).first
-  action-adds _ type h supported = absurd (false≢true h)
+  action-adds RegisterAndMove type h supported accepted =
+      absurd (false≢true
+      (sym (not-under state.registrations j list.reservation_key unknown) ∙ accepted))
+  action-adds _ type h supported accepted = absurd (false≢true h)
 
   outcome-adds : (action : OutAction) (scope_type : ℕ) → is_registering action ≡ true
       → EffectIs AddsIf (outcome rules state j action scope_type list)
   outcome-adds action scope_type h =
       if-supported AddsIf rules state j action scope_type list
-      (λ supported _. action-adds action (type_of scope_type) h supported)
+      (λ supported accepted. action-adds action (type_of scope_type) h supported accepted)
 
 -- ---- The command
 
--- A fact about each refusal, and about each REGISTER and REGISTER AND IGNORE EXISTING KEY with a
--- list, holds for the command with that list.
+-- A fact about each refusal, and about each command that registers with a list, holds for the command
+-- with that list.
 module _ (state : State) (j : ℕ) (list : OutList) (P : Step → Type 0)
     (refusing : (refusal : Refusal) → P (refused_step state j refusal))
     (registering : (action : OutAction) (scope_type : ℕ) → is_registering action ≡ true
@@ -131,9 +138,9 @@ module _ (state : State) (j : ℕ) (list : OutList) (P : Step → Type 0)
       → registering_list (Ok command) data_out ≡ Some list → P (step_by state j operation)
   by-command (PersistentReserveOut c) data_out operation e h =
       let bytes = first_bytes c.list_length data_out in
-      let parts = cond_some (is_registering c.action) (out_list bytes) list h in
+      let parts = cond_some (is_registering c.action) (out_list_of c.action bytes) list h in
       let asked = listed c.action c.scope_type (has_list_length (rules_for state) c.action bytes)
-      (out_list bytes) (CheckCondition ParameterListLengthError) operation e in
+      (out_list_of c.action bytes) (CheckCondition ParameterListLengthError) operation e in
       subst (λ (o : Operation). P (step_by state j o))
       (ap (λ (l : OutList). ChangeReservations c.action c.scope_type l) (sym parts.1) ∙ asked)
       (registering c.action c.scope_type parts.0)

@@ -5,7 +5,7 @@ use Rattle.std.specs.Result.{result_map_both}
 use Rattle.std.proofs.lemmas.Bool.{eqb-true, false≢true, or_from}
 use Rattle.std.proofs.lemmas.Option.{cond_some}
 use Rattle.sg_wire.specs.FirstBytes.{first_bytes}
-use Rattle.sg_wire.specs.OutList.{out_list}
+use Rattle.sg_wire.specs.OutList.{list_of as out_list_of}
 use Rattle.sg_wire.specs.declared.command.CdbFault.{CdbFault}
 use Rattle.sg_wire.specs.declared.command.Command.{Command}
 use Rattle.sg_wire.specs.declared.command.Command.TheVariants.{PersistentReserveOut}
@@ -32,7 +32,7 @@ use Rattle.sg_target.proofs.LiftLemmas.{lifted, not_good}
 use Rattle.sg_fencing.specs.Registrants.{rules_for}
 use Rattle.sg_fencing.specs.Registrants.{OldKeysAreRefused, is_registrant, list_of}
 use Rattle.sg_fencing.proofs.OperationLemmas.{listed}
-use Rattle.sg_fencing.proofs.RegistrationLemmas.{not-under}
+use Rattle.sg_fencing.proofs.MovedLemmas.{not-under}
 
 not-both : (a b : Bool) → b ≡ false → (a && b) ≡ false
 not-both true b h = h
@@ -81,14 +81,14 @@ module _ (state : State) (j : ℕ) (unknown : is_registrant state j ≡ false) w
       → NotGood (step_by state j operation)
   by-command (PersistentReserveOut c) data_out operation list e h other =
       let bytes = first_bytes c.list_length data_out in
-      let parts = cond_some (is_register c.action) (out_list bytes) list h in
+      let parts = cond_some (is_register c.action) (out_list_of c.action bytes) list h in
       let asked = listed c.action c.scope_type (has_list_length (rules_for state) c.action bytes)
-      (out_list bytes) (CheckCondition ParameterListLengthError) operation e in
+      (out_list_of c.action bytes) (CheckCondition ParameterListLengthError) operation e in
       subst (λ (o : Operation). NotGood (step_by state j o))
-      (ap (λ (a : OutAction). ChangeReservations a c.scope_type (out_list bytes))
+      (ap (λ (a : OutAction). ChangeReservations a c.scope_type (out_list_of c.action bytes))
       (the-register c.action parts.0)
       ∙ asked)
-      (by-list c.scope_type (out_list bytes)
+      (by-list c.scope_type (out_list_of c.action bytes)
       (λ none. other (ap (λ (l : OutList). l.reservation_key) (sym parts.1) ∙ none)))
   by-command _ data_out operation list e h other = cc
 

@@ -5,7 +5,7 @@ use Rattle.std.proofs.Common.{◌==◌, ◌&&◌, refl, subst, ap, cond, sym, �
 use Rattle.std.proofs.lemmas.Bool.{false≢true}
 use Rattle.std.specs.Prelude.{if◌then◌else◌, ok_or}
 use Rattle.sg_wire.specs.FirstBytes.{first_bytes}
-use Rattle.sg_wire.specs.OutList.{out_list}
+use Rattle.sg_wire.specs.OutList.{list_of as out_list_of}
 use Rattle.sg_wire.specs.Profile.{rules_of}
 use Rattle.sg_wire.specs.Layout.{layout}
 use Rattle.sg_wire.specs.declared.command.Class.{Class}
@@ -325,7 +325,7 @@ listed action scope_type false list short operation e = cc
 abbrev pub is_of_list_kind : (OutAction → OutList → Bool) → Result Command CdbFault
     → (data_out : List ℕ) → Bool
 is_of_list_kind kind (Ok (command.PersistentReserveOut c)) data_out =
-    kind c.action (out_list (first_bytes c.list_length data_out))
+    kind c.action (out_list_of c.action (first_bytes c.list_length data_out))
 is_of_list_kind kind _ data_out = true
 
 abbrev pub fits_list : (OutAction → OutList → Bool) → Operation → Bool
@@ -345,7 +345,7 @@ asked-fits config (command.PersistentReserveOut c) data_out operation e kind h =
     let bytes = first_bytes c.list_length data_out in
     subst (λ (o : Operation). fits_list kind o ≡ true)
     (listed c.action c.scope_type (has_list_length (rules_of config.identity.profile) c.action bytes)
-    (out_list bytes) (CheckCondition ParameterListLengthError) operation e)
+    (out_list_of c.action bytes) (CheckCondition ParameterListLengthError) operation e)
     h
 asked-fits config command data_out operation e kind h =
     fits-all kind operation

@@ -8,7 +8,7 @@ use Rattle.std.proofs.lemmas.Bool.{and_left, false≢true, ne_eqb}
 use Rattle.sg_wire.specs.FirstBytes.{first_bytes}
 use Rattle.sg_wire.specs.Laws.{CommandsHaveTheirClass}
 use Rattle.sg_wire.specs.CdbDecoding.{command_of}
-use Rattle.sg_wire.specs.OutList.{out_list}
+use Rattle.sg_wire.specs.OutList.{list_of as out_list_of}
 use Rattle.sg_wire.specs.declared.command.CdbFault.{CdbFault}
 use Rattle.sg_wire.specs.declared.command.Class.TheVariants.{Reads, Writes}
 use Rattle.sg_wire.specs.declared.command.Command.{Command}
@@ -151,7 +151,7 @@ module _ (refuses : OthersAreRefused) (classes : CommandsHaveTheirClass) (state 
       → (not (is_registrant state i) && asks_to_register (rules_for state) j i parsed data_out) ≡ false
       → is_of_list_kind sparing parsed data_out ≡ true
   sparing-kind (Ok (PersistentReserveOut c)) data_out spared =
-      by-action (is_registering c.action) (out_list (first_bytes c.list_length data_out)) spared
+      by-action (is_registering c.action) (out_list_of c.action (first_bytes c.list_length data_out)) spared
     where
       by-action : (registering : Bool) (list : OutList)
           → (not (is_registrant state i) && option_map_or (asks_for (rules_for state) j i)
@@ -217,7 +217,7 @@ module _ (state : State) (i j : ℕ)
       → asks_to_register (rules_for state) j i parsed data_out ≡ false
       → is_of_list_kind spares parsed data_out ≡ true
   of-kind (Ok (PersistentReserveOut c)) data_out h =
-      spared (is_registering c.action) (out_list (first_bytes c.list_length data_out)) h
+      spared (is_registering c.action) (out_list_of c.action (first_bytes c.list_length data_out)) h
   of-kind (Ok _) data_out h = refl
   of-kind (Err fault) data_out h = refl
 

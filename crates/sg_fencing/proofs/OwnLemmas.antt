@@ -15,6 +15,16 @@ use Rattle.sg_wire.specs.declared.out_list.OutList.{OutList}
 use Rattle.sg_units.specs.declared.registrations.Registration.{Registration}
 use Rattle.sg_units.specs.declared.reservation_change.ReservationChange.{ReservationChange}
 use Rattle.sg_units.specs.declared.reservation_state.ReservationState.{ReservationState}
+use Rattle.sg_wire.specs.declared.command.CdbFault.{CdbFault}
+use Rattle.sg_wire.specs.declared.command.Command.{Command}
+use Rattle.sg_wire.specs.declared.command.Command.TheVariants.{PersistentReserveOut}
+use Rattle.sg_wire.specs.declared.command.out_action.OutAction.{OutAction}
+use Rattle.sg_wire.specs.CdbDecoding.{command_in}
+use Rattle.sg_fencing.specs.Fencing.{gives_away, is_moving}
+use Rattle.sg_fencing.proofs.OperationLemmas.{fits, is_of_kind}
+use Rattle.std.specs.Prelude.{not, Result}
+use Rattle.std.proofs.lemmas.Bool.{not-true}
+use Rattle.sg_target.specs.State.{profile_of}
 use Rattle.sg_fencing.proofs.KeyLemmas.{is_registered-key_of}
 use Rattle.sg_fencing.proofs.ReserveOutLemmas.{alone_in}
 use Rattle.sg_fencing.proofs.OwnReserveOutLemmas.{Left, allows-same, left_of, own_agrees, under-alone}
@@ -100,6 +110,7 @@ module _ (state : State) (i : ℕ) (w : IsWithinLimits state) where
       (changing_reservations state i))).state
   becomes (Err out_fault.Conflict) = record { identity = refl; view = refl }
   becomes (Err out_fault.NoRoom) = record { identity = refl; view = refl }
+  becomes (Err out_fault.NoReservation) = record { identity = refl; view = refl }
   becomes (Err out_fault.BadRelease) = record { identity = refl; view = refl }
   becomes (Err (out_fault.Field byte)) = record { identity = refl; view = refl }
   becomes (Err out_fault.BadType) = record { identity = refl; view = refl }
@@ -134,11 +145,11 @@ module _ (one : OneKeyEach) (s : State) (a : Pending) (r : ReservationState) (i 
   abbrev other : State
   other = with_others s a r
 
-  own-left : (action : OutAction) (scope_type : ℕ) (list : OutList)
+  own-left : (action : OutAction) (scope_type : ℕ) (list : OutList) → is_moving action ≡ false
       → left_of (state_after s.reservations
       (outcome (rules_for s) s.reservations i action scope_type list)) i
       ≡ left_of (state_after r (outcome (rules_for s) r i action scope_type list)) i
-  own-left action scope_type list =
+  own-left action scope_type list keeps =
       let rs = s.reservations.registrations in
       let k = has-key rs i (key_of rs i) refl (sym (is_registered-key_of rs i) ∙ h.registered) in
       let first : s.reservations ≡ alone_in rs h.kind i s.reservations =
@@ -151,17 +162,17 @@ module _ (one : OneKeyEach) (s : State) (a : Pending) (r : ReservationState) (i 
       left_of (state_after x (outcome (rules_for s) x i action scope_type list)) i in
       ap left first
       ∙ (own_agrees (rules_for s) rs r.registrations h.kind s.reservations r i k.key action scope_type list
-      (under-alone one s.reservations i k.key w.registered k.key_is) k.key_is
+      keeps (under-alone one s.reservations i k.key w.registered k.key_is) k.key_is
       (under-alone one r i k.key w'.registered key') key'
       ∙ sym (ap left second))
 
-  out-alike : (action : OutAction) (scope_type : ℕ) (list : OutList)
+  out-alike : (action : OutAction) (scope_type : ℕ) (list : OutList) → is_moving action ≡ false
       → StepsAlike true i (step_by s i (ChangeReservations action scope_type list))
       (step_by other i (ChangeReservations action scope_type list))
-  out-alike action scope_type list =
+  out-alike action scope_type list keeps =
       let first = out-becomes s i w action scope_type list in
       let second = out-becomes other i w' action scope_type list in
-      let left = own-left action scope_type list in
+      let left = own-left action scope_type list keeps in
       let middle : view_with s i (left_of (state_after s.reservations
       (outcome (rules_for s) s.reservations i action scope_type list)) i)
       ≡ view_with other i
@@ -195,19 +206,30 @@ module _ (one : OneKeyEach) (s : State) (a : Pending) (r : ReservationState) (i 
     answer = agree.answer;
   }
 
-  by-operation : (operation : Operation)
+  -- it does not give the reservation away
+  abbrev keeps_it : OutAction → Bool
+  keeps_it action = not (is_moving action)
+
+  by-operation : (operation : Operation) → fits keeps_it operation ≡ true
       → StepsAlike (shows_of operation) i (step_by s i operation) (step_by other i operation)
-  by-operation (ChangeReservations action scope_type list) = out-alike action scope_type list
-  by-operation (ReturnReservations action n) =
+  by-operation (ChangeReservations action scope_type list) keeps =
+      out-alike action scope_type list (not-true (is_moving action) keeps)
+  by-operation (ReturnReservations action n) keeps =
       alike true _ _ (reporting-agree SeenAlike s a r i attentions (key, reservation) true action n
       (λ shown. cc))
-  by-operation operation =
+  by-operation operation keeps =
       alike false _ _ (operation-agrees SeenAlike s a r i attentions (key, reservation) operation refl)
 
-  step-alike : (cdb data_out : List ℕ)
+  of-kind : (parsed : Result Command CdbFault) → gives_away parsed ≡ false
+      → is_of_kind keeps_it parsed ≡ true
+  of-kind (Ok (PersistentReserveOut c)) keeps = ap not keeps
+  of-kind (Ok _) keeps = refl
+  of-kind (Err fault) keeps = refl
+
+  step-alike : (cdb data_out : List ℕ) → gives_away (command_in (profile_of s) cdb) ≡ false
       → StepsAlike (shows_others (command_of cdb)) i (step s i cdb data_out)
       (step other i cdb data_out)
-  step-alike cdb data_out =
+  step-alike cdb data_out keeps =
       let shown = shows_others (command_of cdb) in
       let related : SeenAlike s.reservations r = (key, reservation) in
       lifted-both s other i cdb data_out refl
@@ -220,15 +242,18 @@ module _ (one : OneKeyEach) (s : State) (a : Pending) (r : ReservationState) (i 
       (λ (b : Bool). StepsAlike b i (step_by s i operation) (step_by other i operation))
       (sym (ap shows_others k.command_is
       ∙ (asked-suits (config_of s) k.command data_out operation k.operation_is).shown))
-      (by-operation operation))
+      (by-operation operation
+      ((asked-suits (config_of s) k.command data_out operation k.operation_is).of_kind keeps_it
+      (sym (ap (is_of_kind keeps_it) k.read_as) ∙ of-kind (command_in (profile_of s) cdb) keeps))))
 
 -- a command of the holder in two states of one disk with equal views
 pub own-alike : OneKeyEach → (first second : State) (i : ℕ) (cdb data_out : List ℕ)
     → IsWithinLimits first → IsWithinLimits second → first.identity ≡ second.identity
     → view_of first i ≡ view_of second i → holds_alone first i ≡ true
+    → gives_away (command_in (profile_of first) cdb) ≡ false
     → StepsAlike (shows_others (command_of cdb)) i (step first i cdb data_out)
     (step second i cdb data_out)
-own-alike one first second i cdb data_out w w' identity view held =
+own-alike one first second i cdb data_out w w' identity view held keeps =
     let a = second.attentions in
     let r = second.reservations in
     let disk = ap (λ (v : View). v.disk) view in
@@ -249,4 +274,4 @@ own-alike one first second i cdb data_out w w' identity view held =
     to
     (step-alike one first a r i (ap (λ (v : View). v.attentions) view) (ap (λ (v : View). v.key) view)
     (ap (λ (v : View). v.reservation) view) w
-    (subst IsWithinLimits (sym to) w') (alone first i w held) cdb data_out)
+    (subst IsWithinLimits (sym to) w') (alone first i w held) cdb data_out keeps)

@@ -1,8 +1,8 @@
 -- The effect of the holder's own PERSISTENT RESERVE OUT on its key and on the reservation depends
 -- only on these.
-use Rattle.std.proofs.Common.{◌≡◌, ◌==◌, ℕ, Bool, true, false, cond, not, ◌&&◌, ◌||◌}
+use Rattle.std.proofs.Common.{◌≡◌, ◌==◌, ℕ, Bool, true, false, not, ◌&&◌, ◌||◌}
 use Rattle.std.proofs.Common.{List}
-use Rattle.std.proofs.Common.{[], ◌∷◌, length, Option, Some, None, Ok, Err, refl, sym, ap, ◌∙◌}
+use Rattle.std.proofs.Common.{length, Option, Some, None, Ok, Err, refl, sym, ap, ◌∙◌}
 use Rattle.std.proofs.Common.{arith}
 use Rattle.std.specs.Prelude.{if◌then◌else◌, is_some}
 use Rattle.std.proofs.lemmas.Bool.{and_from, eq-eqb, false≢true, not-false, not-true, or_left}
@@ -13,12 +13,13 @@ use Rattle.sg_wire.specs.declared.command.out_action.OutAction.TheVariants.{Regi
 use Rattle.sg_wire.specs.declared.command.out_action.OutAction.TheVariants.{Release, Clear, Preempt}
 use Rattle.sg_wire.specs.declared.command.out_action.OutAction.TheVariants.{PreemptAndAbort}
 use Rattle.sg_wire.specs.declared.command.out_action.OutAction.TheVariants.{RegisterAndIgnoreExistingKey}
+use Rattle.sg_wire.specs.declared.command.out_action.OutAction.TheVariants.{RegisterAndMove}
 use Rattle.sg_wire.specs.declared.command.Class.{Class}
 use Rattle.sg_units.specs.Access.{allowed, allows, standing_of}
 use Rattle.sg_units.specs.Laws.{OneKeyEach}
 use Rattle.sg_units.specs.UnsupportedFlags.{has_unsupported_flag}
 use Rattle.sg_units.specs.Registrations.{is_of, is_registered, is_registered_under, is_under}
-use Rattle.sg_units.specs.Registrations.{key_of, max_registrations, with_replaced}
+use Rattle.sg_units.specs.Registrations.{key_of, max_registrations}
 use Rattle.sg_units.specs.Registrations.{without_initiator, without_key}
 use Rattle.sg_units.specs.Reservations.{IsConsistent, has_type, is_holder, taken, while_held}
 use Rattle.sg_units.specs.ReservationType.{type_of}
@@ -36,7 +37,9 @@ use Rattle.sg_units.specs.declared.reservation_change.ReservationChange.{Reserva
 use Rattle.sg_units.specs.declared.reservation_state.ReservationState.{ReservationState}
 use Rattle.sg_units.specs.declared.types.ReservationType.{ReservationType}
 use Rattle.sg_units.proofs.OutcomeLemmas.{FirstIs, case_or, choice, last_case}
-use Rattle.sg_fencing.proofs.KeyLemmas.{key_of-cons, key_of-filter}
+use Rattle.sg_fencing.specs.Fencing.{is_moving}
+use Rattle.sg_fencing.proofs.KeyLemmas.{key_of-own_replaced, key_of-unregistered}
+use Rattle.sg_fencing.proofs.KeyLemmas.{key_of-filter}
 use Rattle.sg_fencing.proofs.ReserveOutLemmas.{alone_in, held_alone}
 use Rattle.sg_fencing.proofs.KeyLemmas.{key_of-without_key, is_registered-key_of}
 use Rattle.sg_fencing.proofs.KeyLemmas.{only-key_of, stays_registered, under-key_of}
@@ -62,38 +65,6 @@ under-alone one state i k c e key =
     let rs = state.registrations in
     same-test k key (is_registered_under rs i key) (only-key_of one state i k c e key)
     (λ same. ap (is_registered_under rs i) (sym same) ∙ under-key_of rs i k e)
-
-unregistered-first : (r : Registration) (i : ℕ) (b : Bool) (ys : List Registration) → is_of i r ≡ b
-    → key_of ys i ≡ None → key_of (cond (not b) (r ∷ ys) ys) i ≡ None
-unregistered-first r i true ys e h = h
-unregistered-first r i false ys e h =
-    key_of-cons r ys i ∙ (ap (λ b. cond b (Some r.key) (key_of ys i)) e ∙ h)
-
-key_of-unregistered : (rs : List Registration) (i : ℕ) → key_of (without_initiator rs i) i ≡ None
-key_of-unregistered [] i = refl
-key_of-unregistered (r ∷ rs) i =
-    unregistered-first r i (is_of i r) (without_initiator rs i) refl (key_of-unregistered rs i)
-
-replaced-first : (r new : Registration) (rs : List Registration) (b : Bool)
-    → is_of new.initiator r ≡ b → is_of new.initiator new ≡ true
-    → (is_registered rs new.initiator ≡ true
-    → key_of (with_replaced rs new) new.initiator ≡ Some new.key)
-    → (b || is_registered rs new.initiator) ≡ true
-    → key_of (cond b new r ∷ with_replaced rs new) new.initiator ≡ Some new.key
-replaced-first r new rs true e self rest h =
-    key_of-cons new (with_replaced rs new) new.initiator
-    ∙ ap (λ b. cond b (Some new.key) (key_of (with_replaced rs new) new.initiator)) self
-replaced-first r new rs false e self rest h =
-    key_of-cons r (with_replaced rs new) new.initiator
-    ∙ (ap (λ b. cond b (Some r.key) (key_of (with_replaced rs new) new.initiator)) e ∙ rest h)
-
-key_of-own_replaced : (rs : List Registration) (new : Registration)
-    → is_registered rs new.initiator ≡ true
-    → key_of (with_replaced rs new) new.initiator ≡ Some new.key
-key_of-own_replaced [] new h = absurd (false≢true h)
-key_of-own_replaced (r ∷ rs) new h =
-    replaced-first r new rs (is_of new.initiator r) refl (eq-eqb new.initiator new.initiator refl)
-    (key_of-own_replaced rs new) h
 
 -- ---- What is left
 
@@ -287,32 +258,34 @@ module _ (rules : Rules) (all : List Registration) (kind : ReservationType) (bef
   action_left PreemptAndAbort type list =
       preempt_or (list.service_action_key == 0) (k == list.service_action_key) type
   action_left RegisterAndIgnoreExistingKey type list = register_left list.service_action_key
+  action_left RegisterAndMove type list = as_before
 
   action_leaves : (action : OutAction) (type : Option ReservationType) (list : OutList)
-      → IsUnderAlone all i k → key_of all i ≡ Some k
+      → is_moving action ≡ false → IsUnderAlone all i k → key_of all i ≡ Some k
       → Leaves state i (action_left action type list) (action_outcome rules state i action type list)
-  action_leaves Register type list one key =
+  action_leaves Register type list keeps one key =
       let sark = list.service_action_key in
       let v = together_or list.spec_i_pt sark in
       choice (Leaves state i v) list.spec_i_pt _ _
       (λ set. at state i v as_before _ (ap (λ b. together_or b sark) set) (together_leaves list key).first)
       (λ alone. at state i v (register_left sark) _ (ap (λ b. together_or b sark) alone)
       (register_leaves list key).first)
-  action_leaves Reserve type list one key =
+  action_leaves Reserve type list keeps one key =
       typed type _ (λ new. as_before) key (λ new. (reserve_leaves new key).first)
-  action_leaves Release type list one key =
+  action_leaves Release type list keeps one key =
       let v = typed_left type (λ new. release_or (has_type held new)) in
       let holds : is_holder state i ≡ true = and_from _ (i == i) (here key) (eq-eqb i i refl) in
       choice (Leaves state i v) (rules.release_of_nothing_ignores_type && not (is_holder state i)) _ _
       (λ h. absurd (not_released rules.release_of_nothing_ignores_type (is_holder state i) holds h))
       (λ _. typed type _ (λ new. release_or (has_type held new)) key
       (λ new. (release_leaves new key).first))
-  action_leaves Clear type list one key = leaves _ (None, None) refl refl
-  action_leaves Preempt type list one key =
+  action_leaves Clear type list keeps one key = leaves _ (None, None) refl refl
+  action_leaves Preempt type list keeps one key =
       (preempt_leaves type list.service_action_key one key).first
-  action_leaves PreemptAndAbort type list one key =
+  action_leaves PreemptAndAbort type list keeps one key =
       (preempt_leaves type list.service_action_key one key).first
-  action_leaves RegisterAndIgnoreExistingKey type list one key = (register_leaves list key).first
+  action_leaves RegisterAndIgnoreExistingKey type list keeps one key = (register_leaves list key).first
+  action_leaves RegisterAndMove type list keeps one key = absurd (false≢true (sym keeps))
 
   abbrev accepts : OutAction → (key : ℕ) → Bool
   accepts RegisterAndIgnoreExistingKey key = true
@@ -328,6 +301,7 @@ module _ (rules : Rules) (all : List Registration) (kind : ReservationType) (bef
   accepts-key Clear key one is = one key
   accepts-key Preempt key one is = one key
   accepts-key PreemptAndAbort key one is = one key
+  accepts-key RegisterAndMove key one is = one key
   accepts-key RegisterAndIgnoreExistingKey key one is = refl
 
   abbrev left_or : (flag refused : Bool) → Left → Left
@@ -340,11 +314,11 @@ module _ (rules : Rules) (all : List Registration) (kind : ReservationType) (bef
       (action_left action (type_of scope_type) list)
 
   outcome_leaves_own : (action : OutAction) (scope_type : ℕ) (list : OutList)
-      → IsUnderAlone all i k → key_of all i ≡ Some k
+      → is_moving action ≡ false → IsUnderAlone all i k → key_of all i ≡ Some k
       → Leaves state i (left_after action scope_type list)
       (outcome rules state i action scope_type list)
   unfolding outcome
-  outcome_leaves_own action scope_type list one key =
+  outcome_leaves_own action scope_type list keeps one key =
       let v = left_after action scope_type list in
       let flag = has_unsupported_flag rules action list in
       let left = action_left action (type_of scope_type) list in
@@ -358,20 +332,21 @@ module _ (rules : Rules) (all : List Registration) (kind : ReservationType) (bef
       (refuses _ key))
       (λ accepted. at state i v left _
       (ap (λ b. left_or b not_own left) no ∙ ap (λ b. left_or false b left) (sym is_own ∙ accepted))
-      (action_leaves action (type_of scope_type) list one key)))
+      (action_leaves action (type_of scope_type) list keeps one key)))
 
--- So its effect on two tables that have the same key for i is the same.
+-- So its effect on two tables that have the same key for i is the same, unless i gives the reservation
+-- away.
 pub own_agrees : (rules : Rules) (all rest : List Registration) (kind : ReservationType)
     (first second : ReservationState) (i k : ℕ) (action : OutAction) (scope_type : ℕ) (list : OutList)
-    → IsUnderAlone all i k → key_of all i ≡ Some k
+    → is_moving action ≡ false → IsUnderAlone all i k → key_of all i ≡ Some k
     → IsUnderAlone rest i k → key_of rest i ≡ Some k →
     (let a = alone_in all kind i first in
     let b = alone_in rest kind i second in
     left_of (state_after a (outcome rules a i action scope_type list)) i
     ≡ left_of (state_after b (outcome rules b i action scope_type list)) i)
-own_agrees rules all rest kind first second i k action scope_type list one key one' key' =
-    (outcome_leaves_own rules all kind first i k action scope_type list one key).left_is
-    ∙ sym (outcome_leaves_own rules rest kind second i k action scope_type list one' key').left_is
+own_agrees rules all rest kind first second i k action scope_type list keeps one key one' key' =
+    (outcome_leaves_own rules all kind first i k action scope_type list keeps one key).left_is
+    ∙ sym (outcome_leaves_own rules rest kind second i k action scope_type list keeps one' key').left_is
 
 -- ---- Access
 

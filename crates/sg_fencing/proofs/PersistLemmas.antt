@@ -14,15 +14,18 @@ use Rattle.sg_wire.specs.declared.command.out_action.OutAction.TheVariants.{Regi
 use Rattle.sg_wire.specs.declared.command.out_action.OutAction.TheVariants.{Release, Clear, Preempt}
 use Rattle.sg_wire.specs.declared.command.out_action.OutAction.TheVariants.{PreemptAndAbort}
 use Rattle.sg_wire.specs.declared.command.out_action.OutAction.TheVariants.{RegisterAndIgnoreExistingKey}
+use Rattle.sg_wire.specs.declared.command.out_action.OutAction.TheVariants.{RegisterAndMove}
 use Rattle.sg_wire.specs.declared.out_list.OutList.{OutList}
 use Rattle.sg_wire.specs.declared.profile.Rules.{Rules}
 use Rattle.sg_units.specs.Registrations.{is_registered}
 use Rattle.sg_units.specs.ReservationType.{type_of}
+use Rattle.sg_units.specs.ReserveOut.{move_cases}
 use Rattle.sg_units.specs.ReserveOut.{Outcome, action_outcome, outcome, preempt_cases, register_cases}
 use Rattle.sg_units.specs.ReserveOut.{register_together_cases, release_cases, reserve_cases}
 use Rattle.sg_units.specs.declared.reservation_change.ReservationChange.{ReservationChange}
 use Rattle.sg_units.specs.declared.reservation_state.ReservationState.{ReservationState}
 use Rattle.sg_units.specs.declared.types.ReservationType.{ReservationType}
+use Rattle.sg_units.proofs.ConsistencyLemmas.{is_registered-under}
 use Rattle.sg_units.proofs.OutcomeLemmas.{EffectIs, FirstIs, case_or, choice, effective, if-accepted}
 use Rattle.sg_units.proofs.OutcomeLemmas.{last_case, refused, releasing, taking, typed}
 use Rattle.sg_target.specs.Happenings.{after_happening}
@@ -48,7 +51,7 @@ use Rattle.sg_target.specs.declared.reply.Status.TheVariants.{Good}
 use Rattle.sg_target.proofs.LiftLemmas.{not_good}
 use Rattle.sg_fencing.specs.Laws.{RefusedChangesNothing}
 use Rattle.sg_fencing.specs.PowerCycles.{Counts, NoneCountsFrom, TheLastRegisterDecides, persists}
-use Rattle.sg_fencing.specs.Registrants.{is_registering, registering_list, rules_for}
+use Rattle.sg_fencing.specs.Registrants.{is_registering, is_registrant, registering_list, rules_for}
 use Rattle.sg_fencing.proofs.OperationLemmas.{is_of_list_kind}
 use Rattle.sg_fencing.proofs.NewcomerLemmas.{with-list}
 use Rattle.sg_fencing.proofs.PowerLemmas.{drops, keeps}
@@ -115,6 +118,7 @@ module _ (rules : Rules) (state : ReservationState) (j : ℕ) where
       → is_other action list ≡ true → EffectIs Leaves (action_outcome rules state j action type list)
   action-leaves Register type list h = absurd (false≢true h)
   action-leaves RegisterAndIgnoreExistingKey type list h = absurd (false≢true h)
+  action-leaves RegisterAndMove type list h = absurd (false≢true h)
   action-leaves Reserve type list h = typed Leaves type _ (λ type. (reserving type).first)
   action-leaves Release type list h = releasing Leaves rules state j type refl unreleased
   action-leaves Clear type list h = effective Leaves _ refl
@@ -153,6 +157,19 @@ module _ (rules : Rules) (state : ReservationState) (j : ℕ) where
       (λ _. case_or (EffectIs S) _ _ (λ _. refused S _)
       (λ _. last_case (EffectIs S) _ _ refl (effective S _ refl))))
 
+  move-sets : (list : OutList) → FirstIs (EffectIs (Sets list.aptpl)) (move_cases state j list)
+  unfolding move_cases
+  move-sets list =
+      let S = Sets list.aptpl in
+      case_or (EffectIs S) _ _ (λ _. refused S _)
+      (λ _. case_or (EffectIs S) _ _ (λ _. refused S _)
+      (λ _. case_or (EffectIs S) _ _ (λ _. refused S _)
+      (λ _. case_or (EffectIs S) _ _ (λ _. refused S _)
+      (λ _. case_or (EffectIs S) _ _ (λ _. refused S _)
+      (λ _. case_or (EffectIs S) _ _ (λ _. refused S _)
+      (λ _. case_or (EffectIs S) _ _ (λ _. refused S _)
+      (λ _. last_case (EffectIs S) _ _ refl (effective S _ refl))))))))
+
   register-leaves : (list : OutList) → acts list.service_action_key ≡ false
       → FirstIs (EffectIs Leaves) (register_cases state j list)
   unfolding register_cases
@@ -169,16 +186,26 @@ module _ (rules : Rules) (state : ReservationState) (j : ℕ) where
       case_or (EffectIs Leaves) _ _ (λ _. refused Leaves _)
       (λ keyed. absurd (not-new known (list.service_action_key == 0) h keyed))
 
+  -- j's key is accepted only if j is registered
+  move-leaves : (list : OutList) → acts list.service_action_key ≡ false
+      → is_registered state.registrations j ≡ true → FirstIs (EffectIs Leaves) (move_cases state j list)
+  move-leaves list h known =
+      absurd (false≢true (sym h ∙ ap (λ b. b || not (list.service_action_key == 0)) known))
+
   by-register : (P : ReservationChange → Type 0) (action : OutAction) (scope_type : ℕ) (list : OutList)
       → is_registering action ≡ true → FirstIs (EffectIs P) (register_cases state j list)
       → FirstIs (EffectIs P) (register_together_cases state j list)
+      → (is_registered state.registrations j ≡ true → FirstIs (EffectIs P) (move_cases state j list))
       → EffectIs P (outcome rules state j action scope_type list)
-  by-register P Register scope_type list h f t =
+  by-register P Register scope_type list h f t m =
       if-accepted P rules state j Register scope_type list
       (λ _. choice (EffectIs P) list.spec_i_pt _ _ (λ _. t.first) (λ _. f.first))
-  by-register P RegisterAndIgnoreExistingKey scope_type list h f t =
+  by-register P RegisterAndIgnoreExistingKey scope_type list h f t m =
       if-accepted P rules state j RegisterAndIgnoreExistingKey scope_type list (λ _. f.first)
-  by-register P _ scope_type list h f t = absurd (false≢true h)
+  by-register P RegisterAndMove scope_type list h f t m =
+      if-accepted P rules state j RegisterAndMove scope_type list
+      (λ accepted. (m (is_registered-under state.registrations j list.reservation_key accepted)).first)
+  by-register P _ scope_type list h f t m = absurd (false≢true h)
 
 -- ---- The command
 
@@ -249,13 +276,16 @@ module _ (state : State) (j : ℕ) where
         → After (step_outcome state j (when_sound (result_map_both (λ change. change) out_refusal o)
         (changing_reservations state j))))
         (cases : FirstIs (EffectIs P) (register_cases state.reservations j list))
-        (together : FirstIs (EffectIs P) (register_together_cases state.reservations j list)) where
+        (together : FirstIs (EffectIs P) (register_together_cases state.reservations j list))
+        (moving : is_registrant state j ≡ true
+        → FirstIs (EffectIs P) (move_cases state.reservations j list)) where
       after-action : (action : OutAction) (scope_type : ℕ) → is_registering action ≡ true
           → After (step_by state j (ChangeReservations action scope_type list))
       unfolding reservation_change
       after-action action scope_type h =
           following (outcome (rules_for state) state.reservations j action scope_type list)
-          (by-register (rules_for state) state.reservations j P action scope_type list h cases together)
+          (by-register (rules_for state) state.reservations j P action scope_type list h cases together
+          moving)
 
       after-command : (cdb data_out : List ℕ) → registering_list (command_of cdb) data_out ≡ Some list
           → After (step state j cdb data_out)
@@ -268,6 +298,7 @@ module _ (state : State) (j : ℕ) where
         after-command (Sets list.aptpl) Set (λ refusal good. absurd (not_good state j refusal good))
         set-outcome (register-sets (rules_for state) state.reservations j list a)
         (together-sets (rules_for state) state.reservations j list)
+        (λ _. move-sets (rules_for state) state.reservations j list)
 
     leaves : acts (rules_for state) state.reservations j list.service_action_key ≡ false
         → (cdb data_out : List ℕ) → registering_list (command_of cdb) data_out ≡ Some list
@@ -276,6 +307,7 @@ module _ (state : State) (j : ℕ) where
         after-command Leaves Left refused-left left-outcome
         (register-leaves (rules_for state) state.reservations j list a)
         (together-leaves (rules_for state) state.reservations j list a)
+        (move-leaves (rules_for state) state.reservations j list a)
 
 counted-sets : (state : State) (call : Call) (list : OutList) → Counts state call list
     → persists (step_of state call).state ≡ list.aptpl

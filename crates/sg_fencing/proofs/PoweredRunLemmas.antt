@@ -24,6 +24,7 @@ use Rattle.sg_units.specs.Reservations.{has_type, is_holder}
 use Rattle.sg_units.specs.declared.reservation_state.ReservationState.{ReservationState}
 use Rattle.sg_units.specs.declared.types.ReservationType.TheVariants.{ExclusiveAccess}
 use Rattle.sg_units.specs.declared.types.ReservationType.TheVariants.{WriteExclusive}
+use Rattle.sg_fencing.specs.Fencing.{GivesNothingAway}
 use Rattle.sg_fencing.specs.Fencing.{IsAsIfAlone, NobodyElseStarts, View, calls_of, holds_alone}
 use Rattle.sg_fencing.specs.Fencing.{is_compared, is_from, shows_others, view_of}
 use Rattle.sg_fencing.specs.ChosenAnswers.{answers_among, calls_among}
@@ -229,16 +230,17 @@ module _ (limits : LimitsAreKept) (refuses : OthersAreRefused) (one : OneKeyEach
   abbrev AreAlike : (events own : List Event) → Type 0
   AreAlike events own =
       (first second : State) → LookAlike first second i → HoldsThroughout first events
-      → NobodyElseStarts i first events → PersistAtPowerCycles second own
+      → NobodyElseStarts i first events → GivesNothingAway i first events
+      → PersistAtPowerCycles second own
       → EventsAlike first second i events own
 
   -- the events go on by a command of i or of another
   by-caller : (call : Call) (events own : List Event) (is_own : Bool) → is_from i call ≡ is_own
       → AreAlike events own
       → AreAlike (event.Call call ∷ events) (cond is_own (event.Call call ∷ own) own)
-  by-caller call events own true e rest first second a held starts persist =
+  by-caller call events own true e rest first second a held starts keeps persist =
       let h = own-step one i first second call a.first_within a.second_within a.identity a.view (held 0)
-      (eqb-true call.initiator i e) in
+      (eqb-true call.initiator i e) (keeps 0 call refl (eqb-true call.initiator i e)) in
       let next : LookAlike (step_of first call).state (step_of second call).state i = record {
         first_within = limits.command first call.initiator call.cdb.now call.data_out.now a.first_within;
         second_within = limits.command second call.initiator call.cdb.now call.data_out.now a.second_within;
@@ -247,8 +249,9 @@ module _ (limits : LimitsAreKept) (refuses : OthersAreRefused) (one : OneKeyEach
       } in
       own-more first second call events own h
       (rest (step_of first call).state (step_of second call).state next (λ n. held (suc n))
-      (λ n other at. starts (suc n) other at) (λ n at. persist (suc n) at))
-  by-caller call events own false e rest first second a held starts persist =
+      (λ n other at. starts (suc n) other at) (λ n other at. keeps (suc n) other at)
+      (λ n at. persist (suc n) at))
+  by-caller call events own false e rest first second a held starts keeps persist =
       let h = others-keep limits refuses classes first i call.initiator call.cdb.now call.data_out.now
       a.first_within (eqb-false call.initiator i e) (held 0) (held 1) in
       let stopped = same-stopped first.stopped (step_of first call).state.stopped h.left.not_stopped
@@ -263,23 +266,25 @@ module _ (limits : LimitsAreKept) (refuses : OthersAreRefused) (one : OneKeyEach
       } in
       other-more first second call events own e
       (rest (step_of first call).state second next (λ n. held (suc n))
-      (λ n other at. starts (suc n) other at) persist)
+      (λ n other at. starts (suc n) other at) (λ n other at. keeps (suc n) other at) persist)
 
   pub events-alike : (events : List Event) → AreAlike events (events_of i events)
-  events-alike [] first second a held starts persist = record { view = a.view; answers = refl }
-  events-alike (event.Call call ∷ events) first second a held starts persist =
+  events-alike [] first second a held starts keeps persist = record { view = a.view; answers = refl }
+  events-alike (event.Call call ∷ events) first second a held starts keeps persist =
       by-caller call events (events_of i events) (is_from i call) refl (events-alike events) first second
-      a held starts persist
-  events-alike (event.Happen Power ∷ events) first second a held starts persist =
+      a held starts keeps persist
+  events-alike (event.Happen Power ∷ events) first second a held starts keeps persist =
       let next = cycle-alike first second a (persisted first (held 1)) (persist 0 refl) in
       let rest = events-alike events (after_power_cycle first) (after_power_cycle second) next
-      (λ n. held (suc n)) (λ n other at. starts (suc n) other at) (λ n at. persist (suc n) at) in
+      (λ n. held (suc n)) (λ n other at. starts (suc n) other at) (λ n other at. keeps (suc n) other at)
+      (λ n at. persist (suc n) at) in
       record { view = rest.view; answers = rest.answers }
-  events-alike (event.Happen happening ∷ events) first second a held starts persist =
+  events-alike (event.Happen happening ∷ events) first second a held starts keeps persist =
       let next = happening-alike happening first second refl a in
       let rest = events-alike events (after_happening happening first)
       (after_happening happening second) next (λ n. held (suc n))
-      (λ n other at. starts (suc n) other at) (λ n at. persist (suc n) at) in
+      (λ n other at. starts (suc n) other at) (λ n other at. keeps (suc n) other at)
+      (λ n at. persist (suc n) at) in
       record { view = rest.view; answers = rest.answers }
 
   -- ---- commands alone are events
@@ -303,8 +308,9 @@ module _ (limits : LimitsAreKept) (refuses : OthersAreRefused) (one : OneKeyEach
 
   pub calls-alike : (state : State) (calls : List Call) → IsWithinLimits state
       → ((n : ℕ) → holds_alone (state_after_all state (take n calls)) i ≡ true)
-      → NobodyElseStarts i state (all_calls calls) → IsAsIfAlone state i calls
-  calls-alike state calls w held starts =
+      → NobodyElseStarts i state (all_calls calls) → GivesNothingAway i state (all_calls calls)
+      → IsAsIfAlone state i calls
+  calls-alike state calls w held starts keeps =
       let same : LookAlike state state i = record {
         first_within = w;
         second_within = w;
@@ -316,7 +322,7 @@ module _ (limits : LimitsAreKept) (refuses : OthersAreRefused) (one : OneKeyEach
       λ n. rw (take-map (λ (call : Call). event.Call call) n calls) (held n) in
       let persist : PersistAtPowerCycles state (events_of i (all_calls calls)) =
       rw own (λ n at. absurd (no-power (calls_of i calls) n at)) in
-      let h = events-alike (all_calls calls) state state same throughout starts persist in
+      let h = events-alike (all_calls calls) state state same throughout starts keeps persist in
       record {
         view = h.view ∙ ap (λ events. view_of (state_after_events state events) i) own;
         answers = h.answers ∙ ap (answers_among (is_compared i) state) own;

@@ -15,7 +15,7 @@ use Rattle.sg_wire.specs.declared.command.Command.{Command}
 use Rattle.sg_wire.specs.declared.command.Command.TheVariants.{PersistentReserveOut}
 use Rattle.sg_wire.specs.declared.command.out_action.OutAction.{OutAction}
 use Rattle.sg_wire.specs.declared.command.out_action.OutAction.TheVariants.{Preempt, PreemptAndAbort}
-use Rattle.sg_wire.specs.OutList.{out_list}
+use Rattle.sg_wire.specs.OutList.{list_of as out_list_of}
 use Rattle.sg_units.specs.Laws.{OneKeyEach}
 use Rattle.sg_units.specs.Registrations.{is_of, is_registered, is_registered_under, is_under}
 use Rattle.sg_units.specs.Registrations.{key_of, without_key}
@@ -54,7 +54,7 @@ use Rattle.sg_fencing.specs.Registrants.{rules_for}
 use Rattle.sg_fencing.specs.Registrants.{PreemptedAreUnregistered, PreemptionKeepsAReservation}
 use Rattle.sg_fencing.specs.Registrants.{PreemptingSendersStayRegistered}
 use Rattle.sg_fencing.specs.Registrants.{is_preempting, preempted_key}
-use Rattle.sg_fencing.proofs.RegistrationLemmas.{none-kept}
+use Rattle.sg_fencing.proofs.MovedLemmas.{none-kept}
 
 -- ---- The one registration of an initiator
 
@@ -308,12 +308,12 @@ module _ (state : State) (j : ℕ) (P : List Registration → Option Reservation
         → EffectLeaves (effect_of state j operation)
     command-leaves (PersistentReserveOut c) data_out operation e h =
         let list = first_bytes c.list_length data_out in
-        let parts = key-sent (is_preempting c.action) (out_list list) key h in
+        let parts = key-sent (is_preempting c.action) (out_list_of c.action list) key h in
         subst (λ (o : Operation). EffectLeaves (effect_of state j o))
-        (listed c.action c.scope_type (has_list_length (rules_for state) c.action list) (out_list list)
+        (listed c.action c.scope_type (has_list_length (rules_for state) c.action list) (out_list_of c.action list)
         (CheckCondition ParameterListLengthError) operation e)
-        (reserving-leaves c.action c.scope_type (out_list list)
-        (leaves c.action c.scope_type (out_list list) parts.0 parts.1))
+        (reserving-leaves c.action c.scope_type (out_list_of c.action list)
+        (leaves c.action c.scope_type (out_list_of c.action list) parts.0 parts.1))
     command-leaves _ data_out operation e h = cc
 
     preempt-leaves : (cdb data_out : List ℕ) → preempted_key (command_of cdb) data_out ≡ Some key

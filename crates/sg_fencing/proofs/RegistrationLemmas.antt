@@ -1,21 +1,22 @@
 -- The effect of PERSISTENT RESERVE OUT if an initiator is not registered. Its own command leaves
 -- all except its own registration and those that it asks for, and another initiator's command registers
 -- it only if it names it.
-use Rattle.std.proofs.Common.{◌≡◌, ◌⊎◌, ◌==◌, ℕ, Bool, true, false, cond, not, ◌&&◌, ◌||◌, List}
-use Rattle.std.proofs.Common.{[], ◌∷◌, filter, Option, None, Ok, refl, sym, ap, ◌∙◌, inl, inr}
+use Rattle.std.proofs.Common.{◌≡◌, ◌⊎◌, ◌==◌, ℕ, Bool, true, false, not, ◌&&◌, ◌||◌, List}
+use Rattle.std.proofs.Common.{Option, None, Ok, refl, sym, ap, ◌∙◌, inl, inr}
 use Rattle.std.specs.Prelude.{if◌then◌else◌, is_some}
 use Rattle.std.specs.List.{list_any}
-use Rattle.std.proofs.lemmas.Bool.{false≢true, not-true, or_from, or_parts}
+use Rattle.std.proofs.lemmas.Bool.{false≢true, not-true, or_parts}
 use Rattle.sg_wire.specs.declared.command.out_action.OutAction.{OutAction}
 use Rattle.sg_wire.specs.declared.command.out_action.OutAction.TheVariants.{Register, Reserve}
 use Rattle.sg_wire.specs.declared.command.out_action.OutAction.TheVariants.{Release, Clear, Preempt}
 use Rattle.sg_wire.specs.declared.command.out_action.OutAction.TheVariants.{PreemptAndAbort}
 use Rattle.sg_wire.specs.declared.command.out_action.OutAction.TheVariants.{RegisterAndIgnoreExistingKey}
-use Rattle.sg_units.specs.Registrations.{is_of, is_registered, is_registered_under, is_under, key_of}
+use Rattle.sg_wire.specs.declared.command.out_action.OutAction.TheVariants.{RegisterAndMove}
+use Rattle.sg_units.specs.Registrations.{is_of, is_registered, is_registered_under, key_of}
 use Rattle.sg_units.specs.Registrations.{with_registration, with_replaced}
 use Rattle.sg_units.specs.ReservationType.{type_of}
 use Rattle.sg_units.specs.ReserveOut.{Outcome, accepts_key, action_outcome, outcome, preempt_cases}
-use Rattle.sg_units.specs.ReserveOut.{register_cases, register_together_cases, registered_together}
+use Rattle.sg_units.specs.ReserveOut.{move_cases, register_cases, register_together_cases, registered_together}
 use Rattle.sg_units.specs.ReserveOut.{registration_by, release_cases, reserve_cases, state_after}
 use Rattle.sg_units.specs.UnsupportedFlags.{has_unsupported_flag}
 use Rattle.sg_wire.specs.declared.out_list.OutList.{OutList}
@@ -30,34 +31,8 @@ use Rattle.sg_units.proofs.OutcomeLemmas.{if-supported, last_case, refused, rele
 use Rattle.sg_fencing.specs.Registrants.{asks_for, is_named, is_registering, names}
 use Rattle.sg_fencing.proofs.KeyLemmas.{is_registered-key_of, key_of-push, key_of-replaced, pushed-known}
 use Rattle.sg_fencing.proofs.KeyLemmas.{together-caller, together-known, together-other}
+use Rattle.sg_fencing.proofs.MovedLemmas.{moved-unknown, not-in-filter, not-under, target-other}
 use Rattle.sg_fencing.proofs.ReserveOutLemmas.{IsLeft}
-
--- ---- Registrations of an initiator that has none
-
-none-under : (a b c d : Bool) → (a || c) ≡ false → (c ≡ false → d ≡ false) → ((a && b) || d) ≡ false
-none-under true b c d h f = absurd (false≢true (sym h))
-none-under false b c d h f = f h
-
-pub not-under : (rs : List Registration) (j key : ℕ) → is_registered rs j ≡ false
-    → is_registered_under rs j key ≡ false
-not-under [] j key h = refl
-not-under (r ∷ rs) j key h =
-    none-under (is_of j r) (is_under key r) (is_registered rs j) (is_registered_under rs j key) h
-    (not-under rs j key)
-
-pub none-kept : (keep : Bool) (r : Registration) (rs : List Registration) (i : ℕ) (b : Bool)
-    → (is_of i r || b) ≡ false → (b ≡ false → is_registered rs i ≡ false)
-    → is_registered (cond keep (r ∷ rs) rs) i ≡ false
-none-kept true r rs i b h f =
-    let parts = or_parts (is_of i r) b h in
-    or_from (is_of i r) (is_registered rs i) parts.0 (f parts.1)
-none-kept false r rs i b h f = f (or_parts (is_of i r) b h).1
-
-pub not-in-filter : (p : Registration → Bool) (rs : List Registration) (i : ℕ)
-    → is_registered rs i ≡ false → is_registered (filter p rs) i ≡ false
-not-in-filter p [] i h = refl
-not-in-filter p (r ∷ rs) i h =
-    none-kept (p r) r (filter p rs) i (is_registered rs i) h (not-in-filter p rs i)
 
 -- ---- The command of an initiator that is not registered
 
@@ -87,7 +62,14 @@ supports rules list passed set =
 not-listed : (rules : Rules) (list : OutList) (i : ℕ) → rules.specifies_ports ≡ true
     → names rules list i ≡ false → list_any (is_named i) list.others ≡ false
 not-listed rules list i supported none =
-    sym (ap (λ b. b && list_any (is_named i) list.others) supported) ∙ none
+    sym (ap (λ b. (b || not list.spec_i_pt) && list_any (is_named i) list.others) supported) ∙ none
+
+-- and one of REGISTER AND MOVE, which has no SPEC_I_PT
+moves-by : (supported set any : Bool) → set ≡ false → ((supported || not set) && any) ≡ false
+    → any ≡ false
+moves-by true false any e h = h
+moves-by false false any e h = h
+moves-by supported true any e h = absurd (false≢true (sym e))
 
 -- with a key other than zero, a list that does not ask for i names it neither
 keyed-by : (zero asked : Bool) → (not zero && asked) ≡ false → zero ≡ false → asked ≡ false
@@ -141,6 +123,7 @@ module _ (rules : Rules) (state : ReservationState) (j : ℕ)
   by-action Clear type key registering together supported h = absurd (not-own key h)
   by-action Preempt type key registering together supported h = absurd (not-own key h)
   by-action PreemptAndAbort type key registering together supported h = absurd (not-own key h)
+  by-action RegisterAndMove type key registering together supported h = absurd (not-own key h)
 
   by-registering : (action : OutAction) (scope_type : ℕ)
       → (is_registering action ≡ true → Registering)
@@ -298,6 +281,24 @@ module _ (rules : Rules) (state : ReservationState) (i j : ℕ)
       (stays _
       (by-key _ (together-other list all i j asked.0 (not-listed rules list i supported asked.1)))))))
 
+  move-unknown : (list : OutList) → asks_for rules j i list ≡ false → list.spec_i_pt ≡ false
+      → FirstIs (EffectIs IsUnknown) (move_cases state j list)
+  unfolding move_cases
+  move-unknown list spared alone =
+      case_or (EffectIs IsUnknown) _ _ (λ _. refused IsUnknown _)
+      (λ _. case_or (EffectIs IsUnknown) _ _ (λ _. refused IsUnknown _)
+      (λ _. case_or (EffectIs IsUnknown) _ _ (λ _. refused IsUnknown _)
+      (λ keyed. case_or (EffectIs IsUnknown) _ _ (λ _. refused IsUnknown _)
+      (λ _. case_or (EffectIs IsUnknown) _ _ (λ _. refused IsUnknown _)
+      (λ _. case_or (EffectIs IsUnknown) _ _ (λ _. refused IsUnknown _)
+      (λ another. case_or (EffectIs IsUnknown) _ _ (λ _. refused IsUnknown _)
+      (λ _.
+      let asked = or_parts _ _ (keyed-by (list.service_action_key == 0) _ spared keyed) in
+      let none = moves-by rules.specifies_ports list.spec_i_pt _ alone asked.1 in
+      last_case (EffectIs IsUnknown) _ _ refl
+      (stays _
+      (moved-unknown state.registrations i j _ list unknown (target-other list.others i j none another))))))))))
+
   reserving : (type : ReservationType) → FirstIs (EffectIs IsUnknown) (reserve_cases state j type)
   unfolding reserve_cases
   reserving type =
@@ -344,6 +345,7 @@ module _ (rules : Rules) (state : ReservationState) (i j : ℕ)
   action-unknown Preempt type list h supported = (preempting type list.service_action_key).first
   action-unknown PreemptAndAbort type list h supported =
       (preempting type list.service_action_key).first
+  action-unknown RegisterAndMove type list h supported = (move-unknown list (h refl) supported).first
 
   pub outcome-unknown : (action : OutAction) (scope_type : ℕ) (list : OutList)
       → (is_registering action ≡ true → asks_for rules j i list ≡ false)

@@ -10,12 +10,13 @@ use Rattle.sg_wire.specs.declared.command.out_action.OutAction.TheVariants.{Regi
 use Rattle.sg_wire.specs.declared.command.out_action.OutAction.TheVariants.{Release, Clear, Preempt}
 use Rattle.sg_wire.specs.declared.command.out_action.OutAction.TheVariants.{PreemptAndAbort}
 use Rattle.sg_wire.specs.declared.command.out_action.OutAction.TheVariants.{RegisterAndIgnoreExistingKey}
+use Rattle.sg_wire.specs.declared.command.out_action.OutAction.TheVariants.{RegisterAndMove}
 use Rattle.sg_units.specs.Laws.{ends_for_others}
 use Rattle.sg_units.specs.Registrations.{is_registered, key_of, with_registration, with_replaced}
 use Rattle.sg_units.specs.Registrations.{without_initiator, without_key}
 use Rattle.sg_units.specs.Reservations.{while_held}
 use Rattle.sg_units.specs.ReservationType.{is_all_registrants, type_of}
-use Rattle.sg_units.specs.ReserveOut.{action_outcome, outcome, preempt_cases}
+use Rattle.sg_units.specs.ReserveOut.{action_outcome, move_cases, outcome, preempt_cases}
 use Rattle.sg_units.specs.ReserveOut.{preempted, raised_for, register_cases, register_together_cases}
 use Rattle.sg_units.specs.ReserveOut.{registered_together, registration_by, release_cases, released}
 use Rattle.sg_units.specs.ReserveOut.{released_unless_held, reserve_cases}
@@ -113,6 +114,10 @@ took all held i j type rest h =
     taking (IsLeftIfHolder all held i j) held j type rest
     (λ type. ends all held i j _ (taken_if type (is_all_registrants type) i j h))
 
+no_holder : (known b : Bool) → b ≡ false → not (known && b) ≡ false → ⊥
+no_holder true b h e = false≢true (sym e ∙ ap not h)
+no_holder false b h e = false≢true (sym e)
+
 -- The caller j is another initiator than i, which is registered and the one holder.
 module _ (rules : Rules) (all : List Registration) (kind : ReservationType) (before : ReservationState)
     (i j : ℕ) where
@@ -179,6 +184,15 @@ module _ (rules : Rules) (all : List Registration) (kind : ReservationType) (bef
       last_case (EffectIs P) _ _ refl
       (stays all held i j _ here gone (while_held-alone kind i _ left) refl))))))
 
+  -- j does not hold it
+  move_leaves : (list : OutList) → (j == i) ≡ false
+      → FirstIs (EffectIs P) (move_cases (alone_in all kind i before) j list)
+  unfolding move_cases
+  move_leaves list other =
+      case_or (EffectIs P) _ _ (λ no. absurd (false≢true no))
+      (λ _. case_or (EffectIs P) _ _ (λ _. refused P _)
+      (λ is. absurd (no_holder (is_registered all j) (j == i) other is)))
+
   action_leaves : (action : OutAction) (type : Option ReservationType) (list : OutList)
       → is_registered all i ≡ true → (j == i) ≡ false
       → EffectIs P (action_outcome rules (alone_in all kind i before) j action type list)
@@ -198,6 +212,7 @@ module _ (rules : Rules) (all : List Registration) (kind : ReservationType) (bef
       (preempt_leaves type list.service_action_key here other).first
   action_leaves RegisterAndIgnoreExistingKey type list here other =
       (register_leaves list here other).first
+  action_leaves RegisterAndMove type list here other = (move_leaves list other).first
 
   pub outcome_leaves : (action : OutAction) (scope_type : ℕ) (list : OutList)
       → is_registered all i ≡ true → (j == i) ≡ false
@@ -218,10 +233,6 @@ stands : (held : Option Reservation) (i : ℕ) (change : ReservationChange)
     → EffectIs (IsHeld held i) (Ok change)
 stands held i change here same =
     effective (IsHeld held i) change (record { here = here; reservation = same })
-
-no_holder : (known b : Bool) → b ≡ false → not (known && b) ≡ false → ⊥
-no_holder true b h e = false≢true (sym e ∙ ap not h)
-no_holder false b h e = false≢true (sym e)
 
 module _ (rules : Rules) (all : List Registration) (kind : ReservationType) (before : ReservationState)
     (i j : ℕ) where
@@ -270,6 +281,14 @@ module _ (rules : Rules) (all : List Registration) (kind : ReservationType) (bef
       case_or (EffectIs H) _ _ (λ _. stands (held_alone kind i) i _ here refl)
       (λ is. absurd (no_holder (is_registered all j) (j == i) other is))
 
+  move_holds : (list : OutList) → (j == i) ≡ false
+      → FirstIs (EffectIs H) (move_cases (alone_in all kind i before) j list)
+  unfolding move_cases
+  move_holds list other =
+      case_or (EffectIs H) _ _ (λ no. absurd (false≢true no))
+      (λ _. case_or (EffectIs H) _ _ (λ _. refused H _)
+      (λ is. absurd (no_holder (is_registered all j) (j == i) other is)))
+
   action_holds : (action : OutAction) (type : Option ReservationType) (list : OutList)
       → ends_for_others action ≡ false → is_registered all i ≡ true → (j == i) ≡ false
       → EffectIs H (action_outcome rules (alone_in all kind i before) j action type list)
@@ -283,6 +302,7 @@ module _ (rules : Rules) (all : List Registration) (kind : ReservationType) (bef
       (λ new. release_holds new here other)
   action_holds RegisterAndIgnoreExistingKey type list mild here other =
       (register_holds list here other).first
+  action_holds RegisterAndMove type list mild here other = (move_holds list other).first
   action_holds Clear type list mild here other = absurd (false≢true (sym mild))
   action_holds Preempt type list mild here other = absurd (false≢true (sym mild))
   action_holds PreemptAndAbort type list mild here other = absurd (false≢true (sym mild))

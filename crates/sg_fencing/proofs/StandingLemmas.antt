@@ -5,7 +5,7 @@ use Rattle.std.proofs.Common.{Option, Some, None, Result, Ok, Err, refl, sym, ap
 use Rattle.std.proofs.lemmas.Bool.{ne_eqb, not-true}
 use Rattle.std.specs.Option.{option_map_or}
 use Rattle.std.specs.Result.{result_map_both}
-use Rattle.sg_wire.specs.CdbDecoding.{command_of}
+use Rattle.sg_wire.specs.CdbDecoding.{command_in, command_of}
 use Rattle.sg_wire.specs.declared.command.CdbFault.{CdbFault}
 use Rattle.sg_wire.specs.declared.command.Command.{Command}
 use Rattle.sg_wire.specs.declared.command.Command.TheVariants.{PersistentReserveOut}
@@ -27,7 +27,7 @@ use Rattle.sg_target.specs.Refusal.{when_sound}
 use Rattle.sg_target.specs.ReservationCommands.{changing_reservations, out_refusal}
 use Rattle.sg_target.specs.ReservationCommands.{reservation_change}
 use Rattle.sg_target.specs.Semantics.{effect_of}
-use Rattle.sg_target.specs.State.{State, config_of}
+use Rattle.sg_target.specs.State.{State, config_of, profile_of}
 use Rattle.sg_target.specs.Step.{Step, outcome as step_outcome, refused, step}
 use Rattle.sg_target.specs.declared.operation.Operation.{Operation}
 use Rattle.sg_target.specs.declared.operation.Operation.TheVariants.{ReturnModes, ChangeModes}
@@ -87,6 +87,17 @@ module _ (Stands : ReservationState → Type 0) (state : State) (j : ℕ)
         (λ operation k. outcome-stands (effect_of state j operation) (operation-stands operation
         (asked-fits (config_of state) k.command data_out operation k.operation_is kind
         (sym (ap (λ (p : Result Command CdbFault). is_of_list_kind kind p data_out) k.command_is)
+        ∙ of_kind))))
+
+    -- the same by the command that the profile of the disk has
+    pub step-stands-in : (cdb data_out : List ℕ)
+        → is_of_list_kind kind (command_in (profile_of state) cdb) data_out ≡ true
+        → Stands (step state j cdb data_out).state.reservations
+    step-stands-in cdb data_out of_kind =
+        lifted state j cdb data_out (λ (done : Step). Stands done.state.reservations) refused-stands
+        (λ operation k. outcome-stands (effect_of state j operation) (operation-stands operation
+        (asked-fits (config_of state) k.command data_out operation k.operation_is kind
+        (sym (ap (λ (p : Result Command CdbFault). is_of_list_kind kind p data_out) k.read_as)
         ∙ of_kind))))
 
 -- ---- Where i holds a reservation alone

@@ -38,7 +38,6 @@ use Rattle.sg_target.specs.Runs.{step_of}
 use Rattle.sg_target.specs.Semantics.{effect_of, medium_use}
 use Rattle.sg_target.specs.State.{State, config_of, profile_of}
 use Rattle.sg_target.specs.Step.{Step, outcome, refused, step}
-use Rattle.sg_target.specs.declared.event.Event.{Event}
 use Rattle.sg_target.specs.declared.event.Event.TheVariants as event
 use Rattle.sg_target.specs.declared.happening.Happening.{Happening}
 use Rattle.sg_target.specs.declared.happening.Happening.TheVariants.{Power, LogicalUnitReset}

@@ -24,7 +24,7 @@ use Rattle.sg_target.specs.Charge.{step_by}
 use Rattle.sg_target.specs.declared.call.Call.{Call}
 use Rattle.sg_target.specs.declared.operation.Operation.{Operation}
 use Rattle.sg_target.specs.declared.operation.Operation.TheVariants.{Compare, CompareAndWrite, OrWrite}
-use Rattle.sg_target.specs.declared.operation.Operation.TheVariants.{CompareEach, Verify}
+use Rattle.sg_target.specs.declared.operation.Operation.TheVariants.{CompareEach}
 use Rattle.sg_target.specs.declared.operation.Operation.TheVariants.{ReturnModes, ChangeModes}
 use Rattle.sg_target.specs.declared.operation.Operation.TheVariants.{Write, Fill}
 use Rattle.sg_target.specs.declared.operation.Operation.TheVariants.{Anchor, AnchorExtent}

@@ -9,6 +9,8 @@ use Rattle.sg_wire.specs.declared.command.Class.TheVariants.{Reads, Writes}
 use Rattle.sg_wire.specs.declared.command.Command.{Command}
 use Rattle.sg_wire.specs.declared.command.Command.TheVariants.{LogSense, PersistentReserveIn}
 use Rattle.sg_wire.specs.declared.command.Command.TheVariants.{PersistentReserveOut}
+use Rattle.sg_wire.specs.declared.command.out_action.OutAction.{OutAction}
+use Rattle.sg_wire.specs.declared.command.out_action.OutAction.TheVariants.{RegisterAndMove}
 use Rattle.sg_store.specs.Disk.{Contents, Disk}
 use Rattle.sg_pages.specs.ModePage.{ModeState}
 use Rattle.sg_units.specs.Attentions.{pending_for}
@@ -74,6 +76,16 @@ shows_others (Ok (PersistentReserveIn c)) = true
 shows_others (Ok (PersistentReserveOut c)) = true
 shows_others _ = false
 
+-- REGISTER AND MOVE, by which a holder gives its reservation to another initiator (SPC-4, 5.13). A base
+-- disk does not have it.
+abbrev pub is_moving : OutAction → Bool
+is_moving RegisterAndMove = true
+is_moving _ = false
+
+abbrev pub gives_away : Result Command CdbFault → Bool
+gives_away (Ok (PersistentReserveOut c)) = is_moving c.action
+gives_away _ = false
+
 -- ---- One command
 
 -- A command of another initiator, after which the holder still holds such a reservation, leaves the
@@ -87,7 +99,8 @@ OthersLeaveTheView =
 
 -- Suppose that the holder has equal views in two states of one disk. Then its command ends with
 -- equal views in both, and with equal answers, except to PERSISTENT RESERVE IN and PERSISTENT
--- RESERVE OUT.
+-- RESERVE OUT. Only a REGISTER AND MOVE may end otherwise: whether there is room for a registration is in
+-- no view of the holder.
 pub record EndAlike (holder : ℕ) (cdb : List ℕ) (first second : Step) : Type 0 where
   pub view : view_of first.state holder ≡ view_of second.state holder
   pub answer : shows_others (command_of cdb) ≡ false → first.answer ≡ second.answer
@@ -97,6 +110,7 @@ EqualViewsEndAlike =
     (first second : State) (holder : ℕ) (cdb data_out : List ℕ)
     → IsWithinLimits first → IsWithinLimits second → first.identity ≡ second.identity
     → view_of first holder ≡ view_of second holder → holds_alone first holder ≡ true
+    → gives_away (command_in (profile_of first) cdb) ≡ false
     → EndAlike holder cdb (step first holder cdb data_out) (step second holder cdb data_out)
 
 -- No command of another initiator that writes ends with GOOD. Under exclusive access, no command
@@ -181,13 +195,22 @@ NobodyElseStarts initiator state events =
     (let before = state_after_events state (take n events) in
     before.stopped ≡ true → (step_of before call).state.stopped ≡ true)
 
--- This holds if the initiator holds such a reservation before and after each call, and no other initiator
--- starts the unit.
+-- An initiator does not try to give a reservation away. On a base disk none can.
+abbrev pub GivesNothingAway : (initiator : ℕ) → State → List Event → Type 0
+GivesNothingAway initiator state events =
+    (n : ℕ) (call : Call) → slice_get events n ≡ Some (event.Call call)
+    → call.initiator ≡ initiator →
+    (let before = state_after_events state (take n events) in
+    gives_away (command_in (profile_of before) call.cdb.now) ≡ false)
+
+-- This holds if the initiator holds such a reservation before and after each call and does not try to give
+-- it away, and no other initiator starts the unit.
 abbrev pub HolderIsAsIfAlone : Type 0
 HolderIsAsIfAlone =
     (state : State) (holder : ℕ) (calls : List Call) → IsWithinLimits state
     → ((n : ℕ) → holds_alone (state_after_all state (take n calls)) holder ≡ true)
     → NobodyElseStarts holder state (all_calls calls)
+    → GivesNothingAway holder state (all_calls calls)
     → IsAsIfAlone state holder calls
 
 -- While an initiator holds a reservation for exclusive access, no command of another that reads,

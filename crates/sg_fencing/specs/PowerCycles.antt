@@ -17,7 +17,7 @@ use Rattle.sg_target.specs.declared.event.Event.TheVariants as event
 use Rattle.sg_target.specs.declared.happening.Happening.TheVariants.{Power}
 use Rattle.sg_target.specs.declared.reply.Status.TheVariants.{Good}
 use Rattle.sg_fencing.specs.ChosenAnswers.{answers_among}
-use Rattle.sg_fencing.specs.Fencing.{NobodyElseStarts, holds_alone, is_compared, is_from, view_of}
+use Rattle.sg_fencing.specs.Fencing.{GivesNothingAway, NobodyElseStarts, holds_alone, is_compared, is_from, view_of}
 use Rattle.sg_fencing.specs.Registrants.{IsNeverGranted, is_registrant, is_reserved}
 use Rattle.sg_fencing.specs.Registrants.{registering_list}
 
@@ -74,8 +74,9 @@ TwoAreOne =
 
 -- ---- Lists of events
 
--- A REGISTER or a REGISTER AND IGNORE EXISTING KEY counts if it ends with GOOD, and increments
--- PRGENERATION then. It does not count if its initiator is not registered and sends the key zero.
+-- A REGISTER, a REGISTER AND IGNORE EXISTING KEY or a REGISTER AND MOVE counts if it ends with GOOD, and
+-- increments PRGENERATION then. It does not count if its initiator is not registered and sends the key
+-- zero.
 pub record Counts (state : State) (call : Call) (list : OutList) : Type 0 where
   pub sent : registering_list (command_of call.cdb.now) call.data_out.now ≡ Some list
   pub good : (step_of state call).answer.status ≡ Good
@@ -134,13 +135,14 @@ pub record IsAsIfAloneAmong (state : State) (initiator : ℕ) (events : List Eve
       ≡ answers_among (is_compared initiator) state (events_of initiator events)
 
 -- This holds under three conditions. The initiator holds a reservation of a type that nobody shares
--- before and after each event. No other initiator starts the unit. In a run of only its own commands
--- and the power cycles, registrations and reservation persist at each power cycle. The first condition
--- does not imply the last: a REGISTER of another initiator sets APTPL for all.
+-- before and after each event, and does not try to give it away. No other initiator starts the unit. In a
+-- run of only its own commands and the power cycles, registrations and reservation persist at each power
+-- cycle. The first condition does not imply the last: a REGISTER of another initiator sets APTPL for all.
 abbrev pub HolderIsAsIfAloneThroughPowerCycles : Type 0
 HolderIsAsIfAloneThroughPowerCycles =
     (state : State) (holder : ℕ) (events : List Event) → IsWithinLimits state
     → ((n : ℕ) → holds_alone (state_after_events state (take n events)) holder ≡ true)
     → NobodyElseStarts holder state events
+    → GivesNothingAway holder state events
     → PersistAtPowerCycles state (events_of holder events)
     → IsAsIfAloneAmong state holder events

@@ -1,7 +1,7 @@
 -- Fencing by registration: what an initiator that is not registered can do while a reservation is
 -- held. Under the types registrants only and all registrants, all registrants may write. So a
 -- cluster fences a node off under these types: another node removes its registration by PREEMPT.
-use Rattle.std.specs.Prelude.{◌≡◌, ◌≢◌, ◌==◌, ℕ, Bool, true, false, ◌&&◌, ◌||◌, not, List}
+use Rattle.std.specs.Prelude.{◌≡◌, ◌≢◌, ◌⊎◌, ◌==◌, ℕ, Bool, true, false, ◌&&◌, ◌||◌, not, List}
 use Rattle.std.specs.Prelude.{Option, Some, None, Result, Ok, if◌then◌else◌}
 use Rattle.std.specs.Prelude.{is_some, slice_get, take}
 use Rattle.std.specs.List.{list_any}
@@ -17,13 +17,16 @@ use Rattle.sg_wire.specs.declared.command.out_action.OutAction.{OutAction}
 use Rattle.sg_wire.specs.declared.command.out_action.OutAction.TheVariants.{Preempt, Register}
 use Rattle.sg_wire.specs.declared.command.out_action.OutAction.TheVariants.{PreemptAndAbort}
 use Rattle.sg_wire.specs.declared.command.out_action.OutAction.TheVariants.{RegisterAndIgnoreExistingKey}
+use Rattle.sg_wire.specs.declared.command.out_action.OutAction.TheVariants.{RegisterAndMove}
 use Rattle.sg_store.specs.Disk.{Contents}
-use Rattle.sg_wire.specs.OutList.{out_list}
+use Rattle.sg_wire.specs.OutList.{list_of as out_list_of}
 use Rattle.sg_wire.specs.Profile.{rules_of}
 use Rattle.sg_wire.specs.declared.profile.Rules.{Rules}
 use Rattle.sg_wire.specs.declared.out_list.OutList.{OutList}
 use Rattle.sg_units.specs.Registrations.{is_registered, key_of}
 use Rattle.sg_units.specs.Laws.{is_exclusive_access}
+use Rattle.sg_units.specs.ReserveOut.{has_one_holder, moved, moved_to}
+use Rattle.sg_units.specs.Reservations.{is_holder}
 use Rattle.sg_units.specs.declared.reservation.Reservation.{Reservation}
 use Rattle.sg_target.specs.ReservationCommands.{is_register}
 use Rattle.sg_target.specs.Effect.{with_contents}
@@ -35,7 +38,7 @@ use Rattle.sg_target.specs.declared.event.Event.{Event}
 use Rattle.sg_target.specs.declared.event.Event.TheVariants as event
 use Rattle.sg_target.specs.declared.reply.Status.TheVariants.{Good}
 use Rattle.sg_fencing.specs.ChosenAnswers.{answers_where}
-use Rattle.sg_fencing.specs.Fencing.{CountsAsMany, IsLeft, is_from}
+use Rattle.sg_fencing.specs.Fencing.{CountsAsMany, IsLeft, is_from, is_moving}
 
 -- ---- Words
 
@@ -59,32 +62,40 @@ is_fenced_off state initiator = is_reserved state && not (is_registrant state in
 abbrev pub excludes_reading : Option Reservation → Bool
 excludes_reading held = option_map_or (λ (r : Reservation). is_exclusive_access r.kind) held false
 
--- REGISTER and REGISTER AND IGNORE EXISTING KEY.
+-- REGISTER, REGISTER AND IGNORE EXISTING KEY and REGISTER AND MOVE.
 abbrev pub is_registering : OutAction → Bool
 is_registering Register = true
 is_registering RegisterAndIgnoreExistingKey = true
+is_registering RegisterAndMove = true
 is_registering _ = false
 
--- The parameter list of a PERSISTENT RESERVE OUT with a service action of some kind (SPC-4, 6.16.3).
+-- The parameter list of a PERSISTENT RESERVE OUT with a service action of some kind (SPC-4, 6.16.3 and
+-- 6.16.4).
 abbrev pub list_of : (kind : OutAction → Bool) → Result Command CdbFault → (data_out : List ℕ)
     → Option OutList
 list_of kind (Ok (PersistentReserveOut c)) data_out =
-    if kind c.action then Some (out_list (first_bytes c.list_length data_out)) else None
+    if kind c.action then Some (out_list_of c.action (first_bytes c.list_length data_out)) else None
 list_of kind _ data_out = None
 
--- The parameter list of a REGISTER or a REGISTER AND IGNORE EXISTING KEY.
+-- The parameter list of such a command, and of a REGISTER AND MOVE.
 abbrev pub registering_list : Result Command CdbFault → (data_out : List ℕ) → Option OutList
 registering_list command data_out = list_of is_registering command data_out
 
--- With SPEC_I_PT a list names other initiators, too. Only an extended disk supports that.
+abbrev pub moving_list : Result Command CdbFault → (data_out : List ℕ) → Option OutList
+moving_list command data_out = list_of is_moving command data_out
+
+-- The list of a REGISTER AND MOVE names another initiator. With SPEC_I_PT any list names others, too, if
+-- the disk supports that.
 abbrev pub is_named : (initiator : ℕ) → Option ℕ → Bool
 is_named initiator named = option_map_or (λ other. other == initiator) named false
 
 abbrev pub names : Rules → OutList → (initiator : ℕ) → Bool
-names rules list initiator = rules.specifies_ports && list_any (is_named initiator) list.others
+names rules list initiator =
+    (rules.specifies_ports || not list.spec_i_pt) && list_any (is_named initiator) list.others
 
--- Such a list asks to register its sender, and each initiator that it names, if its key is not zero. With
--- the key zero it asks to unregister its sender (SPC-4, 5.13, registering and unregistering).
+-- Such a list asks to register its sender, and each initiator that it names, if its key is not zero. (The
+-- sender of a REGISTER AND MOVE has to be registered already.) With the key zero it asks to unregister
+-- its sender (SPC-4, 5.13, registering and unregistering).
 abbrev pub asks_for : Rules → (sender initiator : ℕ) → OutList → Bool
 asks_for rules sender initiator list =
     not (list.service_action_key == 0) && (sender == initiator || names rules list initiator)
@@ -161,7 +172,7 @@ OnlyRegisteringRegisters =
     → Registers state initiator caller cdb data_out
 
 -- An initiator and another that has sent the command are registered together, under one key. The sender
--- was not registered before. Only an extended disk supports that.
+-- was not registered before. Only an extended disk does that.
 pub record AreRegisteredTogether (before after : State) (initiator sender : ℕ) : Type 0 where
   pub supported : (rules_for before).specifies_ports ≡ true
   pub newcomer : is_registrant before sender ≡ false
@@ -169,14 +180,48 @@ pub record AreRegisteredTogether (before after : State) (initiator sender : ℕ)
   pub one_key : key_of after.reservations.registrations initiator
       ≡ key_of after.reservations.registrations sender
 
--- This holds if another initiator's command registers one. So a registrant registers nobody else, and
--- nobody registers another without itself.
+-- An initiator takes over the reservation, whose type stays. The sender of the command was its one holder.
+-- Only an extended disk does that.
+pub record TakesOver (before after : State) (initiator sender : ℕ) : Type 0 where
+  pub supported : (rules_for before).specifies_ports ≡ true
+  pub holder : is_holder before.reservations sender ≡ true
+  pub alone : has_one_holder before.reservations.reservation ≡ true
+  pub moved : after.reservations.reservation ≡ moved before.reservations.reservation initiator
+
+-- One of the two holds if another initiator's command registers one. So a registrant registers nobody else
+-- unless it gives its reservation away, and nobody else registers another without itself.
 abbrev pub OthersAreRegisteredTogether : Type 0
 OthersAreRegisteredTogether =
     (state : State) (initiator caller : ℕ) (cdb data_out : List ℕ) → caller ≢ initiator
     → is_registrant state initiator ≡ false
-    → is_registrant (step state caller cdb data_out).state initiator ≡ true
-    → AreRegisteredTogether state (step state caller cdb data_out).state initiator caller
+    → is_registrant (step state caller cdb data_out).state initiator ≡ true →
+    (let after = (step state caller cdb data_out).state in
+    AreRegisteredTogether state after initiator caller ⊎ TakesOver state after initiator caller)
+
+-- A reservation is handed over to the initiator that a list names. That one is registered under the key of
+-- the list. With UNREG the sender is not registered any more. No other key changes, no block and no mode
+-- page.
+pub record IsHandedOver (before after : State) (sender : ℕ) (list : OutList) : Type 0 where
+  pub target : ℕ
+  pub named : moved_to list.others ≡ Some target
+  pub another : target ≢ sender
+  pub taken_over : TakesOver before after target sender
+  pub key : key_of after.reservations.registrations target ≡ Some list.service_action_key
+  pub sender_key : key_of after.reservations.registrations sender
+      ≡ (if list.unreg then None else key_of before.reservations.registrations sender)
+  pub other_keys : (other : ℕ) → other ≢ target → other ≢ sender
+      → key_of after.reservations.registrations other ≡ key_of before.reservations.registrations other
+  pub disk : after.disk ≡ before.disk
+  pub modes : after.modes ≡ before.modes
+
+-- This holds after a REGISTER AND MOVE that ends with GOOD. So only the one holder hands a reservation
+-- over, and one initiator or the other holds it at each moment.
+abbrev pub HoldersHandOver : Type 0
+HoldersHandOver =
+    (state : State) (caller : ℕ) (cdb data_out : List ℕ) (list : OutList)
+    → moving_list (command_of cdb) data_out ≡ Some list
+    → (step state caller cdb data_out).answer.status ≡ Good
+    → IsHandedOver state (step state caller cdb data_out).state caller list
 
 -- After a PREEMPT or a PREEMPT AND ABORT that ends with GOOD, no other initiator is registered that
 -- was registered under its key.

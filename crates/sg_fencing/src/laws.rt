@@ -19,7 +19,7 @@ ghost use Rattle.sg_fencing.specs.PowerCycles.{PersistentOnesStay, PowerOnIsPend
 ghost use Rattle.sg_fencing.specs.PowerCycles.{TheLastRegisterDecides};
 ghost use Rattle.sg_fencing.specs.Registrants.{FencedOffAreKeptOut, FencedOffLeaveTheView};
 ghost use Rattle.sg_fencing.specs.Registrants.{FencedOffReadNothing, FencedOffSeeNoBlock};
-ghost use Rattle.sg_fencing.specs.Registrants.{FencedOffWriteNothing, NoBlockIsSeenOverAList};
+ghost use Rattle.sg_fencing.specs.Registrants.{FencedOffWriteNothing, HoldersHandOver, NoBlockIsSeenOverAList};
 ghost use Rattle.sg_fencing.specs.Registrants.{OldKeysAreRefused};
 ghost use Rattle.sg_fencing.specs.Registrants.{OnlyRegisteringRegisters, OthersAreRegisteredTogether};
 ghost use Rattle.sg_fencing.specs.Registrants.{OutsidersChangeNothing};
@@ -163,8 +163,8 @@ pub fn only_preemption_ends_a_reservation()
 {}
 
 /// An initiator that holds such a reservation has equal views in two states of one disk. Then a
-/// command of it ends with equal views in both. The answers are equal too, except to PERSISTENT
-/// RESERVE IN and PERSISTENT RESERVE OUT.
+/// command of it ends with equal views in both, unless it gives the reservation away. The answers are
+/// equal too, except to PERSISTENT RESERVE IN and PERSISTENT RESERVE OUT.
 pub fn equal_views_of_a_holder_end_alike()
     ensures { EqualViewsEndAlike }
 {
@@ -191,7 +191,8 @@ pub fn others_see_no_block()
 
 /// An initiator holds such a reservation before and after each command of a list. Then its view in
 /// the end is the view after its own commands only. So are the answers to its commands, except to
-/// PERSISTENT RESERVE IN and PERSISTENT RESERVE OUT. No other initiator may start a stopped unit.
+/// PERSISTENT RESERVE IN and PERSISTENT RESERVE OUT. No other initiator may start a stopped unit, and this
+/// one may not try to give the reservation away.
 pub fn a_holder_is_served_as_if_alone()
     ensures { HolderIsAsIfAlone }
 {
@@ -238,18 +239,26 @@ pub fn the_unregistered_see_no_block()
     commands_have_their_class();
 }
 
-/// An initiator that is not registered becomes registered only by a REGISTER or a REGISTER AND IGNORE
-/// EXISTING KEY that asks for it. The command has a key other than zero, and ends with GOOD. It is the
-/// initiator's own, or on an extended disk names it with SPEC_I_PT.
+/// An initiator that is not registered becomes registered only by a REGISTER, a REGISTER AND IGNORE
+/// EXISTING KEY or a REGISTER AND MOVE that asks for it. The command has a key other than zero, and ends
+/// with GOOD. It is the initiator's own, or on an extended disk names it.
 pub fn only_registering_registers()
     ensures { OnlyRegisteringRegisters }
 {}
 
-/// If another initiator's command registers one, it registers its sender, too, which was not registered.
-/// Both have one key afterwards. Only an extended disk does that, for SPEC_I_PT. So a registrant registers
-/// nobody else.
+/// If another initiator's command registers one, it registers its sender, too, which was not registered,
+/// and both have one key afterwards. Or the sender was the one holder of a reservation, which the other
+/// takes over. Only an extended disk does that, for SPEC_I_PT and by REGISTER AND MOVE. So a registrant
+/// registers nobody else unless it gives its reservation away.
 pub fn others_are_registered_together()
     ensures { OthersAreRegisteredTogether }
+{}
+
+/// A REGISTER AND MOVE that ends with GOOD was sent by the one holder of a reservation. The initiator that
+/// it names takes the reservation over, and is registered under its key. With UNREG the sender is not
+/// registered any more. Nothing else changes that anybody has.
+pub fn holders_hand_over()
+    ensures { HoldersHandOver }
 {}
 
 /// An unregistered initiator stays unregistered over a list of commands if no command that asks to
@@ -415,7 +424,7 @@ pub fn the_unregistered_write_nothing_through_power_cycles()
 }
 
 /// An initiator holds a reservation that nobody shares before and after each command and power
-/// cycle of a list. Registrations persist at each power cycle of a run of only its own commands and
+/// cycle of a list, and does not try to give it away. Registrations persist at each power cycle of a run of only its own commands and
 /// the power cycles. Then its view in the end is the view after that run. So are the answers to its
 /// commands, except to PERSISTENT RESERVE IN and PERSISTENT RESERVE OUT. So at a power cycle a
 /// holder sees POWER ON and the saved mode pages, and nothing more.

@@ -1,4 +1,4 @@
-use Rattle.std.proofs.Common.{◌≡◌, refl, true}
+use Rattle.std.proofs.Common.{◌≡◌, true}
 use Rattle.sg_target.specs.State.{State}
 use Rattle.sg_fencing.specs.Fencing.{IsLeft, holds_alone}
 use Rattle.sg_fencing.proofs.FaultLemmas.{kept-away, left-without-writing}
