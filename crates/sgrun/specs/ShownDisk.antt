@@ -89,10 +89,15 @@ page_lines saved =
 
 -- ---- Registrations and reservation (SPC-4, 5.13)
 
+-- A registration for every target port (ALL_TG_PT) says so.
+abbrev pub ports_text : (all_tg_pt : Bool) → List ℕ
+ports_text true = codes ", all target ports"
+ports_text false = []
+
 unfoldable pub registration_line : Registration → List ℕ
 registration_line registration =
     codes "  initiator: " ++ (decimal registration.initiator ++ (codes ", key: "
-    ++ (sixteen_digits registration.key ++ codes "\n")))
+    ++ (sixteen_digits registration.key ++ (ports_text registration.all_tg_pt ++ codes "\n"))))
 
 -- Each registrant holds an all registrants reservation.
 abbrev pub holder_text : Option ℕ → List ℕ

@@ -11,7 +11,7 @@ ghost use Rattle.sg_wire.specs.Watched.{SendsText, has_failed};
 ghost use Rattle.sgrun.specs.ShownDisk.{block_lines, extent_line, facts, flag, hex_line};
 ghost use Rattle.sgrun.specs.ShownDisk.{held_reservation_line, holder_text, identity_lines, line};
 ghost use Rattle.sgrun.specs.ShownDisk.{name_line, number_line, page_lines, profile_name};
-ghost use Rattle.sgrun.specs.ShownDisk.{registration_line};
+ghost use Rattle.sgrun.specs.ShownDisk.{ports_text, registration_line};
 ghost use Rattle.sgrun.specs.ShownDisk.{reservation_line, reservation_lines, run_line, run_lines_from};
 ghost use Rattle.sgrun.specs.ShownDisk.{saves_wce, shown_disk, sixteen_digits, size_lines};
 ghost use Rattle.sgrun.specs.declared.show_disk.TheConstants.{LONGEST_PAGE};
@@ -192,7 +192,16 @@ fn put_registration<W: Write>(registration: &Registration, out: &mut Printer<'_,
     put_initiator(registration.initiator, out);
     out.put(b", key: ");
     put_digits(registration.key, out);
+    put_ports(registration.all_tg_pt, out);
     out.put(b"\n");
+}
+
+fn put_ports<W: Write>(all_tg_pt: bool, out: &mut Printer<'_, W>)
+    ensures { PrintsText W.contents out.old out.new (ports_text all_tg_pt) }
+{
+    if all_tg_pt {
+        out.put(b", all target ports");
+    }
 }
 
 fn put_reservation<W: Write>(reservation: Option<Reservation>, out: &mut Printer<'_, W>)
