@@ -1,14 +1,16 @@
 -- The first record is an exact format.
-use Rattle.std.proofs.Common.{◌≡◌, ℕ, zero, suc, List, Some, refl, sym, subst}
+use Rattle.std.proofs.Common.{◌≡◌, ℕ, zero, suc, List, Some, Bool, true, false, refl, sym, subst}
+use Rattle.sg_pages.specs.declared.physical_block.PhysicalBlock.{PhysicalBlock}
+use Rattle.sg_pages.specs.declared.physical_block.PhysicalBlock.TheVariants.{Of512, Of4096}
 use Rattle.sg_wire.specs.declared.profile.Profile.{Profile}
 use Rattle.sg_wire.specs.declared.profile.Profile.TheVariants.{Base, Extended}
 use Rattle.sg_changes.specs.FirstRecord.{NewDiskFields, disk_with_tag, first_record, first_record_of}
 use Rattle.sg_changes.specs.FirstRecord.{identity, is_identity, is_new_disk, new_disk, profile, profile_code}
-use Rattle.sg_changes.specs.FirstRecord.{profile_of}
-use Rattle.sg_changes.specs.Format.{Format, IsExact, flag, number, pair, plain}
+use Rattle.sg_changes.specs.FirstRecord.{kind, kind_code, kind_of, profile_of}
+use Rattle.sg_changes.specs.Format.{Format, IsExact, number, pair, plain}
 use Rattle.sg_changes.proofs.FieldLemmas.{renamed_exact, table_exact}
 use Rattle.sg_changes.proofs.FormatLemmas.{number_exact, pair_exact, plain_exact}
-use Rattle.sg_changes.proofs.ManyLemmas.{flag_exact, only_exact}
+use Rattle.sg_changes.proofs.ManyLemmas.{only_exact}
 use Rattle.sg_changes.proofs.TagLemmas.{IsRow, chosen, tagged_exact}
 
 profile-found : (n : ℕ) (p : Profile) → profile_of n ≡ Some p → profile_code p ≡ n
@@ -26,6 +28,35 @@ profile-exact : IsExact profile
 unfolding profile
 profile-exact = table_exact profile_code profile_of profile-found profile-again
 
+kind-found : (n : ℕ) (k : Bool × PhysicalBlock) → kind_of n ≡ Some k → kind_code k.0 k.1 ≡ n
+kind-found zero (false, Of512) e = refl
+kind-found zero (true, Of512) e = absurd cc
+kind-found zero (false, Of4096) e = absurd cc
+kind-found zero (true, Of4096) e = absurd cc
+kind-found (suc zero) (false, Of512) e = absurd cc
+kind-found (suc zero) (true, Of512) e = refl
+kind-found (suc zero) (false, Of4096) e = absurd cc
+kind-found (suc zero) (true, Of4096) e = absurd cc
+kind-found (suc (suc zero)) (false, Of512) e = absurd cc
+kind-found (suc (suc zero)) (true, Of512) e = absurd cc
+kind-found (suc (suc zero)) (false, Of4096) e = refl
+kind-found (suc (suc zero)) (true, Of4096) e = absurd cc
+kind-found (suc (suc (suc zero))) (false, Of512) e = absurd cc
+kind-found (suc (suc (suc zero))) (true, Of512) e = absurd cc
+kind-found (suc (suc (suc zero))) (false, Of4096) e = absurd cc
+kind-found (suc (suc (suc zero))) (true, Of4096) e = refl
+kind-found (suc (suc (suc (suc n)))) k e = absurd cc
+
+kind-again : (k : Bool × PhysicalBlock) → kind_of (kind_code k.0 k.1) ≡ Some k
+kind-again (false, Of512) = refl
+kind-again (true, Of512) = refl
+kind-again (false, Of4096) = refl
+kind-again (true, Of4096) = refl
+
+kind-exact : IsExact kind
+unfolding kind
+kind-exact = table_exact (λ k. kind_code k.0 k.1) kind_of kind-found kind-again
+
 -- the fields of an identity, each with its format
 identity-exact : IsExact identity
 unfolding identity
@@ -39,19 +70,35 @@ identity-exact =
       serial = p.1.1.1.0;
       local = p.1.1.1.1.0;
       profile = p.1.1.1.1.1.0;
-      takes_short_data_out = p.1.1.1.1.1.1;
+      takes_short_data_out = p.1.1.1.1.1.1.0;
+      physical_block = p.1.1.1.1.1.1.1;
     })
-    (λ i. (i.vendor, (i.product, (i.revision, (i.serial, (i.local, (i.profile, i.takes_short_data_out)))))))
-    (pair (plain 8) (pair (plain 16) (pair (plain 4) (pair (plain 8) (pair (number 8) (pair profile flag))))))
+    (λ i. (
+      i.vendor,
+      (
+        i.product,
+        (
+          i.revision,
+          (
+            i.serial,
+            (
+              i.local,
+              (i.profile, (i.takes_short_data_out, i.physical_block)),
+            ),
+          ),
+        ),
+      ),
+    ))
+    (pair (plain 8) (pair (plain 16) (pair (plain 4) (pair (plain 8) (pair (number 8) (pair profile kind))))))
     (pair_exact (plain 8) (pair (plain 16) (pair (plain 4)
-    (pair (plain 8) (pair (number 8) (pair profile flag)))))
+    (pair (plain 8) (pair (number 8) (pair profile kind)))))
     (plain_exact 8)
-    (pair_exact (plain 16) (pair (plain 4) (pair (plain 8) (pair (number 8) (pair profile flag))))
+    (pair_exact (plain 16) (pair (plain 4) (pair (plain 8) (pair (number 8) (pair profile kind))))
     (plain_exact 16)
-    (pair_exact (plain 4) (pair (plain 8) (pair (number 8) (pair profile flag))) (plain_exact 4)
-    (pair_exact (plain 8) (pair (number 8) (pair profile flag)) (plain_exact 8)
-    (pair_exact (number 8) (pair profile flag) (number_exact 8)
-    (pair_exact profile flag profile-exact flag_exact))))))
+    (pair_exact (plain 4) (pair (plain 8) (pair (number 8) (pair profile kind))) (plain_exact 4)
+    (pair_exact (plain 8) (pair (number 8) (pair profile kind)) (plain_exact 8)
+    (pair_exact (number 8) (pair profile kind) (number_exact 8)
+    (pair_exact profile kind profile-exact kind-exact))))))
     (λ p. refl) (λ i. refl))
 
 disk-exact : IsExact new_disk

@@ -1,13 +1,15 @@
 -- The first record of a file: the disk as it was made. No change has its tag.
 use Rattle.std.specs.Prelude.{ℕ, ◌^◌, ◌==◌, Bool, ◌&&◌, nat_le, nat_lt, List, ◌∷◌, zero, suc}
-use Rattle.std.specs.Prelude.{Option, Some, None, if◌then◌else◌}
+use Rattle.std.specs.Prelude.{Option, Some, None, false, true, if◌then◌else◌}
 use Rattle.sg_pages.specs.Identity.{IdentityFields}
 use Rattle.sg_pages.specs.NewIdentity.{are_texts}
+use Rattle.sg_pages.specs.declared.physical_block.PhysicalBlock.{PhysicalBlock}
+use Rattle.sg_pages.specs.declared.physical_block.PhysicalBlock.TheVariants.{Of512, Of4096}
 use Rattle.sg_store.specs.Disk.{max_capacity}
 use Rattle.sg_wire.specs.Profile.{limits_of}
 use Rattle.sg_wire.specs.declared.profile.Profile.{Profile}
 use Rattle.sg_wire.specs.declared.profile.Profile.TheVariants.{Base, Extended}
-use Rattle.sg_changes.specs.Format.{Format, coded, flag, made, number, only, pair, plain, tagged}
+use Rattle.sg_changes.specs.Format.{Format, coded, made, number, only, pair, plain, tagged}
 use Rattle.sg_changes.specs.KeptFields.{KeptFields, blank}
 
 -- The number of addresses, the number of blocks of the pool, and the identity.
@@ -50,8 +52,24 @@ profile_code Extended = 1
 unfoldable pub profile : Format Profile
 profile = coded profile_of (λ p. Some (profile_code p)) (number 1)
 
--- VENDOR 8, PRODUCT 16, REVISION 4, SERIAL NUMBER 8, LOCAL IDENTIFIER 8, PROFILE 1, and whether the
--- disk takes too little data-out 1.
+-- KIND 1: 1 if the disk takes too little data-out, and 2 more if a physical block has 4,096 bytes.
+abbrev pub kind_of : ℕ → Option (Bool × PhysicalBlock)
+kind_of zero = Some (false, Of512)
+kind_of (suc zero) = Some (true, Of512)
+kind_of (suc (suc zero)) = Some (false, Of4096)
+kind_of (suc (suc (suc zero))) = Some (true, Of4096)
+kind_of (suc (suc (suc (suc _)))) = None
+
+abbrev pub kind_code : (takes_short_data_out : Bool) → PhysicalBlock → ℕ
+kind_code false Of512 = 0
+kind_code true Of512 = 1
+kind_code false Of4096 = 2
+kind_code true Of4096 = 3
+
+unfoldable pub kind : Format (Bool × PhysicalBlock)
+kind = coded kind_of (λ k. Some (kind_code k.0 k.1)) (number 1)
+
+-- VENDOR 8, PRODUCT 16, REVISION 4, SERIAL NUMBER 8, LOCAL IDENTIFIER 8, PROFILE 1 and KIND 1.
 unfoldable pub identity : Format IdentityFields
 identity =
     only is_identity
@@ -63,16 +81,32 @@ identity =
       serial = p.1.1.1.0;
       local = p.1.1.1.1.0;
       profile = p.1.1.1.1.1.0;
-      takes_short_data_out = p.1.1.1.1.1.1;
+      takes_short_data_out = p.1.1.1.1.1.1.0;
+      physical_block = p.1.1.1.1.1.1.1;
     }))
     (λ (i : IdentityFields).
-    Some (i.vendor, (i.product, (i.revision, (i.serial, (i.local, (i.profile, i.takes_short_data_out)))))))
+    Some (
+      i.vendor,
+      (
+        i.product,
+        (
+          i.revision,
+          (
+            i.serial,
+            (
+              i.local,
+              (i.profile, (i.takes_short_data_out, i.physical_block)),
+            ),
+          ),
+        ),
+      ),
+    ))
     (pair (plain 8)
     (pair (plain 16)
     (pair (plain 4)
     (pair (plain 8)
     (pair (number 8)
-    (pair profile flag)))))))
+    (pair profile kind)))))))
 
 -- CAPACITY 8, POOL 4, and the identity.
 abbrev pub disk_fields : Format NewDiskFields

@@ -1,9 +1,9 @@
 // The first record of a file: the disk as it was made.
-use crate::fields::{array_at, flag_at, u8_at, u32_at, u64_at};
+use crate::fields::{array_at, u8_at, u32_at, u64_at};
 use crate::sink::Sink;
 use crate::tag;
-use crate::writing::{put_bytes, put_flag, put_u8, put_u32, put_u64};
-use sg_pages::Identity;
+use crate::writing::{put_bytes, put_u8, put_u32, put_u64};
+use sg_pages::{Identity, PhysicalBlock};
 use sg_store::MAX_CAPACITY;
 use sg_wire::Profile;
 use std::marker::Model;
@@ -34,7 +34,7 @@ impl Model for NewDisk {
 ghost use Rattle.std.specs.Prelude.{◌≡◌, ◌≤◌};
 ghost use Rattle.sg_store.specs.Disk.{max_capacity, max_pool};
 ghost use Rattle.sg_changes.specs.FirstRecord.{first_record, identity as identity_format, is_new_disk};
-ghost use Rattle.sg_changes.specs.FirstRecord.{first_record_length, new_disk, profile};
+ghost use Rattle.sg_changes.specs.FirstRecord.{first_record_length, kind, new_disk, profile};
 ghost use Rattle.sg_changes.specs.Format.{passing};
 ghost use Rattle.sg_changes.specs.Reading.{Gives};
 ghost use Rattle.sg_changes.specs.Writing.{Takes};
@@ -137,6 +137,20 @@ fn profile_at(bytes: &[u8]) -> Option<(Profile, &[u8])>
     }
 }
 
+#[tactic(auto, unfolding(crate::specs::FirstRecord::kind))]
+fn kind_at(bytes: &[u8]) -> Option<((bool, PhysicalBlock), &[u8])>
+    ensures { Gives (λ f. (f.0, f.1.now)) result (kind.at bytes.now) }
+{
+    let (code, rest) = u8_at(bytes)?;
+    match code {
+        0 => Some(((false, PhysicalBlock::Of512), rest)),
+        1 => Some(((true, PhysicalBlock::Of512), rest)),
+        2 => Some(((false, PhysicalBlock::Of4096), rest)),
+        3 => Some(((true, PhysicalBlock::Of4096), rest)),
+        _ => None,
+    }
+}
+
 #[tactic(auto, unfolding(crate::specs::FirstRecord::identity))]
 fn identity_at(bytes: &[u8]) -> Option<(Identity, &[u8])>
     ensures { Gives (λ f. (f.0, f.1.now)) result (identity_format.at bytes.now) }
@@ -147,11 +161,12 @@ fn identity_at(bytes: &[u8]) -> Option<(Identity, &[u8])>
     let (serial, rest) = array_at(rest)?;
     let (local, rest) = u64_at(rest)?;
     let (profile, rest) = profile_at(rest)?;
-    let (takes_short_data_out, rest) = flag_at(rest)?;
+    let ((takes_short_data_out, physical_block), rest) = kind_at(rest)?;
     let names = Identity::new(*vendor, *product, *revision, *serial, local).ok()?;
     let identity = names
         .with_profile(profile)
-        .with_short_data_out(takes_short_data_out);
+        .with_short_data_out(takes_short_data_out)
+        .with_physical_block(physical_block);
     Some((identity, rest))
 }
 
@@ -178,5 +193,22 @@ fn put_identity<S: Sink>(sink: &mut S, identity: &Identity)
     put_bytes(sink, identity.serial());
     put_u64(sink, identity.local());
     put_profile(sink, identity.profile());
-    put_flag(sink, identity.takes_short_data_out());
+    put_kind(
+        sink,
+        identity.takes_short_data_out(),
+        identity.physical_block(),
+    );
+}
+
+#[tactic(auto, unfolding(crate::specs::FirstRecord::kind))]
+fn put_kind<S: Sink>(sink: &mut S, takes_short_data_out: bool, physical: PhysicalBlock)
+    requires { 1 ≤ S.room sink.old }
+    ensures { Takes S.contents S.room kind 1 sink.old sink.new (takes_short_data_out, physical) }
+{
+    match (takes_short_data_out, physical) {
+        (false, PhysicalBlock::Of512) => put_u8(sink, 0),
+        (true, PhysicalBlock::Of512) => put_u8(sink, 1),
+        (false, PhysicalBlock::Of4096) => put_u8(sink, 2),
+        (true, PhysicalBlock::Of4096) => put_u8(sink, 3),
+    }
 }

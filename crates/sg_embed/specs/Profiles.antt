@@ -4,6 +4,7 @@ use Rattle.std.specs.Prelude.{slice_get}
 use Rattle.sg_wire.specs.declared.profile.Profile.TheVariants.{Base, Extended}
 use Rattle.sg_pages.specs.Identity.{IdentityFields}
 use Rattle.sg_pages.specs.declared.identity.IdentityFault.{IdentityFault}
+use Rattle.sg_pages.specs.declared.physical_block.PhysicalBlock.TheVariants.{Of512, Of4096}
 use Rattle.sg_embed.specs.Outcome.{identity_outcome}
 use Rattle.sg_embed.specs.declared.outcome.Outcome.{Outcome}
 use Rattle.sg_embed.specs.declared.outcome.Outcome.TheVariants.{UnknownProfile}
@@ -13,9 +14,10 @@ use Rattle.sg_kept.specs.declared.asked.AskedProfile.{AskedProfile}
 -- In the order of their numbers in the header, from 0 on.
 abbrev pub profiles : List AskedProfile
 profiles =
-    asked_profile Base false
-    ∷ asked_profile Extended false
-    ∷ asked_profile Extended true
+    asked_profile Base false Of512
+    ∷ asked_profile Extended false Of512
+    ∷ asked_profile Extended true Of512
+    ∷ asked_profile Extended false Of4096
     ∷ []
 
 abbrev pub profile_numbered : ℕ → Option AskedProfile

@@ -3,10 +3,10 @@ ghost use Rattle.std.specs.Prelude.{◌≡◌, ◌≢◌, IfErr};
 ghost use Rattle.sg_embed.specs.Profiles.{identity_with_profile, profile_numbered};
 
 use crate::outcome::Outcome;
-use sg_kept::asked::{AskedProfile, BASE, EXTENDED, EXTENDED_CUT};
+use sg_kept::asked::{AskedProfile, BASE, EXTENDED, EXTENDED_512E, EXTENDED_CUT};
 use sg_pages::{Identity, IdentityFault};
 
-const PROFILES: [AskedProfile; 3] = [BASE, EXTENDED, EXTENDED_CUT];
+const PROFILES: [AskedProfile; 4] = [BASE, EXTENDED, EXTENDED_CUT, EXTENDED_512E];
 
 /// An identity with the profile that has a number of the header.
 ///

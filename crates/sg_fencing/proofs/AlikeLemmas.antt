@@ -317,8 +317,8 @@ module _ (Related : ReservationState → ReservationState → Type 0) (s : State
       leaving (returning s (capacity_10 s.disk.capacity))
       (returning t (capacity_10 t.disk.capacity)) refl refl refl refl refl
   operation-agrees (ReturnCapacity16 n) c =
-      leaving (returning_up_to s n (capacity_16 s.disk.capacity))
-      (returning_up_to t n (capacity_16 t.disk.capacity)) refl refl refl refl refl
+      leaving (returning_up_to s n (capacity_16 s.disk.capacity s.identity.physical_block))
+      (returning_up_to t n (capacity_16 t.disk.capacity t.identity.physical_block)) refl refl refl refl refl
   operation-agrees (Read extent) c = leaving (reading s extent) (reading t extent) refl refl refl refl refl
   operation-agrees (Write out) c = leaving (writing s out) (writing t out) refl refl refl refl refl
   operation-agrees (Verify extent) c = leaving (no_effect s) (no_effect t) refl refl refl refl refl

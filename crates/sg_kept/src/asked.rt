@@ -2,7 +2,7 @@
 ghost use Rattle.std.specs.Prelude.{◌≡◌};
 ghost use Rattle.sg_kept.specs.Asked.{has_profile, is_other, is_other_profile, of_profile, profile_of};
 
-use sg_pages::Identity;
+use sg_pages::{Identity, PhysicalBlock};
 use sg_wire::Profile;
 
 /// A profile, and what else its name says of a disk.
@@ -12,24 +12,36 @@ pub struct AskedProfile {
     pub profile: Profile,
     /// Whether it takes less data-out than a command needs.
     pub takes_short_data_out: bool,
+    /// The physical blocks that it reports.
+    pub physical_block: PhysicalBlock,
 }
 
 /// The base profile.
 pub const BASE: AskedProfile = AskedProfile {
     profile: Profile::Base,
     takes_short_data_out: false,
+    physical_block: PhysicalBlock::Of512,
 };
 
 /// The extended profile.
 pub const EXTENDED: AskedProfile = AskedProfile {
     profile: Profile::Extended,
     takes_short_data_out: false,
+    physical_block: PhysicalBlock::Of512,
 };
 
 /// The extended profile, with commands that take less data-out than they need.
 pub const EXTENDED_CUT: AskedProfile = AskedProfile {
     profile: Profile::Extended,
     takes_short_data_out: true,
+    physical_block: PhysicalBlock::Of512,
+};
+
+/// The extended profile, with physical blocks of 4,096 bytes.
+pub const EXTENDED_512E: AskedProfile = AskedProfile {
+    profile: Profile::Extended,
+    takes_short_data_out: false,
+    physical_block: PhysicalBlock::Of4096,
 };
 
 impl AskedProfile {
@@ -40,6 +52,7 @@ impl AskedProfile {
         AskedProfile {
             profile: disk.profile(),
             takes_short_data_out: disk.takes_short_data_out(),
+            physical_block: disk.physical_block(),
         }
     }
 
@@ -50,6 +63,7 @@ impl AskedProfile {
         names
             .with_profile(self.profile)
             .with_short_data_out(self.takes_short_data_out)
+            .with_physical_block(self.physical_block)
     }
 
     /// Whether a disk has the profile.
@@ -59,6 +73,7 @@ impl AskedProfile {
         let is_extended = self.profile.has(Profile::Extended);
         is_extended == disk.profile().has(Profile::Extended)
             && self.takes_short_data_out == disk.takes_short_data_out()
+            && self.physical_block == disk.physical_block()
     }
 }
 

@@ -5,6 +5,7 @@ pub mod DataLengths
 pub mod ExtendedPages
 pub mod Identity
 pub mod NewIdentity
+pub mod PhysicalBlock
 pub mod InquiryData
 pub mod ModeLaws
 pub mod ModePage

@@ -9,9 +9,11 @@ use Rattle.sg_wire.specs.Ascii.{is_printable}
 use Rattle.sg_wire.specs.declared.profile.Profile.TheVariants.{Base}
 use Rattle.sg_pages.specs.declared.identity.IdentityFault.{IdentityFault}
 use Rattle.sg_pages.specs.declared.identity.IdentityFault.TheVariants.{Text, Local}
+use Rattle.sg_pages.specs.declared.physical_block.PhysicalBlock.TheVariants.{Of512}
 use Rattle.sg_pages.specs.Identity.{IdentityFields}
 
--- The names of a disk of the base profile, which refuses a command with too little data-out.
+-- The names of a disk of the base profile, which refuses a command with too little data-out. A physical
+-- block has 512 bytes.
 abbrev pub identity_fields : (vendor product revision serial : List ℕ) (local : ℕ) → IdentityFields
 identity_fields vendor product revision serial local = record {
   vendor = vendor;
@@ -21,6 +23,7 @@ identity_fields vendor product revision serial local = record {
   local = local;
   profile = Base;
   takes_short_data_out = false;
+  physical_block = Of512;
 }
 
 -- The default identity of a disk.

@@ -3,6 +3,8 @@
 use Rattle.std.specs.Prelude.{ℕ, ◌-◌, ◌/◌, ◌^◌, List, [], ◌∷◌, ◌++◌}
 use Rattle.sg_wire.specs.Fields.{Field, field, fields_bytes}
 use Rattle.sg_wire.specs.UnmapList.{maximum_unmap_descriptors}
+use Rattle.sg_pages.specs.PhysicalBlock.{blocks_in}
+use Rattle.sg_pages.specs.declared.physical_block.PhysicalBlock.{PhysicalBlock}
 use Rattle.sg_wire.specs.declared.profile.Limits.{Limits}
 use Rattle.sg_wire.specs.declared.profile.Profile.{Profile}
 use Rattle.sg_wire.specs.declared.profile.Profile.TheVariants.{Base, Extended}
@@ -18,9 +20,9 @@ wsnz = field 1 0x01
 abbrev compare_and_write_length : Limits → Field
 compare_and_write_length limits = field 1 limits.compare_and_write_length
 
--- OPTIMAL TRANSFER LENGTH GRANULARITY, bytes 6 and 7, in blocks.
-abbrev transfer_granularity : Field
-transfer_granularity = field 2 1
+-- OPTIMAL TRANSFER LENGTH GRANULARITY, bytes 6 and 7, in blocks: a physical block.
+abbrev transfer_granularity : PhysicalBlock → Field
+transfer_granularity physical = field 2 (blocks_in physical)
 
 -- MAXIMUM TRANSFER LENGTH, bytes 8 to 11, in blocks.
 abbrev transfer_length : Limits → Field
@@ -42,9 +44,9 @@ unmap_lba_count = field 4 0xFFFFFFFF
 abbrev unmap_descriptor_count : Field
 unmap_descriptor_count = field 4 maximum_unmap_descriptors
 
--- OPTIMAL UNMAP GRANULARITY, bytes 28 to 31, in blocks.
-abbrev unmap_granularity : Field
-unmap_granularity = field 4 1
+-- OPTIMAL UNMAP GRANULARITY, bytes 28 to 31, in blocks: a physical block.
+abbrev unmap_granularity : PhysicalBlock → Field
+unmap_granularity physical = field 4 (blocks_in physical)
 
 -- UGAVALID and UNMAP GRANULARITY ALIGNMENT, bytes 32 to 35: not reported.
 abbrev unmap_alignment : Field
@@ -65,18 +67,18 @@ atomic_transfer_length limits = field 4 limits.atomic_transfer_length
 abbrev reserved : Field
 reserved = field 16 0
 
-unfoldable pub block_limits : Limits → List ℕ
-block_limits limits =
+unfoldable pub block_limits : Limits → PhysicalBlock → List ℕ
+block_limits limits physical =
     fields_bytes (
     wsnz
     ∷ compare_and_write_length limits
-    ∷ transfer_granularity
+    ∷ transfer_granularity physical
     ∷ transfer_length limits
     ∷ optimal_transfer_length
     ∷ prefetch_length
     ∷ unmap_lba_count
     ∷ unmap_descriptor_count
-    ∷ unmap_granularity
+    ∷ unmap_granularity physical
     ∷ unmap_alignment
     ∷ write_same_length limits
     ∷ atomic_transfer_length limits

@@ -9,6 +9,7 @@ mod identity;
 mod inquiry_data;
 pub mod laws;
 mod mode_pages;
+mod physical_block;
 mod provisioning_pages;
 mod reports;
 mod vital_product_data;
@@ -23,6 +24,7 @@ pub use mode_pages::{
     ModeSelectFault as SelectFault, ModeSenseFault, ModeSenseFault as AskFault, ModeSenseRequest,
     ModeSenseRequest as Ask, PageValues,
 };
+pub use physical_block::PhysicalBlock;
 pub use provisioning_pages::MappingResources;
 pub use reports::{LONGEST_REPORT, LogPage, Report};
 pub use sg_wire::{MAXIMUM_TRANSFER_LENGTH, MAXIMUM_WRITE_SAME_LENGTH, PageControl};

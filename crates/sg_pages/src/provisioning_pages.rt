@@ -5,6 +5,7 @@ ghost use Rattle.sg_pages.specs.ProvisioningPages.{block_limits, logical_block_p
 ghost use Rattle.sg_pages.specs.ProvisioningPages.{threshold_exponent, threshold_sets};
 ghost use Rattle.sg_pages.specs.Reports.{log_page_data};
 
+use super::physical_block::PhysicalBlock;
 use super::reports::LogPage;
 use byteorder::{BigEndian, ByteOrder};
 use sg_wire::{Limits, MAXIMUM_UNMAP_DESCRIPTORS, Profile};
@@ -21,20 +22,20 @@ const THIN_PROVISIONED: u8 = 0x02;
 
 /// The content of Block Limits: fields that are not named here are zero.
 #[tactic(auto, unfolding(crate::specs::ProvisioningPages::block_limits))]
-pub(crate) fn block_limits(limits: Limits) -> [u8; 60]
-    ensures { result ≡ block_limits limits }
+pub(crate) fn block_limits(limits: Limits, physical: PhysicalBlock) -> [u8; 60]
+    ensures { result ≡ block_limits limits physical }
 {
     let mut bytes = [0; 60];
     bytes[0] = WSNZ;
     bytes[1] = limits.compare_and_write_length;
     // OPTIMAL TRANSFER LENGTH GRANULARITY
-    BigEndian::write_u16(&mut bytes[2..], 1);
+    BigEndian::write_u16(&mut bytes[2..], u16::from(physical.blocks()));
     BigEndian::write_u32(&mut bytes[4..], limits.transfer_length);
     // MAXIMUM UNMAP LBA COUNT: as many as the descriptors name
     BigEndian::write_u32(&mut bytes[16..], u32::MAX);
     BigEndian::write_u32(&mut bytes[20..], MAXIMUM_UNMAP_DESCRIPTORS as u32);
     // OPTIMAL UNMAP GRANULARITY
-    BigEndian::write_u32(&mut bytes[24..], 1);
+    BigEndian::write_u32(&mut bytes[24..], u32::from(physical.blocks()));
     BigEndian::write_u64(&mut bytes[32..], u64::from(limits.write_same_length));
     BigEndian::write_u32(&mut bytes[40..], limits.atomic_transfer_length);
     bytes

@@ -33,7 +33,7 @@ data_of identity capacity reservations (Reservations action) =
 data_of identity capacity reservations (Report report pool) =
     report_data identity.profile pool report
 data_of identity capacity reservations Capacity10 = capacity_10 capacity
-data_of identity capacity reservations Capacity16 = capacity_16 capacity
+data_of identity capacity reservations Capacity16 = capacity_16 capacity identity.physical_block
 
 -- An operation returns data.
 abbrev pub returns_data : Operation → Bool

@@ -128,7 +128,7 @@ effect_of state i (ReturnReport report n) =
     Ok (returning_up_to state n (report_data (profile_of state) (resources_of state) report))
 effect_of state i ReturnCapacity10 = Ok (returning state (capacity_10 state.disk.capacity))
 effect_of state i (ReturnCapacity16 n) =
-    Ok (returning_up_to state n (capacity_16 state.disk.capacity))
+    Ok (returning_up_to state n (capacity_16 state.disk.capacity state.identity.physical_block))
 effect_of state i (Read extent) = Ok (reading state extent)
 effect_of state i (Write out) = Ok (writing state out)
 effect_of state i (Verify extent) = Ok (no_effect state)

@@ -397,7 +397,8 @@ impl<S: Store> Target<S> {
     /// Returns READ CAPACITY(16) parameter data.
     pub(crate) fn return_capacity_16(&self, allocation_length: u32, buf: &mut [u8]) -> Reply
         requires { min CAPACITY_16_LENGTH allocation_length ≤ length buf.old }
-        ensures { let full = capacity_16 self.now.state.disk.capacity in
+        ensures { let state = self.now.state in
+            let full = capacity_16 state.disk.capacity state.identity.physical_block in
             ReturnsData (first_bytes allocation_length full) result buf.old buf.new }
     {
         self.return_data(DataIn::Capacity16, allocation_length as usize, buf)

@@ -97,7 +97,9 @@ impl DataIn {
             }
             DataIn::Report(report, pool) => { report.write(config.identity().profile(), pool, cut) }
             DataIn::Capacity10 => write_capacity_10(config.blocks(), cut),
-            DataIn::Capacity16 => write_capacity_16(config.blocks(), cut),
+            DataIn::Capacity16 => {
+                write_capacity_16(config.blocks(), config.identity().physical_block(), cut)
+            }
         }
     }
 }

@@ -10,6 +10,8 @@ use Rattle.clap.specs.Words.{Row, Text}
 use Rattle.sg_wire.specs.declared.profile.Profile.{Profile}
 use Rattle.sg_wire.specs.declared.profile.Profile.TheVariants.{Base, Extended}
 use Rattle.sg_wire.specs.Profile.{is_in}
+use Rattle.sg_pages.specs.declared.physical_block.PhysicalBlock.{PhysicalBlock}
+use Rattle.sg_pages.specs.declared.physical_block.PhysicalBlock.TheVariants.{Of512, Of4096}
 use Rattle.sg_pages.specs.Identity.{IdentityFields}
 use Rattle.sg_pages.specs.NewIdentity.{identity_of_seed}
 use Rattle.sg_pages.specs.declared.identity.IdentityFault.{IdentityFault}
@@ -40,29 +42,30 @@ default_pool = 4
 abbrev pub default_seed : ℕ
 default_seed = 1
 
--- A name of `--profile`, and what a disk of it has: its profile, and whether it takes less data-out
--- than a command needs.
+-- A name of `--profile`, and what a disk of it has: its profile, whether it takes less data-out than a
+-- command needs, and its physical blocks.
 pub record ProfileRow : Type 0 where
   pub name : List ℕ
   pub asked : AskedProfile
 
-abbrev pub profile_row : List ℕ → Profile → (takes_short_data_out : Bool) → ProfileRow
-profile_row name profile takes_short_data_out = record {
+abbrev pub profile_row : List ℕ → Profile → (takes_short_data_out : Bool) → PhysicalBlock → ProfileRow
+profile_row name profile takes_short_data_out physical_block = record {
   name = name;
-  asked = asked_profile profile takes_short_data_out;
+  asked = asked_profile profile takes_short_data_out physical_block;
 }
 
 -- One row for each name.
 abbrev pub profiles : List ProfileRow
 profiles =
-    profile_row (codes "base") Base false
-    ∷ profile_row (codes "extended") Extended false
-    ∷ profile_row (codes "extended-cut") Extended true
+    profile_row (codes "base") Base false Of512
+    ∷ profile_row (codes "extended") Extended false Of512
+    ∷ profile_row (codes "extended-cut") Extended true Of512
+    ∷ profile_row (codes "extended-512e") Extended false Of4096
     ∷ []
 
 -- What a name says of a disk. Without a name it is a disk of the base profile.
 abbrev pub profile_named : Option Text → Option AskedProfile
-profile_named None = Some (asked_profile Base false)
+profile_named None = Some (asked_profile Base false Of512)
 profile_named (Some name) =
     option_map (λ row. row.asked) (find (λ row. bytes_eq name row.name) profiles)
 
@@ -130,7 +133,7 @@ disk_options rows =
 abbrev pub config_of : DiskOptions → Result ConfigFields Stop
 config_of options =
     checked_disk (unwrap_or options.blocks default_blocks) (unwrap_or options.pool default_pool)
-    (unwrap_or options.profile (asked_profile Base false))
+    (unwrap_or options.profile (asked_profile Base false Of512))
     (identity_of_seed (unwrap_or options.seed default_seed))
 
 -- ---- Every option

@@ -6,6 +6,8 @@ use Rattle.std.specs.Int.{to_be_bytes, w64}
 use Rattle.std.specs.List.{flat_map}
 use Rattle.hex.specs.Hex.{encode_lower}
 use Rattle.sg_pages.specs.Identity.{IdentityFields}
+use Rattle.sg_pages.specs.declared.physical_block.PhysicalBlock.{PhysicalBlock}
+use Rattle.sg_pages.specs.declared.physical_block.PhysicalBlock.TheVariants.{Of512, Of4096}
 use Rattle.sg_pages.specs.ModePage.{byte_2}
 use Rattle.sg_pages.specs.declared.mode_pages.mode_page.PageValues.{PageValues}
 use Rattle.sg_run.specs.FaultText.{faults_text}
@@ -63,16 +65,22 @@ size_lines disk =
     ++ (number_line (codes "pool") disk.pool
     ++ number_line (codes "used") (len disk.contents))
 
+-- Its physical blocks, if they are no logical blocks.
+abbrev pub physical_lines : PhysicalBlock → List ℕ
+physical_lines Of512 = []
+physical_lines Of4096 = line (codes "physical block") (codes "4096")
+
 -- What it was made as.
 unfoldable pub identity_lines : IdentityFields → List ℕ
 identity_lines identity =
     line (codes "profile") (profile_name identity.profile)
     ++ (line (codes "short data-out") (flag identity.takes_short_data_out)
+    ++ (physical_lines identity.physical_block
     ++ (name_line (codes "vendor") identity.vendor
     ++ (name_line (codes "product") identity.product
     ++ (name_line (codes "revision") identity.revision
     ++ (name_line (codes "serial") identity.serial
-    ++ line (codes "local identifier") (sixteen_digits identity.local))))))
+    ++ line (codes "local identifier") (sixteen_digits identity.local)))))))
 
 -- ---- Saved mode pages (SPC-4, 7.5): WCE, and the bytes of each page from byte 2 on
 

@@ -2,7 +2,7 @@
 ghost use Rattle.std.specs.Prelude.{◌≡◌, option_map};
 ghost use Rattle.sgrun.specs.Arguments.{profile_named, takes_seed};
 
-use sg_kept::asked::{AskedProfile, BASE, EXTENDED, EXTENDED_CUT};
+use sg_kept::asked::{AskedProfile, BASE, EXTENDED, EXTENDED_512E, EXTENDED_CUT};
 use sg_wire::Profile;
 
 /// The profile with a name. Without a name it is the base profile.
@@ -13,6 +13,7 @@ pub(crate) fn profile_named(name: Option<&str>) -> Option<AskedProfile>
         None | Some("base") => Some(BASE),
         Some("extended") => Some(EXTENDED),
         Some("extended-cut") => Some(EXTENDED_CUT),
+        Some("extended-512e") => Some(EXTENDED_512E),
         Some(_) => None,
     }
 }

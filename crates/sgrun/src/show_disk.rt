@@ -11,7 +11,7 @@ ghost use Rattle.sg_wire.specs.Watched.{SendsText, has_failed};
 ghost use Rattle.sgrun.specs.ShownDisk.{block_lines, extent_line, facts, flag, hex_line};
 ghost use Rattle.sgrun.specs.ShownDisk.{held_reservation_line, holder_text, identity_lines, line};
 ghost use Rattle.sgrun.specs.ShownDisk.{name_line, number_line, page_lines, profile_name};
-ghost use Rattle.sgrun.specs.ShownDisk.{ports_text, registration_line};
+ghost use Rattle.sgrun.specs.ShownDisk.{physical_lines, ports_text, registration_line};
 ghost use Rattle.sgrun.specs.ShownDisk.{reservation_line, reservation_lines, run_line, run_lines_from};
 ghost use Rattle.sgrun.specs.ShownDisk.{saves_wce, shown_disk, sixteen_digits, size_lines};
 ghost use Rattle.sgrun.specs.declared.show_disk.TheConstants.{LONGEST_PAGE};
@@ -22,7 +22,7 @@ use sg_changes::laws::runs_make_the_disk;
 use sg_decode::{GATHERED, put_number};
 use sg_journal::Device;
 use sg_kept::KeptDisk;
-use sg_pages::{Identity, PageValues};
+use sg_pages::{Identity, PageValues, PhysicalBlock};
 use sg_run::print_faults;
 use sg_store::Store;
 use sg_store::lba_status::{ProvisioningStatus, StatusDescriptor};
@@ -130,11 +130,21 @@ fn put_identity<W: Write>(identity: &Identity, out: &mut Printer<'_, W>)
 {
     put_profile(identity.profile(), out);
     put_flag_line(b"short data-out", identity.takes_short_data_out(), out);
+    put_physical(identity.physical_block(), out);
     put_name_line(b"vendor", identity.vendor(), out);
     put_name_line(b"product", identity.product(), out);
     put_name_line(b"revision", identity.revision(), out);
     put_name_line(b"serial", identity.serial(), out);
     put_digits_line(b"local identifier", identity.local(), out);
+}
+
+fn put_physical<W: Write>(physical: PhysicalBlock, out: &mut Printer<'_, W>)
+    ensures { PrintsText W.contents out.old out.new (physical_lines physical) }
+{
+    match physical {
+        PhysicalBlock::Of512 => {}
+        PhysicalBlock::Of4096 => put_line(b"physical block", b"4096", out),
+    }
 }
 
 fn put_profile<W: Write>(profile: Profile, out: &mut Printer<'_, W>)
