@@ -75,8 +75,9 @@ is_register Register = true
 is_register _ = false
 
 -- Without SPEC_I_PT only the fields are there. A list with SPEC_I_PT has any length if SPEC_I_PT is an
--- error of the list. The list of REGISTER AND MOVE ends behind its TransportID.
+-- error of the list. The list of REGISTER AND MOVE has as many bytes as it says.
 -- Departure (SPC-4, 6.16.3): 26h/00h for SPEC_I_PT in a longer list, on a base disk.
+-- Choice (SPC-4, 6.16.4): a list of REGISTER AND MOVE with more or fewer bytes may be 26h/00h.
 abbrev pub has_list_length : Rules → OutAction → (list : List ℕ) → Bool
 has_list_length rules RegisterAndMove list = has_whole_move list
 has_list_length rules action list =

@@ -177,6 +177,7 @@ moved_to others = None
 -- With UNREG the caller is not registered any more. The initiator that the list names is registered
 -- under its SARK, in whichever way it was registered before.
 -- Choice (SPC-4, 5.13, registering and moving the reservation): a registrant may keep its key.
+-- Choice (SPC-4, 5.13, registering and moving the reservation): its ALL_TG_PT may stay as it was.
 abbrev pub with_moved : List Registration → (caller target : ℕ) → OutList → List Registration
 with_moved all caller target list =
     let left = if list.unreg then without_initiator all caller else all in
@@ -190,7 +191,8 @@ moved held target = option_map (λ (r : Reservation). record r { holder = Some t
 -- REGISTER AND MOVE (SPC-4, 5.13, registering and moving the reservation): the one holder registers another
 -- initiator, which holds the reservation from then on. SCOPE and TYPE do not matter. An initiator that
 -- the disk does not have is refused as the caller itself is.
--- Choice (SPC-4, 5.13, registering and moving the reservation): the order of the faults of a list.
+-- Choice (SPC-4, 5.13, registering and moving the reservation): the cases may have another order.
+-- Choice (SPC-4, 6.16.4): a list without a TransportID may be refused for its length.
 unfoldable pub move_cases : ReservationState → (caller : ℕ) → OutList → List Case
 move_cases state caller list =
     let held = state.reservation in
