@@ -311,7 +311,8 @@ in_extended l = record l { profile = Extended }
 -- One row for each command: profile, operation code, service action, class, unit attention, fields,
 -- free bits, and the command itself. The commands of SPC-4, 6, come first, and then the commands of
 -- SBC-3, 5 (READ(6) and WRITE(6) of SBC-2). Last come PERSISTENT RESERVE IN and OUT of SPC-4, which
--- have service actions. All rows of an operation code are of one profile.
+-- have service actions. All rows of an operation code are of one profile; only REGISTER AND MOVE of
+-- PERSISTENT RESERVE OUT is of another one than the others.
 abbrev pub layout : Command → Layout
 layout command.TestUnitReady = base 0x00 none Always blocked [] no_bits command.TestUnitReady
 layout (command.RequestSense c) =

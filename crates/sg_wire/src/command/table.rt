@@ -79,7 +79,8 @@ pub(super) enum Name {
 /// The table's facts about a command.
 pub(super) struct Row {
     pub(super) name: Name,
-    // The profile that it belongs to.
+    // The profile that it belongs to. Only REGISTER AND MOVE belongs to another one than the row of its
+    // operation code.
     pub(super) profile: Profile,
     pub(super) opcode: u8,
     // Present if several commands share the operation code. PERSISTENT RESERVE IN and PERSISTENT
