@@ -1,4 +1,4 @@
-"""Finds the wrong bodies of a crate that the prover can judge in one check, and those of `./check`."""
+"""Finds the wrong bodies of a crate that the prover can judge in one check, and those of `run --few`."""
 
 import os
 import re
@@ -13,7 +13,7 @@ from functions import functions_in, functions_of
 # A function of a crate: its file, what is said of it there, and its body.
 Place = namedtuple("Place", "file function text")
 
-# ./check makes so many checks of a crate. Of a program or a library for C it makes one.
+# `run --few` makes so many checks of a crate. Of a program or a library for C it makes one.
 CHECKS = 2
 
 
@@ -86,7 +86,7 @@ def reached_from(places):
 
 
 def first(root):
-    """The wrong bodies that ./check tries before all others, as pairs of a crate and a name."""
+    """The wrong bodies that `run` tries before all others, as pairs of a crate and a name."""
     lines = edits.lines_of(f"{root}/wrong-bodies/first")
     return [tuple(line.split()) for line in lines if line and not line.startswith("#")]
 
@@ -145,12 +145,7 @@ def links(folder):
 
 
 def first_groups(root, crate):
-    """The groups of a crate's wrong bodies that ./check tries."""
+    """The groups of a crate's wrong bodies that `run --few` tries."""
     folder = f"{root}/crates/{crate}"
     groups, _ = together(edits.bodies_of(root, crate), folder, ranks(root, crate))
     return groups[:1 if links(folder) else CHECKS]
-
-
-def tried_by_check(root):
-    """Counts the wrong bodies of this folder that ./check tries."""
-    return sum(len(group) for it in edits.crates(root) for group in first_groups(root, it))
