@@ -163,8 +163,8 @@ pub fn only_preemption_ends_a_reservation()
 {}
 
 /// An initiator that holds such a reservation has equal views in two states of one disk. Then a
-/// command of it ends with equal views in both, unless it gives the reservation away. The answers are
-/// equal too, except to PERSISTENT RESERVE IN and PERSISTENT RESERVE OUT.
+/// command of it, except REGISTER AND MOVE, ends with equal views in both. The answers are equal too,
+/// except to PERSISTENT RESERVE IN and PERSISTENT RESERVE OUT.
 pub fn equal_views_of_a_holder_end_alike()
     ensures { EqualViewsEndAlike }
 {
@@ -256,7 +256,7 @@ pub fn others_are_registered_together()
 
 /// A REGISTER AND MOVE that ends with GOOD was sent by the one holder of a reservation. The initiator that
 /// it names takes the reservation over, and is registered under its key. With UNREG the sender is not
-/// registered any more. Nothing else changes that anybody has.
+/// registered any more. No other key changes, and no block or mode page.
 pub fn holders_hand_over()
     ensures { HoldersHandOver }
 {}
@@ -395,9 +395,9 @@ pub fn other_reservations_end_with_power()
 {}
 
 /// Commands and power cycles happen in any order. Afterwards registrations and reservation persist
-/// through a power loss exactly if the last command that counts set APTPL. REGISTER and REGISTER
-/// AND IGNORE EXISTING KEY count if they register an initiator, or change or remove its
-/// registration.
+/// through a power loss exactly if the last command that counts set APTPL. REGISTER, REGISTER AND
+/// IGNORE EXISTING KEY and REGISTER AND MOVE count if they end with GOOD. None of them counts if an
+/// unregistered initiator sends it with the key zero.
 pub fn the_last_register_decides()
     ensures { TheLastRegisterDecides }
 {
@@ -424,10 +424,10 @@ pub fn the_unregistered_write_nothing_through_power_cycles()
 }
 
 /// An initiator holds a reservation that nobody shares before and after each command and power
-/// cycle of a list, and does not try to give it away. Registrations persist at each power cycle of a run of only its own commands and
-/// the power cycles. Then its view in the end is the view after that run. So are the answers to its
-/// commands, except to PERSISTENT RESERVE IN and PERSISTENT RESERVE OUT. So at a power cycle a
-/// holder sees POWER ON and the saved mode pages, and nothing more.
+/// cycle of a list, and does not try to give it away. Registrations persist at each power cycle of a
+/// run of only its own commands and the power cycles. Then its view in the end is the view after that
+/// run. So are the answers to its commands, except to PERSISTENT RESERVE IN and PERSISTENT RESERVE
+/// OUT. So at a power cycle a holder sees POWER ON and the saved mode pages, and nothing more.
 pub fn a_holder_is_served_as_if_alone_through_power_cycles()
     ensures { HolderIsAsIfAloneThroughPowerCycles }
 {
@@ -466,9 +466,9 @@ pub fn faults_let_nobody_past_the_holder()
     commands_have_their_class();
 }
 
-/// Whatever faults are armed, an unregistered initiator becomes registered only by a REGISTER or a
-/// REGISTER AND IGNORE EXISTING KEY that asks for it. The command has a key other than zero, and ends
-/// with GOOD on a disk without faults. A fault can report it as failed.
+/// Whatever faults are armed, an unregistered initiator becomes registered only by a REGISTER, a
+/// REGISTER AND IGNORE EXISTING KEY or a REGISTER AND MOVE that asks for it. The command has a key other
+/// than zero, and ends with GOOD on a disk without faults. A fault can report it as failed.
 pub fn faults_register_nobody()
     ensures { FaultsRegisterNobody }
 {

@@ -9,9 +9,9 @@ pub fn profiles_are_closed()
 {}
 
 /// A profile only adds. If a CDB is a command on a disk, it is the same command, of the same class,
-/// on each disk that has the command. Each such disk has the same rows of its operation code. A unit
-/// attention blocks the command on each of them or on none. An extended disk allows each bit of a CDB
-/// that a base disk allows.
+/// on each disk that has the command. The CDB has the same row there. A unit attention blocks the
+/// command on each of these disks or on none. An extended disk allows each bit of a CDB that a base
+/// disk allows.
 pub fn profiles_only_add()
     ensures { ProfilesOnlyAdd }
 {}
