@@ -7,8 +7,7 @@ ghost use Rattle.sg_fencing.specs.Fencing.{OthersAreShutOut, OthersLeaveTheView,
 ghost use Rattle.sg_fencing.specs.Fencing.{OnlyPreemptionEnds, OthersSeeNoBlock};
 ghost use Rattle.sg_fencing.specs.Group.{EqualGroupViewsEndAlike, EqualGroupViewsRunAlike};
 ghost use Rattle.sg_fencing.specs.Group.{NewcomersAreSeen, OutsidersMayBeLeftOut};
-ghost use Rattle.sg_fencing.specs.Laws.{ConflictChangesNothing, OnlyReadsReturnData};
-ghost use Rattle.sg_fencing.specs.Laws.{OnlyWritesChangeBlocks};
+ghost use Rattle.sg_fencing.specs.Laws.{ConflictChangesNothing, OnlyReadsReturnData, OnlyWritesChangeBlocks};
 ghost use Rattle.sg_fencing.specs.Laws.{OtherCommandsLeaveTheDisk, RefusedByReservation};
 ghost use Rattle.sg_fencing.specs.Laws.{RefusedChangesNothing, RefusedReturnsNothing};
 ghost use Rattle.sg_fencing.specs.Laws.{WritesOverUsedAddressesAreNeverRefusedForSpace};
@@ -19,14 +18,12 @@ ghost use Rattle.sg_fencing.specs.PowerCycles.{PersistentOnesStay, PowerOnIsPend
 ghost use Rattle.sg_fencing.specs.PowerCycles.{TheLastRegisterDecides};
 ghost use Rattle.sg_fencing.specs.Registrants.{FencedOffAreKeptOut, FencedOffLeaveTheView};
 ghost use Rattle.sg_fencing.specs.Registrants.{FencedOffReadNothing, FencedOffSeeNoBlock};
-ghost use Rattle.sg_fencing.specs.Registrants.{FencedOffWriteNothing, HoldersHandOver, NoBlockIsSeenOverAList};
-ghost use Rattle.sg_fencing.specs.Registrants.{OldKeysAreRefused};
+ghost use Rattle.sg_fencing.specs.Registrants.{FencedOffWriteNothing, HoldersHandOver};
+ghost use Rattle.sg_fencing.specs.Registrants.{NoBlockIsSeenOverAList, OldKeysAreRefused};
 ghost use Rattle.sg_fencing.specs.Registrants.{OnlyRegisteringRegisters, OthersAreRegisteredTogether};
-ghost use Rattle.sg_fencing.specs.Registrants.{OutsidersChangeNothing};
+ghost use Rattle.sg_fencing.specs.Registrants.{OutsidersChangeNothing, TheRefusedStayUnregistered};
 ghost use Rattle.sg_fencing.specs.Registrants.{PreemptedAreUnregistered, PreemptedWriteNothing};
-ghost use Rattle.sg_fencing.specs.Registrants.{PreemptingSendersStayRegistered};
-ghost use Rattle.sg_fencing.specs.Registrants.{PreemptionKeepsAReservation};
-ghost use Rattle.sg_fencing.specs.Registrants.{TheRefusedStayUnregistered};
+ghost use Rattle.sg_fencing.specs.Registrants.{PreemptingSendersStayRegistered, PreemptionKeepsAReservation};
 ghost use Rattle.sg_fencing.specs.WithFaults.{FaultsLetNobodyPastTheHolder, FaultsLetNobodyThrough};
 ghost use Rattle.sg_fencing.specs.WithFaults.{FaultsRegisterNobody, FencedOffThroughFaults};
 ghost use Rattle.sg_fencing.specs.WithFaults.{PreemptedStayFencedOut};
