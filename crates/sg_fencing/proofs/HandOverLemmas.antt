@@ -45,7 +45,8 @@ use Rattle.sg_fencing.proofs.TogetherLemmas.{had-supports}
 -- ---- The outcome
 
 -- the change hands the reservation over
-pub record Hands (state : ReservationState) (j : ℕ) (list : OutList) (change : ReservationChange) : Type 0 where
+pub record Hands (state : ReservationState) (j : ℕ) (list : OutList) (change : ReservationChange)
+    : Type 0 where
   pub target : ℕ
   pub named : moved_to list.others ≡ Some target
   pub another : (target == j) ≡ false

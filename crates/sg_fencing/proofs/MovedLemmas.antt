@@ -10,8 +10,8 @@ use Rattle.sg_units.specs.Registrations.{is_registered_under, is_under, without_
 use Rattle.sg_units.specs.ReserveOut.{moved_to, registration_by, with_moved}
 use Rattle.sg_units.specs.declared.registrations.Registration.{Registration}
 use Rattle.sg_fencing.specs.Registrants.{is_named}
-use Rattle.sg_fencing.proofs.KeyLemmas.{is_registered-key_of, key_of-own_replaced, key_of-push, key_of-replaced}
-use Rattle.sg_fencing.proofs.KeyLemmas.{key_of-unregistered, key_of-without, own-pushed}
+use Rattle.sg_fencing.proofs.KeyLemmas.{is_registered-key_of, key_of-own_replaced, key_of-push}
+use Rattle.sg_fencing.proofs.KeyLemmas.{key_of-replaced, key_of-unregistered, key_of-without, own-pushed}
 use Rattle.std.proofs.Common.{eq-eqb}
 
 -- ---- one that is not registered

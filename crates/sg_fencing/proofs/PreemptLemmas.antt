@@ -310,8 +310,8 @@ module _ (state : State) (j : ℕ) (P : List Registration → Option Reservation
         let list = first_bytes c.list_length data_out in
         let parts = key-sent (is_preempting c.action) (out_list_of c.action list) key h in
         subst (λ (o : Operation). EffectLeaves (effect_of state j o))
-        (listed c.action c.scope_type (has_list_length (rules_for state) c.action list) (out_list_of c.action list)
-        (CheckCondition ParameterListLengthError) operation e)
+        (listed c.action c.scope_type (has_list_length (rules_for state) c.action list)
+        (out_list_of c.action list) (CheckCondition ParameterListLengthError) operation e)
         (reserving-leaves c.action c.scope_type (out_list_of c.action list)
         (leaves c.action c.scope_type (out_list_of c.action list) parts.0 parts.1))
     command-leaves _ data_out operation e h = cc

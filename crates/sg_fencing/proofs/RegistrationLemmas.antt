@@ -16,7 +16,8 @@ use Rattle.sg_units.specs.Registrations.{is_of, is_registered, is_registered_und
 use Rattle.sg_units.specs.Registrations.{with_registration, with_replaced}
 use Rattle.sg_units.specs.ReservationType.{type_of}
 use Rattle.sg_units.specs.ReserveOut.{Outcome, accepts_key, action_outcome, outcome, preempt_cases}
-use Rattle.sg_units.specs.ReserveOut.{move_cases, register_cases, register_together_cases, registered_together}
+use Rattle.sg_units.specs.ReserveOut.{move_cases, register_cases, register_together_cases}
+use Rattle.sg_units.specs.ReserveOut.{registered_together}
 use Rattle.sg_units.specs.ReserveOut.{registration_by, release_cases, reserve_cases, state_after}
 use Rattle.sg_units.specs.UnsupportedFlags.{has_unsupported_flag}
 use Rattle.sg_wire.specs.declared.out_list.OutList.{OutList}
@@ -297,7 +298,8 @@ module _ (rules : Rules) (state : ReservationState) (i j : ℕ)
       let none = moves-by rules.specifies_ports list.spec_i_pt _ alone asked.1 in
       last_case (EffectIs IsUnknown) _ _ refl
       (stays _
-      (moved-unknown state.registrations i j _ list unknown (target-other list.others i j none another))))))))))
+      (moved-unknown state.registrations i j _ list unknown
+      (target-other list.others i j none another))))))))))
 
   reserving : (type : ReservationType) → FirstIs (EffectIs IsUnknown) (reserve_cases state j type)
   unfolding reserve_cases

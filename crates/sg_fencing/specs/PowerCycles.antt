@@ -17,7 +17,8 @@ use Rattle.sg_target.specs.declared.event.Event.TheVariants as event
 use Rattle.sg_target.specs.declared.happening.Happening.TheVariants.{Power}
 use Rattle.sg_target.specs.declared.reply.Status.TheVariants.{Good}
 use Rattle.sg_fencing.specs.ChosenAnswers.{answers_among}
-use Rattle.sg_fencing.specs.Fencing.{GivesNothingAway, NobodyElseStarts, holds_alone, is_compared, is_from, view_of}
+use Rattle.sg_fencing.specs.Fencing.{GivesNothingAway, NobodyElseStarts, holds_alone, is_compared}
+use Rattle.sg_fencing.specs.Fencing.{is_from, view_of}
 use Rattle.sg_fencing.specs.Registrants.{IsNeverGranted, is_registrant, is_reserved}
 use Rattle.sg_fencing.specs.Registrants.{registering_list}
 

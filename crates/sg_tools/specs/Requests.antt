@@ -47,8 +47,7 @@ use Rattle.sg_wire.specs.declared.command.page_control.PageControl.{PageControl}
 use Rattle.sg_wire.specs.Commands as command
 use Rattle.sg_wire.specs.declared.command.in_action.InAction.{InAction}
 use Rattle.sg_wire.specs.declared.command.in_action.InAction.TheVariants.{ReadKeys, ReadReservation}
-use Rattle.sg_wire.specs.declared.command.in_action.InAction.TheVariants.{ReportCapabilities}
-use Rattle.sg_wire.specs.declared.command.in_action.InAction.TheVariants.{ReadFullStatus}
+use Rattle.sg_wire.specs.declared.command.in_action.InAction.TheVariants.{ReportCapabilities, ReadFullStatus}
 use Rattle.sg_wire.specs.declared.command.out_action.OutAction.{OutAction}
 use Rattle.sg_wire.specs.declared.command.out_action.OutAction.TheVariants.{Register, Reserve}
 use Rattle.sg_wire.specs.declared.command.out_action.OutAction.TheVariants.{Release, Clear, Preempt}

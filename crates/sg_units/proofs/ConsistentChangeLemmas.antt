@@ -7,14 +7,16 @@ use Rattle.std.proofs.lemmas.Bool.{and_parts, not-false, not-true, or_left, or_p
 use Rattle.std.proofs.lemmas.Bool.Decides.{nat_tests}
 use Rattle.sg_units.specs.ReserveOut.{IsConsistentChange, Outcome, accepts_key, action_outcome}
 use Rattle.sg_units.specs.ReserveOut.{outcome}
-use Rattle.sg_units.specs.ReserveOut.{move_cases, moved, moved_to, preempt_cases, register_cases, release_cases}
+use Rattle.sg_units.specs.ReserveOut.{move_cases, moved, moved_to, preempt_cases, register_cases}
+use Rattle.sg_units.specs.ReserveOut.{release_cases}
 use Rattle.sg_units.specs.ReserveOut.{has_one_holder, with_moved}
 use Rattle.sg_units.specs.ReserveOut.{register_together_cases, registered_together}
 use Rattle.sg_units.specs.ReserveOut.{registration_by, reserve_cases, state_after}
 use Rattle.sg_units.specs.Registrations.{is_of, is_registered}
 use Rattle.sg_units.specs.Registrations.{is_under}
 use Rattle.sg_units.specs.ReservationType.{is_all_registrants, type_of}
-use Rattle.sg_units.specs.Reservations.{AreConsistent, IsConsistent, is_holder, names_holder, names_holder_if_any}
+use Rattle.sg_units.specs.Reservations.{AreConsistent, IsConsistent, is_holder, names_holder}
+use Rattle.sg_units.specs.Reservations.{names_holder_if_any}
 use Rattle.sg_units.proofs.OutcomeLemmas.{EffectIs, FirstIs, and_false, case_or, choice}
 use Rattle.sg_units.proofs.OutcomeLemmas.{if-accepted, effective}
 use Rattle.sg_units.proofs.OutcomeLemmas.{last_case, refused, releasing, taking, typed}
@@ -108,7 +110,8 @@ consistent-move state i list h =
     (effective IsConsistentChange _
     (consistent-moved rest state.reservation target (registered-moved all i target list) h.holder
     (and_parts (has_one_holder state.reservation) (is_holder state i) (not-false _ held)).0
-    (consistent-within rest None (nearly-moved state i target list some h) (grind (arith, nat_tests))))))))))))
+    (consistent-within rest None (nearly-moved state i target list some h)
+    (grind (arith, nat_tests))))))))))))
 
 consistent-reserve : (state : ReservationState) (i : ℕ) (type : ReservationType)
     → is_registered state.registrations i ≡ true → IsConsistent state

@@ -6,8 +6,8 @@ use Rattle.sg_wire.proofs.command.reservation.decode_persistent_reserve_out.Goal
 pub returns-in_err-check_masks : goal.returns-in_err-check_masks
 returns-in_err-check_masks c =
     let fault = c.in_err-check_masks.field-0.0 in
-    let e = reserve_out-refused c.args.profile c.args.cdb.now c.in_ok-action.action fault (search rules) (search rules)
-    (search rules) in
+    let e = reserve_out-refused c.args.profile c.args.cdb.now c.in_ok-action.action fault (search rules)
+    (search rules) (search rules) in
     rw e (search rules)
 
 pub returns : goal.returns
