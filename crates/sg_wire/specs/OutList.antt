@@ -80,6 +80,7 @@ has_whole_move bytes =
     && big_number 4 (drop moved_to_length_at bytes) == length bytes - moved_to_at
 
 -- The list that bytes contain.
+-- Choice (SPC-4, 3.3, reserved): a reserved bit that is set may be refused.
 abbrev pub move_list : List ℕ → OutList
 move_list bytes = record {
   reservation_key = big_number 8 bytes;
