@@ -136,13 +136,16 @@ typedef struct mdl_identity {
       { 'T', 'H', 'I', 'N', ' ', 'D', 'I', 'S', 'K', ' ', ' ', ' ', ' ', ' ', ' ', ' ' }, \
       { '0', '1', '0', '0' }, { '0', '0', '0', '0', '0', '0', '0', '1' }, 1 }
 
-/* The commands that a disk has. docs/PROFILE.md of the source lists them. */
+/* The commands that a disk has, and what it reports. docs/PROFILE.md of the source lists the commands. */
 typedef enum mdl_profile {
-    MDL_PROFILE_BASE = 0,        /* the commands that every disk has */
-    MDL_PROFILE_EXTENDED = 1,    /* these and more, and a far larger pool */
-    MDL_PROFILE_EXTENDED_CUT = 2 /* the same; but a WRITE, a WRITE AND VERIFY, an ORWRITE or a VERIFY
-                                    with too little data-out is executed, and not refused. It goes
-                                    over its first blocks, as many as data-out has in full. */
+    MDL_PROFILE_BASE = 0,         /* the commands that every disk has */
+    MDL_PROFILE_EXTENDED = 1,     /* these and more, and a far larger pool */
+    MDL_PROFILE_EXTENDED_CUT = 2, /* the same as extended; but a WRITE, a WRITE AND VERIFY, an ORWRITE
+                                     or a VERIFY with too little data-out is executed, and not
+                                     refused. It goes over its first blocks, as many as data-out has
+                                     in full. */
+    MDL_PROFILE_EXTENDED_512E = 3 /* the same as extended; but the disk reports physical blocks of
+                                     4,096 bytes. A logical block still has 512 bytes. */
 } mdl_profile;
 
 #define MDL_GOOD 0x00

@@ -102,18 +102,21 @@ static void ask_while_busy(mdl_disk *disk)
 
 int main(void)
 {
-    mdl_disk base = MDL_NONE, extended = MDL_NONE, cut = MDL_NONE;
+    mdl_disk base = MDL_NONE, extended = MDL_NONE, cut = MDL_NONE, of_4096 = MDL_NONE;
 
     WANT(mdl_make(&base, BLOCKS, POOL, NULL) == MDL_OK, -1);
     WANT(mdl_make_with_profile(&extended, MDL_PROFILE_EXTENDED, BLOCKS, POOL, NULL) == MDL_OK, -1);
     WANT(mdl_make_with_profile(&cut, MDL_PROFILE_EXTENDED_CUT, BLOCKS, POOL, NULL) == MDL_OK, -1);
+    WANT(mdl_make_with_profile(&of_4096, MDL_PROFILE_EXTENDED_512E, BLOCKS, POOL, NULL) == MDL_OK, -1);
     ask_for_each(&base, 0);
     ask_for_each(&extended, 1);
     ask_for_each(&cut, 1);
+    ask_for_each(&of_4096, 1);
     ask_while_busy(&extended);
     ask_while_busy(&cut);
     mdl_free(&base);
     mdl_free(&extended);
     mdl_free(&cut);
+    mdl_free(&of_4096);
     return failures > 0;
 }

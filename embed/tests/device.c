@@ -350,7 +350,7 @@ int main(void)
 
     refuse_devices();
     for (seed = 1; seed <= LISTS; seed++) {
-        mdl_profile profile = (mdl_profile)(seed % 3);
+        mdl_profile profile = (mdl_profile)(seed % (MDL_PROFILE_EXTENDED_512E + 1));
 
         shares_flush = 0;
         follow(profile, seed);

@@ -327,7 +327,7 @@ int main(void)
 {
     uint32_t profile;
 
-    for (profile = MDL_PROFILE_BASE; profile <= MDL_PROFILE_EXTENDED_CUT; profile++) {
+    for (profile = MDL_PROFILE_BASE; profile <= MDL_PROFILE_EXTENDED_512E; profile++) {
         make_quiet(profile);
         stop_on_arrival();
         stop_at_medium();

@@ -217,13 +217,15 @@ static void refuse_others(void)
     WANT(mdl_open(&disk, name, MDL_PROFILE_BASE, 0, 0, NULL, NULL) == MDL_OTHER_PROFILE);
     WANT(mdl_open(&disk, name, MDL_PROFILE_EXTENDED_CUT, BLOCKS, POOL, NULL, NULL)
          == MDL_OTHER_PROFILE);
+    WANT(mdl_open(&disk, name, MDL_PROFILE_EXTENDED_512E, BLOCKS, POOL, NULL, NULL)
+         == MDL_OTHER_PROFILE);
     WANT(mdl_open(&disk, name, profile, BLOCKS + 1, POOL, NULL, NULL) == MDL_OTHER_BLOCKS);
     WANT(mdl_open(&disk, name, profile, 0, POOL + 1, NULL, NULL) == MDL_OTHER_POOL);
     identity.serial[0] = 'X';
     WANT(mdl_open(&disk, name, profile, 0, 0, &identity, NULL) == MDL_OTHER_IDENTITY);
     identity.serial[0] = 0;
     WANT(mdl_open(&disk, name, profile, 0, 0, &identity, NULL) == MDL_IDENTITY_TEXT);
-    WANT(mdl_open(&disk, name, 3, 0, 0, NULL, NULL) == MDL_UNKNOWN_PROFILE && !disk.target);
+    WANT(mdl_open(&disk, name, 4, 0, 0, NULL, NULL) == MDL_UNKNOWN_PROFILE && !disk.target);
     WANT(read_bytes(name, bytes) == length && !memcmp(bytes, before, length));
     WANT(mdl_open(&disk, name, profile, BLOCKS, POOL, &(mdl_identity)MDL_STANDARD_IDENTITY, NULL)
          == MDL_OK);
@@ -231,6 +233,34 @@ static void refuse_others(void)
     WANT(open_any(&other, name, NULL) == MDL_FILE_BUSY && !other.target);
     WANT(mdl_close(&disk) == MDL_OK);
     WANT(read_bytes(name, bytes) == length && !memcmp(bytes, before, length));
+}
+
+/* LOGICAL BLOCKS PER PHYSICAL BLOCK EXPONENT of READ CAPACITY(16). */
+static int exponent(void)
+{
+    static const uint8_t cdb[16] = { 0x9E, 0x10, [13] = 32 };
+
+    WANT(status_of(0, cdb, sizeof cdb, NULL, 0) == MDL_GOOD && reply.data_in_length == 32);
+    return data_in[13];
+}
+
+/* A disk that reports physical blocks of 4,096 bytes reports them whenever its file is opened, and is
+ * opened as no other disk. */
+static void keep_physical_blocks(void)
+{
+    uint32_t profile;
+
+    new_disk(MDL_PROFILE_EXTENDED_512E);
+    WANT(exponent() == 3 && mdl_close(&disk) == MDL_OK);
+    for (profile = MDL_PROFILE_BASE; profile < MDL_PROFILE_EXTENDED_512E; profile++)
+        WANT(mdl_open(&disk, name, profile, BLOCKS, POOL, NULL, NULL) == MDL_OTHER_PROFILE);
+    WANT(mdl_open(&disk, name, MDL_PROFILE_EXTENDED_512E, BLOCKS, POOL, NULL, NULL) == MDL_OK);
+    clear_attentions();
+    WANT(exponent() == 3 && mdl_close(&disk) == MDL_OK && open_any(&disk, name, NULL) == MDL_OK);
+    clear_attentions();
+    WANT(exponent() == 3 && mdl_close(&disk) == MDL_OK);
+    new_disk(MDL_PROFILE_EXTENDED);
+    WANT(exponent() == 0 && mdl_close(&disk) == MDL_OK);
 }
 
 /* A new disk needs its size and its profile. What was not made leaves an empty file. */
@@ -348,8 +378,10 @@ int main(int count, char **words)
     keep(MDL_PROFILE_BASE);
     keep(MDL_PROFILE_EXTENDED);
     keep(MDL_PROFILE_EXTENDED_CUT);
+    keep(MDL_PROFILE_EXTENDED_512E);
     owe();
     refuse_others();
+    keep_physical_blocks();
     refuse_new();
     refuse_paths();
     refuse_files();

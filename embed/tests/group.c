@@ -242,6 +242,6 @@ int main(void)
     share();
     fill();
     for (seed = 1; seed <= LISTS; seed++)
-        random_list((mdl_profile)(seed % 3), seed);
+        random_list((mdl_profile)(seed % (MDL_PROFILE_EXTENDED_512E + 1)), seed);
     return failures != 0;
 }

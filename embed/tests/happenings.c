@@ -473,7 +473,7 @@ int main(void)
 {
     uint32_t profile;
 
-    for (profile = MDL_PROFILE_BASE; profile <= MDL_PROFILE_EXTENDED_CUT; profile++) {
+    for (profile = MDL_PROFILE_BASE; profile <= MDL_PROFILE_EXTENDED_512E; profile++) {
         cycle_power(profile);
         reset(profile, MDL_LOGICAL_UNIT_RESET, BUS_DEVICE_RESET);
         reset(profile, MDL_TARGET_RESET, SCSI_BUS_RESET);

@@ -58,6 +58,7 @@ static inline uint64_t digest_of(mdl_disk *disk)
         { 0x5E, 0x03, [7] = 1 },            /* READ FULL STATUS */
         { 0x12, 0x00, [4] = 96 },           /* INQUIRY */
         { 0x12, 0x01, 0x83, [4] = 96 },     /* its page of names */
+        { 0x12, 0x01, 0xB0, [4] = 64 },     /* and its page of limits */
     };
     static const uint8_t ready[6], status[16] = { 0x9E, 0x12, [12] = 0x40 };
     static const uint8_t read[10] = { 0x28, [8] = 64 };

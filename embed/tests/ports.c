@@ -58,18 +58,20 @@ static void refuse_profiles(void)
 
     WANT(mdl_make_with_profile(NULL, MDL_PROFILE_BASE, 64, 4, NULL) == MDL_NULL_POINTER);
     own.vendor[0] = 0x1F;
-    WANT(mdl_make_with_profile(&disk, 3, 0, 4, &own) == MDL_UNKNOWN_PROFILE && !disk.target);
+    WANT(mdl_make_with_profile(&disk, 4, 0, 4, &own) == MDL_UNKNOWN_PROFILE && !disk.target);
     WANT(mdl_make_with_profile(&disk, 256, 0, 4, NULL) == MDL_UNKNOWN_PROFILE && !disk.target);
     WANT(mdl_make_with_profile(&disk, UINT32_MAX, 64, 4, NULL) == MDL_UNKNOWN_PROFILE);
     WANT(mdl_make_with_profile(&disk, MDL_PROFILE_EXTENDED, 0, 4, &own) == MDL_IDENTITY_TEXT);
     WANT(mdl_make_with_profile(&disk, MDL_PROFILE_EXTENDED, 0, 4, NULL) == MDL_BLOCKS);
     WANT(mdl_make_with_profile(&disk, MDL_PROFILE_EXTENDED_CUT, 0, 4, &own) == MDL_IDENTITY_TEXT);
     WANT(mdl_make_with_profile(&disk, MDL_PROFILE_EXTENDED_CUT, 0, 4, NULL) == MDL_BLOCKS);
+    WANT(mdl_make_with_profile(&disk, MDL_PROFILE_EXTENDED_512E, 0, 4, &own) == MDL_IDENTITY_TEXT);
+    WANT(mdl_make_with_profile(&disk, MDL_PROFILE_EXTENDED_512E, 0, 4, NULL) == MDL_BLOCKS);
     WANT(mdl_make_with_profile(&disk, MDL_PROFILE_BASE, 64, 0, NULL) == MDL_POOL && !disk.target);
     WANT(mdl_make_with_profile(&disk, MDL_PROFILE_EXTENDED, 64, 4, NULL) == MDL_OK);
     target = disk.target;
     WANT(mdl_make_with_profile(&disk, MDL_PROFILE_BASE, 0, 4, NULL) == MDL_DISK_EXISTS);
-    WANT(mdl_make_with_profile(&disk, 3, 64, 4, NULL) == MDL_UNKNOWN_PROFILE);
+    WANT(mdl_make_with_profile(&disk, 4, 64, 4, NULL) == MDL_UNKNOWN_PROFILE);
     WANT(target && disk.target == target);
     mdl_free(&disk);
 }
@@ -82,12 +84,40 @@ static void show_identities(void)
     uint32_t profile;
 
     own.vendor[7] = 'A';
-    for (profile = MDL_PROFILE_BASE; profile <= MDL_PROFILE_EXTENDED_CUT; profile++) {
+    for (profile = MDL_PROFILE_BASE; profile <= MDL_PROFILE_EXTENDED_512E; profile++) {
         WANT(mdl_make_with_profile(&disk, profile, 64, 4, &own) == MDL_OK);
         WANT(status_of(0, inquiry, 6, NULL, 0) == MDL_GOOD && !memcmp(data_in + 8, own.vendor, 8));
         mdl_free(&disk);
         WANT(mdl_make_with_profile(&disk, profile, 64, 4, NULL) == MDL_OK);
         WANT(status_of(0, inquiry, 6, NULL, 0) == MDL_GOOD && !memcmp(data_in + 8, "SGMODEL ", 8));
+        mdl_free(&disk);
+    }
+}
+
+/* READ CAPACITY(16) of a disk of 64 blocks, and page B0h, with physical blocks of 512 and of 4,096 bytes. */
+static void show_physical_blocks(void)
+{
+    static const uint8_t read_capacity[16] = { 0x9E, 0x10, [13] = 32 };
+    static const uint8_t page_b0[6] = { 0x12, 1, 0xB0, 0, 255 };
+    static const struct { mdl_profile profile; uint8_t exponent, granularity; } disks[] = {
+        { MDL_PROFILE_EXTENDED, 0, 1 },
+        { MDL_PROFILE_EXTENDED_CUT, 0, 1 },
+        { MDL_PROFILE_EXTENDED_512E, 3, 8 },
+    };
+    uint8_t capacity[32] = { [7] = 63, [10] = 2, [14] = 0xC0 };
+    uint8_t limits[64] = { 0, 0xB0, 0, 60, 1, 255, [10] = 8, [20] = 255, 255, 255, 255, [27] = 64,
+                           [42] = 255, 255, [46] = 8 };
+    size_t at;
+
+    for (at = 0; at < sizeof disks / sizeof disks[0]; at++) {
+        capacity[13] = disks[at].exponent;
+        limits[7] = limits[31] = disks[at].granularity;
+        WANT(mdl_make_with_profile(&disk, disks[at].profile, 64, 4, NULL) == MDL_OK);
+        WANT(status_of(0, page_b0, sizeof page_b0, NULL, 0) == MDL_GOOD);
+        WANT(reply.data_in_length == sizeof limits && !memcmp(data_in, limits, sizeof limits));
+        WANT(!is_ready(0) && is_ready(0));
+        WANT(status_of(0, read_capacity, sizeof read_capacity, NULL, 0) == MDL_GOOD);
+        WANT(reply.data_in_length == sizeof capacity && !memcmp(data_in, capacity, sizeof capacity));
         mdl_free(&disk);
     }
 }
@@ -182,6 +212,7 @@ int main(void)
 {
     refuse_profiles();
     show_identities();
+    show_physical_blocks();
     show_names_of_seeds();
     WANT(mdl_make(&disk, 64, 4, NULL) == MDL_OK);
     refuse_ports();

@@ -8,6 +8,7 @@
  *                                    all that can happen between two commands.
  *     random extended SEED COUNT     executes them on such a disk, and prints what sgrun prints.
  *     random extended-cut SEED COUNT does so on a disk that takes too little data-out.
+ *     random extended-512e SEED COUNT does so on a disk that reports physical blocks of 4,096 bytes.
  *     random kept SEED COUNT FILE    executes them on the disk of the extended profile that FILE keeps,
  *                                    or on a new one, and prints what sgrun prints. */
 #include <inttypes.h>
@@ -319,6 +320,7 @@ static const char *const runs[] = {
     [MDL_PROFILE_BASE] = "run",
     [MDL_PROFILE_EXTENDED] = "extended",
     [MDL_PROFILE_EXTENDED_CUT] = "extended-cut",
+    [MDL_PROFILE_EXTENDED_512E] = "extended-512e",
 };
 
 int main(int count, char **words)
@@ -335,7 +337,7 @@ int main(int count, char **words)
         print_script(words[1][0] == 's' ? MDL_PROFILE_BASE : MDL_PROFILE_EXTENDED, seed, commands);
         return 0;
     }
-    for (profile = MDL_PROFILE_BASE; profile <= MDL_PROFILE_EXTENDED_CUT; profile++)
+    for (profile = MDL_PROFILE_BASE; profile <= MDL_PROFILE_EXTENDED_512E; profile++)
         if (strcmp(words[1], runs[profile]) == 0)
             return run((mdl_profile)profile, seed, commands, stdout, NULL);
     if (strcmp(words[1], "shared") == 0)

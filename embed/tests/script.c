@@ -173,6 +173,22 @@ static mdl_error open_disk(struct script *it)
     return error;
 }
 
+static uint32_t profile_named(const char *name)
+{
+    static const char *const names[] = {
+        [MDL_PROFILE_BASE] = "base",
+        [MDL_PROFILE_EXTENDED] = "extended",
+        [MDL_PROFILE_EXTENDED_CUT] = "extended-cut",
+        [MDL_PROFILE_EXTENDED_512E] = "extended-512e",
+    };
+    uint32_t profile;
+
+    for (profile = MDL_PROFILE_BASE; profile <= MDL_PROFILE_EXTENDED_512E; profile++)
+        if (!strcmp(name, names[profile]))
+            return profile;
+    return MDL_ANY_PROFILE;
+}
+
 static void read_options(struct script *it, char **words)
 {
     for (; words[0] && words[1]; words += 2)
@@ -181,7 +197,7 @@ static void read_options(struct script *it, char **words)
         else if (!strcmp(words[0], "--pool"))
             it->pool = (uint32_t)strtoul(words[1], NULL, 0);
         else if (!strcmp(words[0], "--profile"))
-            it->profile = strcmp(words[1], "extended") ? MDL_PROFILE_EXTENDED_CUT : MDL_PROFILE_EXTENDED;
+            it->profile = profile_named(words[1]);
         else if (!strcmp(words[0], "--disk"))
             it->path = words[1];
 }

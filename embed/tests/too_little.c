@@ -145,6 +145,7 @@ int main(void)
     memset(filled, FILLED, sizeof filled);
     send_each(MDL_PROFILE_BASE, OF_EACH_PROFILE, DATA_PHASE_ERROR);
     send_each(MDL_PROFILE_EXTENDED, COMMANDS, INFORMATION_UNIT);
+    send_each(MDL_PROFILE_EXTENDED_512E, COMMANDS, INFORMATION_UNIT);
     send_each(MDL_PROFILE_EXTENDED_CUT, COMMANDS, 0);
     name_a_missing_block();
     refuse_others();

@@ -265,5 +265,6 @@ int main(void)
     let_happen(MDL_PROFILE_BASE);
     let_happen(MDL_PROFILE_EXTENDED);
     let_happen(MDL_PROFILE_EXTENDED_CUT);
+    let_happen(MDL_PROFILE_EXTENDED_512E);
     return failures != 0;
 }
