@@ -10,6 +10,8 @@ from mehdalung import (BUSY, CHECK_CONDITION, GOOD, NO_REPLY, Disk, Error, Fault
 TEST_UNIT_READY = bytes(6)
 INQUIRY = bytes.fromhex("120000002400")
 READ_CAPACITY = bytes.fromhex("25000000000000000000")
+READ_CAPACITY_16 = bytes.fromhex("9e100000000000000000000000200000")
+BLOCK_LIMITS = bytes.fromhex("1201b0004000")
 
 
 def refusal(call, *arguments):
@@ -160,6 +162,11 @@ assert refusal(identity_of_seed, 1 << 64) is ValueError
 for profile in Profile:
     with Disk(64, 4, identity_of_seed(1), profile) as disk:
         assert disk.execute(0, INQUIRY).status == GOOD
+with Disk(64, 4, profile=Profile.EXTENDED_512E) as disk:
+    assert disk.execute(0, TEST_UNIT_READY).status == CHECK_CONDITION
+    assert disk.execute(0, READ_CAPACITY_16).data_in[8:16].hex() == "000002000003c000"
+    limits = disk.execute(0, BLOCK_LIMITS).data_in
+    assert (limits[6:8].hex(), limits[28:32].hex()) == ("0008", "00000008")
 assert refusal(Disk, 64, 4, None, max(Profile) + 1) == Error.UNKNOWN_PROFILE
 assert refusal(Disk, 64, 4, None, 1 << 32) is ValueError
 
@@ -211,6 +218,7 @@ with tempfile.TemporaryDirectory() as folder:
     for arguments, why in (((65,), Error.OTHER_BLOCKS), ((64, 5), Error.OTHER_POOL),
                            ((64, 4, identity("X")), Error.OTHER_IDENTITY),
                            ((0, 0, None, Profile.BASE), Error.OTHER_PROFILE),
+                           ((0, 0, None, Profile.EXTENDED_512E), Error.OTHER_PROFILE),
                            ((1 << 64,), ValueError), ((0, 1 << 32), ValueError)):
         assert refusal(Disk.open, path, *arguments) == why
     assert refusal(Disk.open, os.path.join(folder, "missing", "disk")) is FileNotFoundError

@@ -57,10 +57,12 @@ class Error(IntEnum):
 
 
 class Profile(IntEnum):
-    """mdl_profile: the commands that a disk has, and what it does with too little data-out."""
+    """mdl_profile: the commands that a disk has, what it does with too little data-out, and the length of
+    the physical blocks that it reports."""
     BASE = 0
     EXTENDED = 1
     EXTENDED_CUT = 2
+    EXTENDED_512E = 3
 
 
 class FaultOutcome(IntEnum):

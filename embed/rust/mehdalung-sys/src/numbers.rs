@@ -122,6 +122,9 @@ pub mod profile {
     /// with too little data-out is executed, and not refused. It goes over its first blocks, as
     /// many as data-out has in full.
     pub const EXTENDED_CUT: u32 = 2;
+    /// The same as the extended profile, but the disk reports physical blocks of 4,096 bytes. A
+    /// logical block still has 512 bytes.
+    pub const EXTENDED_512E: u32 = 3;
 }
 
 /// What an armed fault does to a command, `mdl_fault_outcome`. A name begins with the place where

@@ -188,13 +188,30 @@ fn calls_are_refused() -> Result<(), Error> {
     assert_eq!(Disk::new(0, 4, None).err(), Some(Error::Blocks));
     assert_eq!(Disk::new(64, 65_537, None).err(), Some(Error::Pool));
     assert_eq!(disk.forget(8), Err(Error::NoInitiator));
-    assert_eq!(Disk::with_profile(3, 64, 4, None).err(), Some(Error::UnknownProfile));
+    assert_eq!(Disk::with_profile(4, 64, 4, None).err(), Some(Error::UnknownProfile));
     let mut extended = Disk::with_profile(profile::EXTENDED, 64, 4, None)?;
     assert_eq!(extended.execute(0, &INQUIRY, &[])?.status(), GOOD);
     let mut cut = Disk::with_profile(profile::EXTENDED_CUT, 64, 4, None)?;
     assert_eq!(cut.execute(0, &INQUIRY, &[])?.status(), GOOD);
     assert_eq!(decode(kind::DEFECTS_12 + 1, &[]), None);
     assert!(version().unwrap().starts_with("mehdalung "));
+    Ok(())
+}
+
+#[test]
+fn physical_blocks_of_4096_bytes_are_reported() -> Result<(), Error> {
+    for (profile, exponent, granularity) in
+        [(profile::EXTENDED, 0u8, 1u8), (profile::EXTENDED_CUT, 0, 1), (profile::EXTENDED_512E, 3, 8)]
+    {
+        let mut disk = Disk::with_profile(profile, 64, 4, None)?;
+        let limits = disk.initiator(0).inquiry(true, 0xB0, 64)?;
+        assert_eq!(limits.data_in[6..8], [0, granularity]);
+        assert_eq!(limits.data_in[28..32], [0, 0, 0, granularity]);
+        only_report(&mut disk, ALL_INITIATORS, 0x29, 0x00)?;
+        let capacity = disk.initiator(0).read_capacity16(32)?;
+        assert_eq!(capacity.data_in[8..16], [0, 0, 2, 0, 0, exponent, 0xC0, 0]);
+        assert_eq!(capacity.data_in[16..], [0u8; 16]);
+    }
     Ok(())
 }
 
@@ -243,6 +260,7 @@ fn a_file_keeps_a_disk() -> Result<(), Error> {
         (Wanted { blocks: Some(65), ..any }, Error::OtherBlocks),
         (Wanted { pool: Some(5), ..any }, Error::OtherPool),
         (Wanted { profile: Some(profile::BASE), ..any }, Error::OtherProfile),
+        (Wanted { profile: Some(profile::EXTENDED_512E), ..any }, Error::OtherProfile),
         (Wanted { identity: Some(&identity_of_seed(2)?), ..any }, Error::OtherIdentity),
     ] {
         assert_eq!(Disk::open(&path, &other).err(), Some(error));
