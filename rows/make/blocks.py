@@ -283,10 +283,11 @@ def read_capacity_10(device, _initiator, _command, _data_out):
 
 
 def read_capacity_16(device, _initiator, command, _data_out):
-    """SBC-3, 5.16.2: LBPME and LBPRZ are 1"""
+    """SBC-3, 5.16.2: LBPME and LBPRZ are 1. The first physical block begins at address 0."""
     data = bytearray(32)
     data[0:8] = (device.provisioning.capacity - 1).to_bytes(8, "big")
     data[8:12] = BLOCK_LENGTH.to_bytes(4, "big")
+    data[13] = device.physical_exponent
     data[14] = 0xC0
     return bytes(data[:command["allocation_length"]])
 

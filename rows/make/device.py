@@ -28,12 +28,13 @@ UNBLOCKED = {
     "extended": (INQUIRY, REQUEST_SENSE, REPORT_LUNS),
 }
 
-# What a disk of each name of `--profile` has: the commands of a profile, and whether it takes too little
-# data-out.
+# What a disk of each name of `--profile` has: the commands of a profile, whether it takes too little
+# data-out, and LOGICAL BLOCKS PER PHYSICAL BLOCK EXPONENT.
 PROFILES = {
-    "base": ("base", False),
-    "extended": ("extended", False),
-    "extended-cut": ("extended", True),
+    "base": ("base", False, 0),
+    "extended": ("extended", False, 0),
+    "extended-cut": ("extended", True, 0),
+    "extended-512e": ("extended", False, 3),
 }
 
 
@@ -48,7 +49,7 @@ class Device:
     """A logical unit that was just powered on."""
 
     def __init__(self, capacity, pool, profile="base", seed=1):
-        self.profile, self.takes_short_data_out = PROFILES[profile]
+        self.profile, self.takes_short_data_out, self.physical_exponent = PROFILES[profile]
         self.seed = seed  # of the names, 60 bits
         self.provisioning = Provisioning(capacity, pool)
         self.stopped = False

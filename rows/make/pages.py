@@ -86,16 +86,16 @@ def extended_device_identification(device):
 
 def block_limits(device):
     """SBC-3, vital product data parameters; numbers of bytes are those of the page"""
-    profile = device.profile
+    profile, physical_block = device.profile, 2**device.physical_exponent
     page = bytearray(64)
     page[4] = 0x01  # WSNZ
     page[5] = blocks.MAXIMUM_COMPARE_AND_WRITE_LENGTH[profile]
     fields = {
-        (6, 2): 1,  # OPTIMAL TRANSFER LENGTH GRANULARITY
+        (6, 2): physical_block,  # OPTIMAL TRANSFER LENGTH GRANULARITY
         (8, 4): blocks.MAXIMUM_TRANSFER_LENGTH[profile],
         (20, 4): 2**32 - 1,  # MAXIMUM UNMAP LBA COUNT
         (24, 4): blocks.MAXIMUM_UNMAP_BLOCK_DESCRIPTOR_COUNT,
-        (28, 4): 1,  # OPTIMAL UNMAP GRANULARITY
+        (28, 4): physical_block,  # OPTIMAL UNMAP GRANULARITY
         (36, 8): blocks.MAXIMUM_WRITE_SAME_LENGTH[profile],
         (44, 4): blocks.MAXIMUM_ATOMIC_TRANSFER_LENGTH[profile],  # of SBC-4
     }

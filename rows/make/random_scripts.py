@@ -59,7 +59,7 @@ HAPPENINGS = ("reset", "reset", "reset target", "nexus", "nexus", "grow", *4 * (
 class Script:
     def __init__(self, seed, profile="base"):
         self.random, self.disk = random.Random(seed), profile
-        self.profile, self.takes_short_data_out = PROFILES[profile]
+        self.profile, self.takes_short_data_out, _ = PROFILES[profile]
         self.blocks = self.random.choice((1, 8, 20, 4096, 2**33))
         self.capacity = self.blocks  # as it is at the next line, if the disk grows
         self.pool = self.random.choice((1, 4, 9))
