@@ -35,7 +35,8 @@ static int read_profile(const char **text, uint32_t *profile)
 {
     static const struct { const char *word; uint32_t profile; } profiles[] = {
         { "base", MDL_PROFILE_BASE },
-        { "extended-cut", MDL_PROFILE_EXTENDED_CUT }, /* before the name that begins it */
+        { "extended-cut", MDL_PROFILE_EXTENDED_CUT }, /* before the name that begins both */
+        { "extended-512e", MDL_PROFILE_EXTENDED_512E },
         { "extended", MDL_PROFILE_EXTENDED },
     };
     size_t at;

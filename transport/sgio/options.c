@@ -42,9 +42,10 @@ static int read_profile(const char *text, uint32_t *profile)
         [MDL_PROFILE_BASE] = "base",
         [MDL_PROFILE_EXTENDED] = "extended",
         [MDL_PROFILE_EXTENDED_CUT] = "extended-cut",
+        [MDL_PROFILE_EXTENDED_512E] = "extended-512e",
     };
 
-    for (*profile = MDL_PROFILE_BASE; *profile <= MDL_PROFILE_EXTENDED_CUT; ++*profile)
+    for (*profile = MDL_PROFILE_BASE; *profile <= MDL_PROFILE_EXTENDED_512E; ++*profile)
         if (strcmp(text, names[*profile]) == 0)
             return 1;
     return 0;
