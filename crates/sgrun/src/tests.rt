@@ -1,13 +1,14 @@
 // The request of the command line, in the forms that clap takes, and its refusals.
 use crate::arguments::Arguments;
 use crate::stop::Stop;
+use sg_pages::PhysicalBlock;
 use sg_target::Config;
 use sg_wire::Profile;
 use std::alloc::{AllocError, Global};
 use std::test::Fail;
 
 /// The words after the program's name, the disk's blocks, pool and profile, and the script's file.
-const ASKED: [(&str, u64, u32, Profile, Option<&str>); 17] = [
+const ASKED: [(&str, u64, u32, Profile, Option<&str>); 18] = [
     ("", 4_096, 4, Profile::Base, None),
     ("--blocks 1", 1, 4, Profile::Base, None),
     ("--blocks=0x1f --pool 5", 31, 5, Profile::Base, None),
@@ -55,10 +56,17 @@ const ASKED: [(&str, u64, u32, Profile, Option<&str>); 17] = [
         Profile::Extended,
         None,
     ),
+    (
+        "--pool 4294967295 --profile extended-512e",
+        4_096,
+        4_294_967_295,
+        Profile::Extended,
+        None,
+    ),
 ];
 
 /// The words after the program's name, and the message of the stop.
-const REFUSED: [(&str, &str); 46] = [
+const REFUSED: [(&str, &str); 51] = [
     ("FILE", "usage"),
     ("-h", "usage"),
     ("--help", "usage"),
@@ -104,6 +112,11 @@ const REFUSED: [(&str, &str); 46] = [
     ("--profile base-cut --seed 1", "usage"),
     ("--profile extended-cut --pool 4294967296", "pool"),
     ("--profile extended-cut --seed 0x1000000000000000", "seed"),
+    ("--profile extended-512", "profile"),
+    ("--profile extended-512E", "profile"),
+    ("--profile base-512e --seed 1", "usage"),
+    ("--profile extended-512e --pool 4294967296", "pool"),
+    ("--profile extended-512e --seed 0x1000000000000000", "seed"),
     ("--show-disk", "usage"),
     ("--show-disk FILE --show-disk FILE", "usage"),
     ("--show-disk FILE --disk FILE", "usage"),
@@ -119,7 +132,7 @@ const SHOWN: [(&str, Option<&str>); 4] = [
 ];
 
 /// The words after the program's name, and the disk's serial number and local identifier.
-const NAMED: [(&str, &[u8; 8], u64); 7] = [
+const NAMED: [(&str, &[u8; 8], u64); 9] = [
     ("", b"00000001", 1),
     ("--profile extended", b"00000001", 1),
     ("--profile extended --seed 0", b"00000000", 0),
@@ -135,15 +148,28 @@ const NAMED: [(&str, &[u8; 8], u64); 7] = [
     ),
     ("--profile extended-cut", b"00000001", 1),
     ("--seed 0x12 --profile extended-cut", b"00000012", 0x12),
+    ("--profile extended-512e", b"00000001", 1),
+    ("--seed 0x13 --profile extended-512e", b"00000013", 0x13),
 ];
 
-/// The words after the program's name, and whether the disk takes less data-out than a command needs.
-const TAKING: [(&str, bool); 5] = [
-    ("", false),
-    ("--profile base", false),
-    ("--profile extended", false),
-    ("--profile extended-cut", true),
-    ("--seed 2 --profile=extended-cut", true),
+/// The words after the program's name, whether the disk takes less data-out than a command needs, and its
+/// physical blocks.
+const REPORTING: [(&str, bool, PhysicalBlock); 7] = [
+    ("", false, PhysicalBlock::Of512),
+    ("--profile base", false, PhysicalBlock::Of512),
+    ("--profile extended", false, PhysicalBlock::Of512),
+    ("--profile extended-cut", true, PhysicalBlock::Of512),
+    (
+        "--seed 2 --profile=extended-cut",
+        true,
+        PhysicalBlock::Of512,
+    ),
+    ("--profile extended-512e", false, PhysicalBlock::Of4096),
+    (
+        "--seed 2 --profile=extended-512e",
+        false,
+        PhysicalBlock::Of4096,
+    ),
 ];
 
 /// A command line: the program's name, and words with blanks between them.
@@ -193,13 +219,16 @@ fn a_seed_names_the_disk(rt: HostRuntime) -> Result<(), Fail> {
 }
 
 #[test]
-fn a_profile_says_whether_too_little_data_out_is_taken(rt: HostRuntime) -> Result<(), Fail> {
-    for (line, takes) in TAKING {
+fn a_profile_says_what_data_out_is_taken_and_which_blocks_are_reported(
+    rt: HostRuntime,
+) -> Result<(), Fail> {
+    for (line, takes, physical_block) in REPORTING {
         let words = words(rt.alloc(), line)?;
         let Ok(disk) = disk_of(rt.alloc(), words.as_slice()) else {
             return Err(Fail::from(line));
         };
         assert_eq!(rt; disk.identity().takes_short_data_out(), takes);
+        assert_eq!(rt; disk.identity().physical_block(), physical_block);
     }
     Ok(())
 }

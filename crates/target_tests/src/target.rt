@@ -6,6 +6,7 @@ ghost use Rattle.sg_target.specs.declared.target.TheConstants.{BUFFER_LENGTH};
 mod configuration;
 mod data_in;
 mod log;
+mod physical_blocks;
 mod runs;
 mod short_data_out;
 
