@@ -3,13 +3,17 @@ use Rattle.std.proofs.Common.{◌≡◌, ◌==◌, ℕ, Bool, true, false, cond,
 use Rattle.std.proofs.Common.{Option, Some, None, refl, sym, ap, ◌∙◌}
 use Rattle.std.specs.Prelude.{if◌then◌else◌, is_some, unwrap_or}
 use Rattle.std.specs.List.{list_any}
-use Rattle.std.proofs.lemmas.Bool.{cond_both, false≢true, or_from, or_parts}
+use Rattle.std.specs.Option.{option_map_or}
+use Rattle.std.proofs.lemmas.Bool.{cond_both, eqb-true, false≢true, or_from, or_parts}
 use Rattle.sg_wire.specs.declared.out_list.OutList.{OutList}
 use Rattle.sg_units.specs.Registrations.{is_of, is_registered, key_of, with_registration, with_replaced}
 use Rattle.sg_units.specs.Registrations.{is_registered_under, is_under, without_initiator}
-use Rattle.sg_units.specs.ReserveOut.{moved_to, registration_by, with_moved}
+use Rattle.sg_units.specs.Reservations.{is_held_by}
+use Rattle.sg_units.specs.ReserveOut.{has_one_holder, moved_to, registration_by, with_moved}
 use Rattle.sg_units.specs.declared.registrations.Registration.{Registration}
-use Rattle.sg_fencing.specs.Registrants.{is_named}
+use Rattle.sg_units.specs.declared.reservation.Reservation.{Reservation}
+use Rattle.sg_units.specs.declared.types.ReservationType.{ReservationType}
+use Rattle.sg_fencing.specs.Registrants.{held_by, is_named}
 use Rattle.sg_fencing.proofs.KeyLemmas.{is_registered-key_of, key_of-own_replaced, key_of-push}
 use Rattle.sg_fencing.proofs.KeyLemmas.{key_of-replaced, key_of-unregistered, key_of-without, own-pushed}
 use Rattle.std.proofs.Common.{eq-eqb}
@@ -54,11 +58,36 @@ target-other (first ∷ second ∷ others) i j none another =
 
 -- it is named alone
 pub target-named : (others : List (Option ℕ)) (j : ℕ)
-    → (unwrap_or (moved_to others) j == j) ≡ false → moved_to others ≡ Some (unwrap_or (moved_to others) j)
+    → (unwrap_or (moved_to others) j == j) ≡ false → others ≡ Some (unwrap_or (moved_to others) j) ∷ []
 target-named [] j another = absurd (false≢true (sym another ∙ eq-eqb j j refl))
 target-named (Some target ∷ []) j another = refl
 target-named (None ∷ []) j another = absurd (false≢true (sym another ∙ eq-eqb j j refl))
 target-named (first ∷ second ∷ others) j another = absurd (false≢true (sym another ∙ eq-eqb j j refl))
+
+-- ---- the reservation
+
+-- an initiator holds it alone
+pub record HeldBy (held : Option Reservation) (rs : List Registration) (j : ℕ) : Type 0 where
+  pub kind : ReservationType
+  pub held_is : held ≡ held_by kind j
+  pub registered : is_registered rs j ≡ true
+
+named-holder : (holder : Option ℕ) (known : Bool) (j : ℕ) → is_some holder ≡ true
+    → (known && option_map_or (λ h. j == h) holder true) ≡ true → (holder ≡ Some j) × (known ≡ true)
+named-holder None known j one h = absurd (false≢true one)
+named-holder (Some i) true j one h = (ap Some (sym (eqb-true j i h)), refl)
+named-holder (Some i) false j one h = absurd (false≢true h)
+
+pub held-alone : (held : Option Reservation) (rs : List Registration) (j : ℕ)
+    → has_one_holder held ≡ true → is_held_by held rs j ≡ true → HeldBy held rs j
+held-alone None rs j one h = absurd (false≢true one)
+held-alone (Some reservation) rs j one h =
+    let parts = named-holder reservation.holder (is_registered rs j) j one h in
+    record {
+      kind = reservation.kind;
+      held_is = λ d. Some (record { kind = reservation.kind; holder = parts.0 d });
+      registered = parts.1;
+    }
 
 -- ---- its key, and the keys of others
 

@@ -37,12 +37,12 @@ use Rattle.sg_target.specs.State.{State, profile_of}
 use Rattle.sg_target.specs.Step.{step}
 use Rattle.sg_fencing.specs.Fencing.{is_moving}
 use Rattle.sg_fencing.specs.Registrants.{OthersAreRegisteredTogether}
-use Rattle.sg_fencing.specs.Registrants.{is_registering, is_registrant, rules_for}
+use Rattle.sg_fencing.specs.Registrants.{held_by, is_registering, is_registrant, rules_for}
 use Rattle.sg_fencing.proofs.KeyLemmas.{is_registered-key_of, key_of-push, key_of-replaced}
 use Rattle.sg_fencing.proofs.KeyLemmas.{together-caller, together-one}
 use Rattle.sg_fencing.proofs.OperationLemmas.{is_of_list_kind}
 use Rattle.sg_fencing.proofs.RegistrationLemmas.{outcome-unknown, supports}
-use Rattle.sg_fencing.proofs.MovedLemmas.{moved-unknown, not-in-filter}
+use Rattle.sg_fencing.proofs.MovedLemmas.{HeldBy, held-alone, moved-unknown, not-in-filter}
 use Rattle.sg_fencing.proofs.StandingLemmas.{EffectStands, step-stands-in}
 
 -- i was registered together with j
@@ -56,9 +56,8 @@ pub record Joins (rules : Rules) (before after : List Registration) (i j : ℕ) 
 pub record Takes (rules : Rules) (before : ReservationState) (after : Option Reservation) (i j : ℕ)
     : Type 0 where
   pub supported : rules.specifies_ports ≡ true
-  pub holder : is_holder before j ≡ true
-  pub alone : has_one_holder before.reservation ≡ true
-  pub moved_is : after ≡ moved before.reservation i
+  pub held : HeldBy before.reservation before.registrations j
+  pub taken : after ≡ held_by held.kind i
 
 module _ (rules : Rules) (state : ReservationState) (i j : ℕ) (other : (j == i) ≡ false)
     (unknown : is_registered state.registrations i ≡ false) where
@@ -113,9 +112,8 @@ module _ (rules : Rules) (state : ReservationState) (i j : ℕ) (other : (j == i
 
   -- i is the one that takes the reservation over
   takes : (list : OutList) (target : ℕ) → (same : Bool) → (target == i) ≡ same
-      → is_registered (with_moved all j target list) i ≡ true → moved state.reservation target
-      ≡ moved state.reservation i
-  takes list target true e known = ap (moved state.reservation) (eqb-true target i e)
+      → is_registered (with_moved all j target list) i ≡ true → target ≡ i
+  takes list target true e known = eqb-true target i e
   takes list target false e known =
       absurd (false≢true (sym (moved-unknown all i j target list unknown e) ∙ known))
 
@@ -126,19 +124,21 @@ module _ (rules : Rules) (state : ReservationState) (i j : ℕ) (other : (j == i
       let target = unwrap_or (moved_to list.others) j in
       case_or (EffectIs JoinsIf) _ _ (λ _. refused JoinsIf _)
       (λ _. case_or (EffectIs JoinsIf) _ _ (λ _. refused JoinsIf _)
-      (λ held. case_or (EffectIs JoinsIf) _ _ (λ _. refused JoinsIf _)
+      (λ holds. case_or (EffectIs JoinsIf) _ _ (λ _. refused JoinsIf _)
       (λ _. case_or (EffectIs JoinsIf) _ _ (λ _. refused JoinsIf _)
       (λ _. case_or (EffectIs JoinsIf) _ _ (λ _. refused JoinsIf _)
       (λ _. case_or (EffectIs JoinsIf) _ _ (λ _. refused JoinsIf _)
       (λ _. case_or (EffectIs JoinsIf) _ _ (λ _. refused JoinsIf _)
       (λ _.
-      let parts = and_parts (has_one_holder state.reservation) (is_holder state j) (not-false _ held) in
+      let parts = and_parts (has_one_holder state.reservation) (is_holder state j) (not-false _ holds) in
+      let held = held-alone state.reservation all j parts.0 parts.1 in
       last_case (EffectIs JoinsIf) _ _ refl
       (effective JoinsIf _ (λ known. inr (record {
         supported = supported;
-        holder = parts.1;
-        alone = parts.0;
-        moved_is = takes list target (target == i) refl known;
+        held = held;
+        taken =
+            ap (λ held. moved held target) held.held_is
+            ∙ ap (held_by held.kind) (takes list target (target == i) refl known);
       }))))))))))
 
   registering-joins : (action : OutAction) (scope_type : ℕ) (list : OutList)
@@ -234,8 +234,9 @@ registered-together state i j cdb data_out other unknown known =
       })
       | inr it ↦ inr (record {
         supported = it.supported;
-        holder = it.holder;
-        alone = it.alone;
-        moved = it.moved_is;
+        registered = it.held.registered;
+        type = it.held.kind;
+        held = it.held.held_is;
+        taken = it.taken;
       })
     ]

@@ -2,7 +2,7 @@
 -- held. Under the types registrants only and all registrants, all registrants may write. So a
 -- cluster fences a node off under these types: another node removes its registration by PREEMPT.
 use Rattle.std.specs.Prelude.{◌≡◌, ◌≢◌, ◌⊎◌, ◌==◌, ℕ, Bool, true, false, ◌&&◌, ◌||◌, not, List}
-use Rattle.std.specs.Prelude.{Option, Some, None, Result, Ok, if◌then◌else◌}
+use Rattle.std.specs.Prelude.{Option, Some, None, Result, Ok, if◌then◌else◌, [], ◌∷◌, ◌+◌, ◌%◌, ◌^◌}
 use Rattle.std.specs.Prelude.{is_some, slice_get, take}
 use Rattle.std.specs.List.{list_any}
 use Rattle.std.specs.Option.{option_map, option_map_or}
@@ -25,9 +25,9 @@ use Rattle.sg_wire.specs.declared.profile.Rules.{Rules}
 use Rattle.sg_wire.specs.declared.out_list.OutList.{OutList}
 use Rattle.sg_units.specs.Registrations.{is_registered, key_of}
 use Rattle.sg_units.specs.Laws.{is_exclusive_access}
-use Rattle.sg_units.specs.ReserveOut.{has_one_holder, moved, moved_to}
-use Rattle.sg_units.specs.Reservations.{is_holder}
+use Rattle.sg_units.specs.Attentions.{pending_for}
 use Rattle.sg_units.specs.declared.reservation.Reservation.{Reservation}
+use Rattle.sg_units.specs.declared.types.ReservationType.{ReservationType}
 use Rattle.sg_target.specs.ReservationCommands.{is_register}
 use Rattle.sg_target.specs.Effect.{with_contents}
 use Rattle.sg_target.specs.Runs.{all_calls, answers, state_after_all, state_after_events, step_of}
@@ -180,13 +180,18 @@ pub record AreRegisteredTogether (before after : State) (initiator sender : ℕ)
   pub one_key : key_of after.reservations.registrations initiator
       ≡ key_of after.reservations.registrations sender
 
--- An initiator takes over the reservation, whose type stays. The sender of the command was its one holder.
--- Only an extended disk does that.
+-- A reservation of a type that an initiator holds alone.
+abbrev pub held_by : ReservationType → (holder : ℕ) → Option Reservation
+held_by type initiator = Some (record { kind = type; holder = Some initiator })
+
+-- An initiator takes over the reservation that the sender of a command held. The type stays. Only an
+-- extended disk does that.
 pub record TakesOver (before after : State) (initiator sender : ℕ) : Type 0 where
   pub supported : (rules_for before).specifies_ports ≡ true
-  pub holder : is_holder before.reservations sender ≡ true
-  pub alone : has_one_holder before.reservations.reservation ≡ true
-  pub moved : after.reservations.reservation ≡ moved before.reservations.reservation initiator
+  pub registered : is_registrant before sender ≡ true
+  pub type : ReservationType
+  pub held : before.reservations.reservation ≡ held_by type sender
+  pub taken : after.reservations.reservation ≡ held_by type initiator
 
 -- One of the two holds if another initiator's command registers one. So a registrant registers nobody else
 -- unless it gives its reservation away, and nobody else registers another without itself.
@@ -199,11 +204,12 @@ OthersAreRegisteredTogether =
     AreRegisteredTogether state after initiator caller ⊎ TakesOver state after initiator caller)
 
 -- A reservation is handed over to the initiator that a list names. That one is registered under the key of
--- the list. With UNREG the sender is not registered any more. No other key changes, no block and no mode
--- page.
+-- the list. With UNREG the sender is not registered any more. PRGENERATION, which has 32 bits, is
+-- incremented, and APTPL becomes the value in the list. No other key changes, no block and no mode page,
+-- and no unit attention is established.
 pub record IsHandedOver (before after : State) (sender : ℕ) (list : OutList) : Type 0 where
   pub target : ℕ
-  pub named : moved_to list.others ≡ Some target
+  pub named : list.others ≡ Some target ∷ []
   pub another : target ≢ sender
   pub taken_over : TakesOver before after target sender
   pub key : key_of after.reservations.registrations target ≡ Some list.service_action_key
@@ -211,14 +217,18 @@ pub record IsHandedOver (before after : State) (sender : ℕ) (list : OutList) :
       ≡ (if list.unreg then None else key_of before.reservations.registrations sender)
   pub other_keys : (other : ℕ) → other ≢ target → other ≢ sender
       → key_of after.reservations.registrations other ≡ key_of before.reservations.registrations other
+  pub generation : after.reservations.generation ≡ (before.reservations.generation + 1) % 2 ^ 32
+  pub persists : after.reservations.persists_through_power_loss ≡ list.aptpl
   pub disk : after.disk ≡ before.disk
   pub modes : after.modes ≡ before.modes
+  pub attentions : (other : ℕ)
+      → pending_for after.attentions other ≡ pending_for before.attentions other
 
 -- This holds after a REGISTER AND MOVE that ends with GOOD. So only the one holder hands a reservation
 -- over, and one initiator or the other holds it at each moment.
 abbrev pub HoldersHandOver : Type 0
 HoldersHandOver =
-    (state : State) (caller : ℕ) (cdb data_out : List ℕ) (list : OutList)
+    (state : State) (caller : ℕ) (cdb data_out : List ℕ) (list : OutList) → IsWithinLimits state
     → moving_list (command_of cdb) data_out ≡ Some list
     → (step state caller cdb data_out).answer.status ≡ Good
     → IsHandedOver state (step state caller cdb data_out).state caller list

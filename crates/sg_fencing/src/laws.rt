@@ -253,7 +253,8 @@ pub fn others_are_registered_together()
 
 /// A REGISTER AND MOVE that ends with GOOD was sent by the one holder of a reservation. The initiator that
 /// it names takes the reservation over, and is registered under its key. With UNREG the sender is not
-/// registered any more. No other key changes, and no block or mode page.
+/// registered any more. PRGENERATION is incremented, and APTPL becomes the value in the list. No other
+/// key changes, no block, no mode page and no unit attention.
 pub fn holders_hand_over()
     ensures { HoldersHandOver }
 {}
