@@ -252,9 +252,8 @@ pub fn others_are_registered_together()
 {}
 
 /// A REGISTER AND MOVE that ends with GOOD was sent by the one holder of a reservation. The initiator that
-/// it names takes the reservation over, and is registered under its key. With UNREG the sender is not
-/// registered any more. PRGENERATION is incremented, and APTPL becomes the value in the list. No other
-/// key changes, no block, no mode page and no unit attention.
+/// it names takes the reservation over, and is registered under its key; with UNREG the sender is not any
+/// more. PRGENERATION and APTPL change as by REGISTER, and no block, page, unit attention or other key.
 pub fn holders_hand_over()
     ensures { HoldersHandOver }
 {}

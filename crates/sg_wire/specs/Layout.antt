@@ -188,7 +188,7 @@ unmap c =
     field (bit 1 0) c.anchor ∷ field (bits 6 4 0) c.group ∷ field (bytes 7 8) c.list_length ∷ []
 
 -- COR_DIS, WR_UNCOR, LOGICAL BLOCK ADDRESS and BYTE TRANSFER LENGTH.
--- Choice (SBC-3, 5.41): PBLOCK is refused, as a physical block is one logical block.
+-- Choice (SBC-3, 5.41): PBLOCK is refused, of whichever length a physical block is.
 abbrev write_long_10 : WriteLong10 → List Field
 write_long_10 c =
     field (bit 1 7) c.cor_dis ∷ field (bit 1 6) c.wr_uncor ∷ field (bytes 2 5) c.lba
