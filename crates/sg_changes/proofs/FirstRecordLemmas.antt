@@ -1,5 +1,5 @@
 -- The first record is an exact format.
-use Rattle.std.proofs.Common.{◌≡◌, ℕ, zero, suc, List, Some, Bool, true, false, refl, sym, subst}
+use Rattle.std.proofs.Common.{◌≡◌, ℕ, zero, suc, List, Some, Bool, true, false, refl, sym, subst, ap}
 use Rattle.sg_pages.specs.declared.physical_block.PhysicalBlock.{PhysicalBlock}
 use Rattle.sg_pages.specs.declared.physical_block.PhysicalBlock.TheVariants.{Of512, Of4096}
 use Rattle.sg_wire.specs.declared.profile.Profile.{Profile}
@@ -29,22 +29,18 @@ unfolding profile
 profile-exact = table_exact profile_code profile_of profile-found profile-again
 
 kind-found : (n : ℕ) (k : Bool × PhysicalBlock) → kind_of n ≡ Some k → kind_code k.0 k.1 ≡ n
-kind-found zero (false, Of512) e = refl
-kind-found zero (true, Of512) e = absurd cc
-kind-found zero (false, Of4096) e = absurd cc
-kind-found zero (true, Of4096) e = absurd cc
-kind-found (suc zero) (false, Of512) e = absurd cc
-kind-found (suc zero) (true, Of512) e = refl
-kind-found (suc zero) (false, Of4096) e = absurd cc
-kind-found (suc zero) (true, Of4096) e = absurd cc
-kind-found (suc (suc zero)) (false, Of512) e = absurd cc
-kind-found (suc (suc zero)) (true, Of512) e = absurd cc
-kind-found (suc (suc zero)) (false, Of4096) e = refl
-kind-found (suc (suc zero)) (true, Of4096) e = absurd cc
-kind-found (suc (suc (suc zero))) (false, Of512) e = absurd cc
-kind-found (suc (suc (suc zero))) (true, Of512) e = absurd cc
-kind-found (suc (suc (suc zero))) (false, Of4096) e = absurd cc
-kind-found (suc (suc (suc zero))) (true, Of4096) e = refl
+kind-found zero k e =
+    let same : (false, Of512) ≡ k = cc in
+    ap (λ k. kind_code k.0 k.1) (sym same)
+kind-found (suc zero) k e =
+    let same : (true, Of512) ≡ k = cc in
+    ap (λ k. kind_code k.0 k.1) (sym same)
+kind-found (suc (suc zero)) k e =
+    let same : (false, Of4096) ≡ k = cc in
+    ap (λ k. kind_code k.0 k.1) (sym same)
+kind-found (suc (suc (suc zero))) k e =
+    let same : (true, Of4096) ≡ k = cc in
+    ap (λ k. kind_code k.0 k.1) (sym same)
 kind-found (suc (suc (suc (suc n)))) k e = absurd cc
 
 kind-again : (k : Bool × PhysicalBlock) → kind_of (kind_code k.0 k.1) ≡ Some k
