@@ -200,9 +200,11 @@ fn calls_are_refused() -> Result<(), Error> {
 
 #[test]
 fn physical_blocks_of_4096_bytes_are_reported() -> Result<(), Error> {
-    for (profile, exponent, granularity) in
-        [(profile::EXTENDED, 0u8, 1u8), (profile::EXTENDED_CUT, 0, 1), (profile::EXTENDED_512E, 3, 8)]
-    {
+    for (profile, exponent, granularity) in [
+        (profile::EXTENDED, 0u8, 1u8),
+        (profile::EXTENDED_CUT, 0, 1),
+        (profile::EXTENDED_512E, 3, 8),
+    ] {
         let mut disk = Disk::with_profile(profile, 64, 4, None)?;
         let limits = disk.initiator(0).inquiry(true, 0xB0, 64)?;
         assert_eq!(limits.data_in[6..8], [0, granularity]);
