@@ -46,6 +46,7 @@ use Rattle.sg_fencing.proofs.HolderLemmas.{raised-none, raised-others}
 use Rattle.sg_fencing.proofs.MovedLemmas.{HeldBy, held-alone}
 use Rattle.sg_fencing.proofs.MovedLemmas.{left-caller, left-other, moved-key, moved-other, target-named}
 use Rattle.sg_fencing.proofs.OperationLemmas.{listed}
+use Rattle.sg_fencing.proofs.RegistrationLemmas.{nothing}
 use Rattle.sg_fencing.proofs.TogetherLemmas.{had-supports}
 
 -- ---- The outcome
@@ -112,13 +113,6 @@ module _ (rules : Rules) (state : ReservationState) (j : ℕ) (list : OutList) w
 
 -- ---- The command
 
--- nothing is raised for anybody
-nobody : (a b : Bool) (remaining removed : Option UnitAttention) → remaining ≡ None → removed ≡ None
-    → (if a then None else (if b then remaining else removed)) ≡ None
-nobody true b remaining removed e f = refl
-nobody false true remaining removed e f = e
-nobody false false remaining removed e f = f
-
 module _ (state : State) (j : ℕ) (list : OutList) (w : IsWithinLimits state) where
   unraised : (change : ReservationChange) → change.for_remaining ≡ None → change.for_removed ≡ None
       → (i : ℕ) → pending_for (raised_for_each state.attentions
@@ -128,7 +122,7 @@ module _ (state : State) (j : ℕ) (list : OutList) (w : IsWithinLimits state) w
       let rs = state.reservations.registrations in
       raised-others state.attentions (raised_by rs j change) i w.pending.one_for_each
       (raised-none (raised_for rs j change) i
-      (nobody (i == j || not (is_registered rs i)) (is_registered change.registrations i)
+      (nothing (i == j || not (is_registered rs i)) (is_registered change.registrations i)
       change.for_remaining change.for_removed remaining removed))
 
   abbrev Follows : Step → Type 0

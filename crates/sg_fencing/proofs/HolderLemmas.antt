@@ -26,15 +26,16 @@ use Rattle.sg_units.specs.declared.types.ReservationType.TheVariants.{ExclusiveA
 use Rattle.sg_units.specs.declared.types.ReservationType.TheVariants.{WriteExclusiveAllRegistrants}
 use Rattle.sg_units.specs.declared.types.ReservationType.TheVariants.{ExclusiveAccessAllRegistrants}
 use Rattle.sg_units.specs.declared.unit_attention.UnitAttention.{UnitAttention}
-use Rattle.sg_fencing.proofs.ReserveOutLemmas.{held_alone, is_one_holder}
+use Rattle.sg_fencing.proofs.ReserveOutLemmas.{is_one_holder}
 use Rattle.sg_fencing.specs.Fencing.{holds_alone, holds_type, view_of}
+use Rattle.sg_fencing.specs.Registrants.{held_by}
 use Rattle.sg_target.specs.State.{IsWithinLimits, State}
 
 -- ---- Who holds alone
 
 pub record HoldsAlone (state : ReservationState) (i : ℕ) : Type 0 where
   pub kind : ReservationType
-  pub reservation_is : state.reservation ≡ held_alone kind i
+  pub reservation_is : state.reservation ≡ held_by kind i
   pub registered : is_registered state.registrations i ≡ true
   pub unshared : is_shared kind ≡ false
 
@@ -91,7 +92,7 @@ holds_in held rs i =
 
 record HeldIn (held : Option Reservation) (rs : List Registration) (i : ℕ) : Type 0 where
   kind : ReservationType
-  reservation_is : held ≡ held_alone kind i
+  reservation_is : held ≡ held_by kind i
   registered : is_registered rs i ≡ true
   unshared : is_shared kind ≡ false
 

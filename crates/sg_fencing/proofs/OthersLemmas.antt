@@ -18,7 +18,7 @@ use Rattle.sg_units.specs.ReserveOut.{Outcome, outcome, raised_by, raised_for}
 use Rattle.sg_wire.specs.declared.out_list.OutList.{OutList}
 use Rattle.sg_units.specs.declared.reservation_change.ReservationChange.{ReservationChange}
 use Rattle.sg_units.specs.declared.reservation_state.ReservationState.{ReservationState}
-use Rattle.sg_fencing.proofs.ReserveOutLemmas.{IsLeftIfHolder, alone_in, held_alone, is_one_holder}
+use Rattle.sg_fencing.proofs.ReserveOutLemmas.{IsLeftIfHolder, alone_in, is_one_holder}
 use Rattle.sg_fencing.proofs.ReserveOutLemmas.{outcome_leaves}
 use Rattle.sg_units.proofs.OutcomeLemmas.{EffectIs}
 use Rattle.sg_target.specs.Effect.{Effect, returning_up_to, without_attention}
@@ -49,7 +49,7 @@ use Rattle.sg_fencing.proofs.HolderLemmas.{HoldsAlone, alone, cleared-other, one
 use Rattle.sg_fencing.proofs.HolderLemmas.{raised-none, raised-others, refuses-others, same-view}
 use Rattle.sg_fencing.proofs.HolderLemmas.{without-other}
 use Rattle.sg_fencing.proofs.OperationLemmas.{asked-fits, class_for, fits_list, is_of_list_kind}
-use Rattle.sg_fencing.specs.Registrants.{rules_for}
+use Rattle.sg_fencing.specs.Registrants.{held_by, rules_for}
 
 -- the view of i and the identity of the disk are as they were, but the unit may have been started
 pub record Keeps (before after : State) (i : ℕ) : Type 0 where
@@ -215,7 +215,7 @@ module _ (state : State) (i j : ℕ) (other : j ≡ i → ⊥) (h : HoldsAlone s
   HolderKeeps effect = EffectKeeps IsOneHolder state i j other effect
 
   abbrev P : ReservationChange → Type 0
-  P = IsLeftIfHolder state.reservations.registrations (held_alone h.kind i) i j
+  P = IsLeftIfHolder state.reservations.registrations (held_by h.kind i) i j
 
   changing-keeps : (o : Outcome) → EffectIs P o
       → HolderKeeps (when_sound (result_map_both (λ change. change) out_refusal o)

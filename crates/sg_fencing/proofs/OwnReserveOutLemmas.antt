@@ -38,9 +38,10 @@ use Rattle.sg_units.specs.declared.reservation_state.ReservationState.{Reservati
 use Rattle.sg_units.specs.declared.types.ReservationType.{ReservationType}
 use Rattle.sg_units.proofs.OutcomeLemmas.{FirstIs, case_or, choice, last_case}
 use Rattle.sg_fencing.specs.Fencing.{is_moving}
+use Rattle.sg_fencing.specs.Registrants.{held_by}
 use Rattle.sg_fencing.proofs.KeyLemmas.{key_of-own_replaced, key_of-unregistered}
 use Rattle.sg_fencing.proofs.KeyLemmas.{key_of-filter}
-use Rattle.sg_fencing.proofs.ReserveOutLemmas.{alone_in, held_alone}
+use Rattle.sg_fencing.proofs.ReserveOutLemmas.{alone_in}
 use Rattle.sg_fencing.proofs.KeyLemmas.{key_of-without_key, is_registered-key_of}
 use Rattle.sg_fencing.proofs.KeyLemmas.{only-key_of, stays_registered, under-key_of}
 use Rattle.sg_fencing.proofs.ReserveOutLemmas.{while_held-alone}
@@ -111,7 +112,7 @@ module _ (rules : Rules) (all : List Registration) (kind : ReservationType) (bef
   state = alone_in all kind i before
 
   abbrev held : Option Reservation
-  held = held_alone kind i
+  held = held_by kind i
 
   abbrev as_before : Left
   as_before = (Some k, held)

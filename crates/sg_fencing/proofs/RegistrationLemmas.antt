@@ -37,8 +37,9 @@ use Rattle.sg_fencing.proofs.ReserveOutLemmas.{IsLeft}
 
 -- ---- The command of an initiator that is not registered
 
-nothing : (a b : Bool) (remaining removed : Option UnitAttention) → remaining ≡ None → removed ≡ None
-    → (if a then None else (if b then remaining else removed)) ≡ None
+-- nothing is raised for anybody
+pub nothing : (a b : Bool) (remaining removed : Option UnitAttention) → remaining ≡ None
+    → removed ≡ None → (if a then None else (if b then remaining else removed)) ≡ None
 nothing true b remaining removed e f = refl
 nothing false true remaining removed e f = e
 nothing false false remaining removed e f = f

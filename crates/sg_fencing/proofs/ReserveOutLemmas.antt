@@ -30,14 +30,11 @@ use Rattle.sg_units.specs.declared.types.ReservationType.{ReservationType}
 use Rattle.sg_units.specs.declared.unit_attention.UnitAttention.{UnitAttention}
 use Rattle.sg_units.proofs.OutcomeLemmas.{EffectIs, FirstIs, case_or, choice, if-accepted, effective}
 use Rattle.sg_units.proofs.OutcomeLemmas.{last_case, refused, releasing, taking, typed}
+use Rattle.sg_fencing.specs.Registrants.{held_by}
 use Rattle.sg_fencing.proofs.KeyLemmas.{key_of-push, key_of-replaced, key_of-without, key_of-without_key}
 use Rattle.sg_fencing.proofs.KeyLemmas.{stays_registered, together-known}
 
 -- ---- The one holder
-
--- a reservation with one holder
-abbrev pub held_alone : ReservationType → (holder : ℕ) → Option Reservation
-held_alone kind i = Some (record { kind = kind; holder = Some i })
 
 abbrev pub is_one_holder : Option Reservation → ℕ → Bool
 is_one_holder held i =
@@ -48,14 +45,14 @@ is_one_holder held i =
 abbrev pub alone_in : List Registration → ReservationType → (holder : ℕ) → ReservationState
     → ReservationState
 alone_in all kind i state =
-    record state { registrations = all; reservation = held_alone kind i }
+    record state { registrations = all; reservation = held_by kind i }
 
 pub while_held-alone : (kind : ReservationType) (i : ℕ) (rest : List Registration)
-    → is_registered rest i ≡ true → while_held (held_alone kind i) rest ≡ held_alone kind i
-while_held-alone kind i rest h = ap (λ b. if b then held_alone kind i else None) h
+    → is_registered rest i ≡ true → while_held (held_by kind i) rest ≡ held_by kind i
+while_held-alone kind i rest h = ap (λ b. if b then held_by kind i else None) h
 
 released-alone : (kind : ReservationType) (i : ℕ) (rest : List Registration)
-    → is_registered rest i ≡ true → released_unless_held (held_alone kind i) rest ≡ None
+    → is_registered rest i ≡ true → released_unless_held (held_by kind i) rest ≡ None
 released-alone kind i rest h = ap (λ b. if b then None else released kind) h
 
 -- ---- The command of another initiator
@@ -122,13 +119,13 @@ no_holder false b h e = false≢true (sym e)
 module _ (rules : Rules) (all : List Registration) (kind : ReservationType) (before : ReservationState)
     (i j : ℕ) where
   abbrev P : ReservationChange → Type 0
-  P = IsLeftIfHolder all (held_alone kind i) i j
+  P = IsLeftIfHolder all (held_by kind i) i j
 
   register_leaves : (list : OutList) → is_registered all i ≡ true → (j == i) ≡ false
       → FirstIs (EffectIs P) (register_cases (alone_in all kind i before) j list)
   unfolding register_cases
   register_leaves list here other =
-      let held = held_alone kind i in
+      let held = held_by kind i in
       let own = registration_by list j in
       let gone = key_of-without all i j other in
       let left = stays_registered all (without_initiator all j) i gone here in
@@ -149,30 +146,30 @@ module _ (rules : Rules) (all : List Registration) (kind : ReservationType) (bef
       (λ _. case_or (EffectIs P) _ _ (λ _. refused P _)
       (λ _. case_or (EffectIs P) _ _ (λ _. refused P _)
       (λ _. last_case (EffectIs P) _ _ refl
-      (stays all (held_alone kind i) i j _ here (together-known list all i j here) refl refl))))
+      (stays all (held_by kind i) i j _ here (together-known list all i j here) refl refl))))
 
   reserve_leaves : (new : ReservationType) → is_registered all i ≡ true
       → FirstIs (EffectIs P) (reserve_cases (alone_in all kind i before) j new)
   unfolding reserve_cases
   reserve_leaves new here =
       case_or (EffectIs P) _ _ (λ no. absurd (false≢true no))
-      (λ _. case_or (EffectIs P) _ _ (λ _. stays all (held_alone kind i) i j _ here refl refl refl)
+      (λ _. case_or (EffectIs P) _ _ (λ _. stays all (held_by kind i) i j _ here refl refl refl)
       (λ _. last_case (EffectIs P) _ _ refl (refused P _)))
 
   release_leaves : (new : ReservationType) → is_registered all i ≡ true
       → FirstIs (EffectIs P) (release_cases (alone_in all kind i before) j new)
   unfolding release_cases
   release_leaves new here =
-      case_or (EffectIs P) _ _ (λ _. stays all (held_alone kind i) i j _ here refl refl refl)
+      case_or (EffectIs P) _ _ (λ _. stays all (held_by kind i) i j _ here refl refl refl)
       (λ _. case_or (EffectIs P) _ _ (λ _. refused P _)
-      (λ _. last_case (EffectIs P) _ _ refl (ends all (held_alone kind i) i j _ refl)))
+      (λ _. last_case (EffectIs P) _ _ refl (ends all (held_by kind i) i j _ refl)))
 
   preempt_leaves : (type : Option ReservationType) (sark : ℕ) → is_registered all i ≡ true
       → (j == i) ≡ false
       → FirstIs (EffectIs P) (preempt_cases rules (alone_in all kind i before) j type sark)
   unfolding preempt_cases
   preempt_leaves type sark here other =
-      let held = held_alone kind i in
+      let held = held_by kind i in
       case_or (EffectIs P) _ _ (λ _. refused P _)
       (λ _. case_or (EffectIs P) _ _ (λ _. refused P _)
       (λ _. case_or (EffectIs P) _ _ (λ _. took all held i j type _ other)
@@ -203,9 +200,9 @@ module _ (rules : Rules) (all : List Registration) (kind : ReservationType) (bef
       typed P type _ (λ new. (reserve_leaves new here).first)
   action_leaves Release type list here other =
       releasing P rules (alone_in all kind i before) j type
-      ((stays all (held_alone kind i) i j _ here refl refl refl).shown _ refl)
+      ((stays all (held_by kind i) i j _ here refl refl refl).shown _ refl)
       (λ new. release_leaves new here)
-  action_leaves Clear type list here other = ends all (held_alone kind i) i j _ refl
+  action_leaves Clear type list here other = ends all (held_by kind i) i j _ refl
   action_leaves Preempt type list here other =
       (preempt_leaves type list.service_action_key here other).first
   action_leaves PreemptAndAbort type list here other =
@@ -237,13 +234,13 @@ stands held i change here same =
 module _ (rules : Rules) (all : List Registration) (kind : ReservationType) (before : ReservationState)
     (i j : ℕ) where
   abbrev H : ReservationChange → Type 0
-  H = IsHeld (held_alone kind i) i
+  H = IsHeld (held_by kind i) i
 
   register_holds : (list : OutList) → is_registered all i ≡ true → (j == i) ≡ false
       → FirstIs (EffectIs H) (register_cases (alone_in all kind i before) j list)
   unfolding register_cases
   register_holds list here other =
-      let held = held_alone kind i in
+      let held = held_by kind i in
       let own = registration_by list j in
       let gone = key_of-without all i j other in
       let left = stays_registered all (without_initiator all j) i gone here in
@@ -264,21 +261,21 @@ module _ (rules : Rules) (all : List Registration) (kind : ReservationType) (bef
       case_or (EffectIs H) _ _ (λ _. refused H _)
       (λ _. case_or (EffectIs H) _ _ (λ _. refused H _)
       (λ _. case_or (EffectIs H) _ _ (λ _. refused H _)
-      (λ _. last_case (EffectIs H) _ _ refl (stands (held_alone kind i) i _ still refl))))
+      (λ _. last_case (EffectIs H) _ _ refl (stands (held_by kind i) i _ still refl))))
 
   reserve_holds : (new : ReservationType) → is_registered all i ≡ true
       → FirstIs (EffectIs H) (reserve_cases (alone_in all kind i before) j new)
   unfolding reserve_cases
   reserve_holds new here =
       case_or (EffectIs H) _ _ (λ no. absurd (false≢true no))
-      (λ _. case_or (EffectIs H) _ _ (λ _. stands (held_alone kind i) i _ here refl)
+      (λ _. case_or (EffectIs H) _ _ (λ _. stands (held_by kind i) i _ here refl)
       (λ _. last_case (EffectIs H) _ _ refl (refused H _)))
 
   release_holds : (new : ReservationType) → is_registered all i ≡ true → (j == i) ≡ false
       → FirstIs (EffectIs H) (release_cases (alone_in all kind i before) j new)
   unfolding release_cases
   release_holds new here other =
-      case_or (EffectIs H) _ _ (λ _. stands (held_alone kind i) i _ here refl)
+      case_or (EffectIs H) _ _ (λ _. stands (held_by kind i) i _ here refl)
       (λ is. absurd (no_holder (is_registered all j) (j == i) other is))
 
   move_holds : (list : OutList) → (j == i) ≡ false

@@ -19,7 +19,8 @@ use Rattle.sg_units.specs.declared.reservation.Reservation.{Reservation}
 use Rattle.sg_units.specs.declared.reservation_change.ReservationChange.{ReservationChange}
 use Rattle.sg_units.specs.declared.reservation_state.ReservationState.{ReservationState}
 use Rattle.sg_units.specs.declared.types.ReservationType.TheVariants.{WriteExclusive, ExclusiveAccess}
-use Rattle.sg_fencing.proofs.ReserveOutLemmas.{IsHeld, alone_in, held_alone, outcome_holds}
+use Rattle.sg_fencing.specs.Registrants.{held_by}
+use Rattle.sg_fencing.proofs.ReserveOutLemmas.{IsHeld, alone_in, outcome_holds}
 use Rattle.sg_units.proofs.OutcomeLemmas.{EffectIs}
 use Rattle.sg_target.specs.Effect.{Effect, returning_up_to}
 use Rattle.sg_target.specs.ModeCommands.{changing_modes, mode_parameters, selected_modes}
@@ -119,7 +120,7 @@ module _ (state : State) (i j : ℕ) (other : j ≡ i → ⊥) (h : HoldsAlone s
   HolderStands effect = EffectStands Stays state j stays effect
 
   abbrev H : ReservationChange → Type 0
-  H = IsHeld (held_alone h.kind i) i
+  H = IsHeld (held_by h.kind i) i
 
   changing-stands : (o : Outcome) → EffectIs H o
       → HolderStands
