@@ -36,7 +36,7 @@ use Rattle.sg_target.specs.declared.operation.Operation.TheVariants.{ChangeReser
 use Rattle.sg_target.specs.declared.refusal.Reason.TheVariants.{UnitAttention as Attention}
 use Rattle.sg_target.specs.declared.refusal.Refusal.{Refusal}
 use Rattle.sg_target.specs.declared.refusal.Refusal.TheVariants.{CheckCondition}
-use Rattle.sg_target.proofs.LiftLemmas.{lifted, outcome-by}
+use Rattle.sg_target.proofs.LiftLemmas.{Asked, lifted, outcome-by}
 use Rattle.sg_fencing.specs.Fencing.{can_end_for_others, holds_alone}
 use Rattle.sg_fencing.proofs.HolderLemmas.{HoldsAlone}
 use Rattle.sg_fencing.proofs.OperationLemmas.{asked-fits, fits_list, is_of_list_kind}
@@ -81,25 +81,28 @@ module _ (Stands : ReservationState → Type 0) (state : State) (j : ℕ)
         reserving-stands action scope_type list k
     operation-stands _ k = same
 
-    pub step-stands : (cdb data_out : List ℕ) → is_of_list_kind kind (command_of cdb) data_out ≡ true
-        → Stands (step state j cdb data_out).state.reservations
-    step-stands cdb data_out of_kind =
+    -- however the command is read
+    read-stands : (cdb data_out : List ℕ) (read : Result Command CdbFault)
+        → ((operation : Operation) (k : Asked state j cdb data_out operation) → read ≡ Ok k.command)
+        → is_of_list_kind kind read data_out ≡ true → Stands (step state j cdb data_out).state.reservations
+    read-stands cdb data_out read is_read of_kind =
         lifted state j cdb data_out (λ (done : Step). Stands done.state.reservations) refused-stands
         (λ operation k. outcome-stands (effect_of state j operation) (operation-stands operation
         (asked-fits (config_of state) k.command data_out operation k.operation_is kind
-        (sym (ap (λ (p : Result Command CdbFault). is_of_list_kind kind p data_out) k.command_is)
+        (sym (ap (λ (p : Result Command CdbFault). is_of_list_kind kind p data_out) (is_read operation k))
         ∙ of_kind))))
+
+    pub step-stands : (cdb data_out : List ℕ) → is_of_list_kind kind (command_of cdb) data_out ≡ true
+        → Stands (step state j cdb data_out).state.reservations
+    step-stands cdb data_out =
+        read-stands cdb data_out (command_of cdb) (λ operation k. k.command_is)
 
     -- the same by the command that the profile of the disk has
     pub step-stands-in : (cdb data_out : List ℕ)
         → is_of_list_kind kind (command_in (profile_of state) cdb) data_out ≡ true
         → Stands (step state j cdb data_out).state.reservations
-    step-stands-in cdb data_out of_kind =
-        lifted state j cdb data_out (λ (done : Step). Stands done.state.reservations) refused-stands
-        (λ operation k. outcome-stands (effect_of state j operation) (operation-stands operation
-        (asked-fits (config_of state) k.command data_out operation k.operation_is kind
-        (sym (ap (λ (p : Result Command CdbFault). is_of_list_kind kind p data_out) k.read_as)
-        ∙ of_kind))))
+    step-stands-in cdb data_out =
+        read-stands cdb data_out (command_in (profile_of state) cdb) (λ operation k. k.read_as)
 
 -- ---- Where i holds a reservation alone
 
