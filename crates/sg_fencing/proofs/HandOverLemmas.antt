@@ -1,5 +1,5 @@
 -- A REGISTER AND MOVE that ends with GOOD hands the reservation over.
-use Rattle.std.proofs.Common.{◌≡◌, ◌==◌, ℕ, Bool, true, false, not, ◌||◌, List, [], ◌∷◌, Option, Some, None}
+use Rattle.std.proofs.Common.{◌≡◌, ◌==◌, ℕ, true, false, not, ◌||◌, List, [], ◌∷◌, Some, None}
 use Rattle.std.proofs.Common.{Result, Ok, Err, refl, sym, ap, ◌∙◌, subst}
 use Rattle.std.specs.Prelude.{if◌then◌else◌, unwrap_or}
 use Rattle.std.specs.Result.{result_map_both}
@@ -22,7 +22,6 @@ use Rattle.sg_units.specs.ReserveOut.{Outcome, has_one_holder, move_cases, moved
 use Rattle.sg_units.specs.ReserveOut.{generation_after, raised_by, raised_for}
 use Rattle.sg_units.specs.Attentions.{pending_for}
 use Rattle.sg_units.specs.Raised.{raised_for_each}
-use Rattle.sg_units.specs.declared.unit_attention.UnitAttention.{UnitAttention}
 use Rattle.sg_units.specs.declared.reservation_change.ReservationChange.{ReservationChange}
 use Rattle.sg_units.specs.declared.reservation_state.ReservationState.{ReservationState}
 use Rattle.sg_units.proofs.OutcomeLemmas.{EffectIs, FirstIs, case_or, effective, if-accepted, last_case}
