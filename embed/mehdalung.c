@@ -48,7 +48,8 @@ uint32_t mehdalung_execute_unflushed(mdl_disk *disk, uint32_t initiator, const u
 uint32_t mehdalung_power_cycle(mdl_disk *disk);
 uint32_t mehdalung_happen(mdl_disk *disk, const mdl_happening *happening);
 uint32_t mehdalung_read_happening(const uint8_t *text, size_t length, mdl_happening *happening);
-uint32_t mehdalung_registered(mdl_disk *disk, uint32_t *mask);
+uint32_t mehdalung_initiators(mdl_disk *disk, uint32_t *count);
+uint32_t mehdalung_registered(mdl_disk *disk, uint64_t *mask);
 uint32_t mehdalung_forget(mdl_disk *disk, uint32_t initiator);
 /* The proved function takes what `fields` has as a record already, whose flags are 0 or 1. */
 uint32_t mehdalung_sense(const uint8_t *sense, size_t length, mdl_sense *fields);
@@ -355,7 +356,12 @@ mdl_error mdl_read_happening(const char *words, mdl_happening *happening)
     return (mdl_error)mehdalung_read_happening((const uint8_t *)words, strlen(words), happening);
 }
 
-mdl_error mdl_registered(mdl_disk *disk, uint32_t *mask)
+mdl_error mdl_initiators(mdl_disk *disk, uint32_t *count)
+{
+    return disk && count ? (mdl_error)mehdalung_initiators(disk, count) : MDL_NULL_POINTER;
+}
+
+mdl_error mdl_registered(mdl_disk *disk, uint64_t *mask)
 {
     return disk && mask ? (mdl_error)mehdalung_registered(disk, mask) : MDL_NULL_POINTER;
 }

@@ -15,7 +15,7 @@
  *     - You call no function of this header from a signal handler, or from the forked child of a
  *       process with threads.
  *
- * Stack. A call needs at most 64 KB of stack. Nothing checks that there is so much.
+ * Stack. A call needs at most 128 KB of stack. Nothing checks that there is so much.
  *
  * Pointers. A pointer is null, or it is aligned for its type and points to as many bytes as the
  * function says. Until the function returns, nobody writes these bytes, and nobody reads the bytes
@@ -43,9 +43,14 @@ extern "C" {
 #define MDL_VERSION_PATCH 0
 
 #define MDL_BLOCK_LENGTH 512u
-#define MDL_INITIATORS 8u
 #define MDL_SENSE_LENGTH 20u
 #define MDL_CDB_LENGTH 16u
+
+/* A disk of the base profile has MDL_INITIATORS initiators, 0 to 7. Any other disk has
+ * MDL_MOST_INITIATORS, 0 to 63. In a mask of initiators, initiator i has bit i. The mask UINT64_MAX
+ * names all initiators that the disk has. Any other mask may have only bits of these. */
+#define MDL_INITIATORS 8u
+#define MDL_MOST_INITIATORS 64u
 
 /* A buffer of this length is long enough for the data-in of every command: a READ returns at most
  * 2,048 blocks, or 256 of a base disk. */
@@ -73,7 +78,7 @@ typedef enum mdl_error {
     MDL_IDENTITY_TEXT = 5,      /* a text of the identity has a byte outside 20h to 7Eh */
     MDL_IDENTITY_LOCAL = 6,     /* the local identifier, or the seed, has more than 60 bits */
     MDL_OUT_OF_MEMORY = 7,      /* memory ran out */
-    MDL_NO_INITIATOR = 8,       /* the initiator is not 0 to 7, or a fault names no initiator */
+    MDL_NO_INITIATOR = 8,       /* the disk has no such initiator, or a fault names none */
     MDL_BUFFER_TOO_SHORT = 9,   /* the buffer is too short for the data-in that the command asks
                                    for, or shorter than MDL_DATA_OUT_LENGTH for a tool's data-out */
     MDL_NULL_POINTER = 10,      /* a pointer is null that must not be */
@@ -139,7 +144,7 @@ typedef struct mdl_identity {
 /* The commands that a disk has, and what it reports. docs/PROFILE.md of the source lists the commands. */
 typedef enum mdl_profile {
     MDL_PROFILE_BASE = 0,         /* the commands that every disk has */
-    MDL_PROFILE_EXTENDED = 1,     /* these and more, and a far larger pool */
+    MDL_PROFILE_EXTENDED = 1,     /* these and more, with more initiators and a far larger pool */
     MDL_PROFILE_EXTENDED_CUT = 2, /* the same as extended; but a WRITE, a WRITE AND VERIFY, an ORWRITE
                                      or a VERIFY with too little data-out is executed, and not
                                      refused. It goes over its first blocks, as many as data-out has
@@ -308,7 +313,7 @@ mdl_error mdl_close(mdl_disk *disk);
  * file is not flushed, as if the program had stopped, but its file is closed. */
 void mdl_free(mdl_disk *disk);
 
-/* Executes a command for an initiator, 0 to 7.
+/* Executes a command for an initiator of the disk.
  *     cdb       cdb_length bytes, which the call reads. You may send any bytes.
  *     data_out  data_out_length bytes, which the call reads.
  *     data_in   data_in_length bytes. The call writes data-in to the first reply->data_in_length of
@@ -317,7 +322,7 @@ void mdl_free(mdl_disk *disk);
  *     reply     The call writes it.
  * Each of the first three may be null if its length is 0.
  *
- * Errors: MDL_NULL_POINTER, MDL_NO_INITIATOR, MDL_NO_DISK or MDL_BUFFER_TOO_SHORT. The first that
+ * Errors: MDL_NULL_POINTER, MDL_NO_DISK, MDL_NO_INITIATOR or MDL_BUFFER_TOO_SHORT. The first that
  * applies is returned. The disk then executes nothing, and disk, buffer and reply stay as they
  * were.
  *
@@ -333,7 +338,7 @@ void mdl_free(mdl_disk *disk);
  *           READ CAPACITY(16)          32
  *           INQUIRY                    76
  *           MODE SENSE                 80
- *           PERSISTENT RESERVE IN     296
+ *           PERSISTENT RESERVE IN   3,080
  *           GET LBA STATUS          8,200
  *           LOG SENSE               1,284
  *           READ DEFECT DATA        1,284
@@ -399,8 +404,7 @@ typedef enum mdl_fault_outcome {
 /* A fault, for MDL_ARM: the commands that it meets, and what it does to them. If all fields after
  * `initiators` are 0, each command of these initiators ends with MDL_BUSY. */
 typedef struct mdl_fault {
-    uint64_t initiators;      /* a mask of the initiators whose commands it meets, not 0. Initiator
-                                 i has bit i. */
+    uint64_t initiators;      /* a mask of the initiators whose commands it meets, not 0 */
     uint64_t lba;             /* the address of the first block that it lies on */
     uint32_t count;           /* the number of these blocks. It meets only commands that read
                                  or write one of them. With 0 it lies on none, and meets commands
@@ -442,8 +446,8 @@ typedef enum mdl_happening_kind {
  * any kind except MDL_ARM may end before `fault`, as it did before there were faults. */
 typedef struct mdl_happening {
     uint32_t kind;       /* one of mdl_happening_kind */
-    uint32_t initiator;  /* MDL_NEXUS_LOSS: the initiator, 0 to 7 */
-    uint64_t initiators; /* MDL_ATTENTION: a mask of initiators. Initiator i has bit i. */
+    uint32_t initiator;  /* MDL_NEXUS_LOSS: an initiator of the disk */
+    uint64_t initiators; /* MDL_ATTENTION: a mask of initiators */
     uint64_t blocks;     /* MDL_GROW: the number of blocks afterwards, 1 to 2^40 */
     uint8_t asc;         /* MDL_ATTENTION: the additional sense code of the condition */
     uint8_t ascq;        /* MDL_ATTENTION: its additional sense code qualifier */
@@ -484,14 +488,16 @@ typedef struct mdl_happening {
  * 29h/03h, 29h/07h, from the highest to the lowest.
  *
  * Errors: the first of these that applies is returned. The disk stays as it was, except with the last.
+ * Without a disk the record may name any initiator below MDL_MOST_INITIATORS.
  *     MDL_NULL_POINTER        a pointer is null
  *     MDL_UNKNOWN_HAPPENING   no kind has the number
  *     MDL_UNKNOWN_CONDITION   no condition has the code, for MDL_ATTENTION
  *     MDL_UNKNOWN_FAULT       no outcome has the number, for MDL_ARM
  *     MDL_SENSE_KEY           the outcome reports a sense key, and no key has the number, for
  *                             MDL_ARM
- *     MDL_NO_INITIATOR        the initiator is not 0 to 7, for MDL_NEXUS_LOSS, or the mask has a
- *                             bit above 7, for MDL_ATTENTION and MDL_ARM, or is 0, for MDL_ARM
+ *     MDL_NO_INITIATOR        the disk does not have the initiator, for MDL_NEXUS_LOSS, or an
+ *                             initiator of the mask, for MDL_ATTENTION and MDL_ARM; or the mask is
+ *                             0, for MDL_ARM
  *     MDL_FAULT_FLAG          `has_code` or `healed_by_writes` is not 0 or 1, or `count` is 0 and
  *                             `healed_by_writes` is 1, for MDL_ARM
  *     MDL_FAULT_NUMBER        the number of the fault is not 0 to 7, for MDL_DISARM
@@ -504,9 +510,10 @@ mdl_error mdl_happen(mdl_disk *disk, const mdl_happening *happening);
 /* Reads a happening from words, such as "nexus 0" or "fault medium 3/11/00 blocks 10 2 healed". The
  * first word is the verb: power, reset, nexus, grow, attention, fault or heal. The other words are
  * its operands, which docs/SCRIPT.md of the source lists. A line of a script has the same words, on
- * an extended disk. mdl_happen takes the record, for a disk of any profile. With this record it
- * returns no error except MDL_NO_DISK, MDL_FAULTS, MDL_FILE_FAILED and, for a null disk,
- * MDL_NULL_POINTER.
+ * an extended disk. If an attention or a fault is for all initiators, the mask is UINT64_MAX.
+ * mdl_happen takes the record, for a disk of any profile. With this record it returns
+ * MDL_NO_INITIATOR if the words name an initiator that the disk does not have. It returns no other
+ * error except MDL_NO_DISK, MDL_FAULTS, MDL_FILE_FAILED and, for a null disk, MDL_NULL_POINTER.
  *     words      The call reads them, up to a zero. Blanks or tabs are between them.
  *     happening  The call writes it, with its fault.
  * Errors: MDL_NULL_POINTER, MDL_BAD_BYTE, MDL_TOO_MANY_WORDS, MDL_UNKNOWN_VERB or MDL_USAGE. The
@@ -518,8 +525,9 @@ mdl_error mdl_read_happening(const char *words, mdl_happening *happening);
 #define MDL_NO_TEXT ((size_t)-1)
 
 /* Writes into `text` which faults are armed, each in a line with its number and the words that arm it.
- * Lines below it say how many commands of which initiators still meet it. Without a fault the text is
- * empty. The verb `faults` of a script prints the same text, which docs/SCRIPT.md of the source shows.
+ * A line below it for each initiator whose counts have changed says what is left of them. Without a
+ * fault the text is empty. The verb `faults` of a script prints the same text, which docs/SCRIPT.md of
+ * the source shows.
  * The text is cut to `text_length` bytes, and its last byte there is a zero. Returns the whole length
  * without the zero, as snprintf does.
  *     text  text_length bytes. It may be null if its length is 0.
@@ -528,16 +536,22 @@ mdl_error mdl_read_happening(const char *words, mdl_happening *happening);
  * out. Then `text` stays as it was. */
 size_t mdl_faults(mdl_disk *disk, char *text, size_t text_length);
 
+/* Says how many initiators the disk has: MDL_INITIATORS or MDL_MOST_INITIATORS. They have the numbers
+ * from 0 on, and a transport gives its ports only these. No call changes how many there are.
+ *     count  The call writes it.
+ * Errors: MDL_NULL_POINTER or MDL_NO_DISK. Then `count` stays as it was. */
+mdl_error mdl_initiators(mdl_disk *disk, uint32_t *count);
+
 /* Says which initiators are registered by PERSISTENT RESERVE OUT. Bit i of `mask` is set if
  * initiator i is registered. No other bit is set. A transport keeps the number of such an
  * initiator's port for it. The disk executes nothing, and reports or clears no unit attention.
  *     mask  The call writes it.
  * Errors: MDL_NULL_POINTER or MDL_NO_DISK. Then `mask` stays as it was. */
-mdl_error mdl_registered(mdl_disk *disk, uint32_t *mask);
+mdl_error mdl_registered(mdl_disk *disk, uint64_t *mask);
 
-/* Clears the unit attentions of an initiator, 0 to 7, whose port is gone. So the next port with its
+/* Clears the unit attentions of an initiator of the disk, whose port is gone. So the next port with its
  * number begins without them. Everything else stays as it was, registrations and reservation too.
- * Errors: MDL_NULL_POINTER, MDL_NO_INITIATOR, MDL_NO_DISK or MDL_FILE_FAILED. The first that applies is
+ * Errors: MDL_NULL_POINTER, MDL_NO_DISK, MDL_NO_INITIATOR or MDL_FILE_FAILED. The first that applies is
  * returned. */
 mdl_error mdl_forget(mdl_disk *disk, uint32_t initiator);
 

@@ -10,9 +10,9 @@ int is_preempt_and_abort(const uint8_t *cdb, size_t length)
            (cdb[1] & SERVICE_ACTION_BITS) == PREEMPT_AND_ABORT;
 }
 
-uint32_t registered_mask(mdl_disk *disk)
+uint64_t registered_mask(mdl_disk *disk)
 {
-    uint32_t mask = 0;
+    uint64_t mask = 0;
 
     mdl_registered(disk, &mask);
     return mask;

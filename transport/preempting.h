@@ -9,6 +9,6 @@
 int is_preempt_and_abort(const uint8_t *cdb, size_t length);
 
 /* Returns a mask of the registered initiators. */
-uint32_t registered_mask(mdl_disk *disk);
+uint64_t registered_mask(mdl_disk *disk);
 
 #endif

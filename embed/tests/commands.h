@@ -171,8 +171,8 @@ static void read_capacity_or_power_cycle(struct command *c, uint64_t *seed)
     cdb_of(c, 0x25, 10);
 }
 
-/* A command, or now and then a power cycle. */
-static void next_command(struct command *c, uint64_t *seed)
+/* A command of an initiator, or now and then a power cycle. */
+static void command_of(uint32_t initiator, struct command *c, uint64_t *seed)
 {
     static void (*const kinds[])(struct command *, uint64_t *) = {
         write_10, write_10, write_10, read_10, read_10, unmap, read_capacity_16_or_lba_status,
@@ -181,11 +181,26 @@ static void next_command(struct command *c, uint64_t *seed)
         read_capacity_or_power_cycle,
     };
 
-    c->initiator = below(seed, MDL_INITIATORS);
+    c->initiator = initiator;
     c->is_happening = 0;
     memset(&c->happening, 0, sizeof c->happening); /* a power cycle */
     c->data_out_length = 0;
     kinds[below(seed, sizeof kinds / sizeof *kinds)](c, seed);
+}
+
+/* The same, of one of the initiators that every disk has. */
+static inline void next_command(struct command *c, uint64_t *seed)
+{
+    command_of(below(seed, MDL_INITIATORS), c, seed);
+}
+
+/* The same, for an extended disk. Each fourth command is of any of its initiators. PERSISTENT RESERVE IN has
+ * longer lists. */
+static void next_extended_command(struct command *c, uint64_t *seed)
+{
+    command_of(below(seed, below(seed, 4) ? MDL_INITIATORS : MDL_MOST_INITIATORS), c, seed);
+    if (c->cdb[0] == 0x5E)
+        c->cdb[7] = (uint8_t)below(seed, 16);
 }
 
 /* Whatever can happen to a disk. A condition is for one initiator or for each. */
@@ -201,16 +216,19 @@ static void random_happening(struct command *c, uint64_t *seed)
     c->is_happening = 1;
     c->happening.kind = below(seed, MDL_GROW + 1);
     c->happening.initiator = c->initiator;
-    c->happening.initiators = below(seed, 2) ? 0xFF : 1u << c->initiator;
+    c->happening.initiators = below(seed, 2) ? UINT64_MAX : (uint64_t)1 << c->initiator;
     c->happening.blocks = 4064 + below(seed, 48);
     c->happening.asc = code[0];
     c->happening.ascq = code[1];
 }
 
-/* A command, or now and then whatever can happen between two commands. */
-static inline void next_event(struct command *c, uint64_t *seed)
+/* A command for a disk of a profile, or now and then whatever can happen between two commands. */
+static inline void next_event(mdl_profile profile, struct command *c, uint64_t *seed)
 {
-    next_command(c, seed);
+    if (profile == MDL_PROFILE_BASE)
+        next_command(c, seed);
+    else
+        next_extended_command(c, seed);
     if (below(seed, 16) == 0)
         random_happening(c, seed);
 }

@@ -78,7 +78,7 @@ static void follow(mdl_profile profile, uint64_t seed)
 
         WANT(mdl_make_with_profile(&disk, profile, BLOCKS, POOL, NULL) == MDL_OK);
         for (at = 0; at < count; at++) {
-            next_event(&c, &of_step);
+            next_event(profile, &c, &of_step);
             step(&disk, &c, &error);
         }
         mdl_power_cycle(&disk);
@@ -166,7 +166,7 @@ static int fail_at(mdl_profile profile, uint64_t seed, unsigned long call)
         return 1;
     }
     for (at = 1; at <= STEPS && it.calls < call; at++) {
-        next_event(&c, &of_step);
+        next_event(profile, &c, &of_step);
         if (step(&disk, &c, &error) && it.calls < call)
             flushed = at;
         WANT(it.calls < call ? error == MDL_OK : has_failed(&c, error));
@@ -292,7 +292,7 @@ static void make_file(struct memory *it, uint64_t seed, int steps)
     begin_memory_file(it, NULL, room, sizeof room);
     WANT(open_memory(&disk, it, MDL_PROFILE_BASE) == MDL_OK);
     while (steps--) {
-        next_event(&c, &seed);
+        next_event(MDL_PROFILE_BASE, &c, &seed);
         step(&disk, &c, &error);
         WANT(mdl_flush(&disk) == MDL_OK);
     }

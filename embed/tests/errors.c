@@ -281,6 +281,7 @@ static void refuse_commands(void)
     WANT(is_refused_command(&disk, 8, room, MDL_NO_INITIATOR));
     WANT(is_refused_command(&disk, 256, room, MDL_NO_INITIATOR));
     WANT(is_refused_command(&no_disk, 0, room, MDL_NO_DISK));
+    WANT(is_refused_command(&no_disk, 8, room, MDL_NO_DISK));
     WANT(mdl_execute(&no_disk, 0, inquiry, 6, NULL, 0, data_in, 35, &reply) == MDL_NO_DISK);
     WANT(mdl_execute(&disk, 8, inquiry, 6, NULL, 0, data_in, 35, &reply) == MDL_NO_INITIATOR);
     WANT(mdl_execute(&disk, 0, inquiry, 6, NULL, 0, data_in, 35, &reply) == MDL_BUFFER_TOO_SHORT);
@@ -431,7 +432,7 @@ static void take_no_memory_at_random(void)
     WANT(mdl_make(&other, 4096, 16, NULL) == MDL_OK);
     taken = requests;
     for (number = 0; number < 10000; number++) {
-        next_event(&c, &seed);
+        next_event(MDL_PROFILE_BASE, &c, &seed);
         if (c.is_happening) {
             WANT(mdl_happen(&other, &c.happening) == MDL_OK && requests == taken);
             happened++;

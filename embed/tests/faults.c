@@ -15,9 +15,12 @@ static int failures;
         } \
     } while (0)
 
-enum { BLOCKS = 64, POOL = 16, ALL = 0xFF, READ = 0x28, WRITE = 0x2A };
+enum { BLOCKS = 64, POOL = 16, READ = 0x28, WRITE = 0x2A };
+#define ALL UINT64_MAX
+#define BIT_63 ((uint64_t)1 << 63)
 
 static mdl_disk disk = MDL_NONE, no_disk = MDL_NONE;
+static uint32_t last; /* the last initiator of the disk */
 static uint8_t data_in[MDL_BUFFER_LENGTH];
 static mdl_reply reply;
 
@@ -111,7 +114,8 @@ static void make_quiet(uint32_t profile)
 
     mdl_free(&disk);
     WANT(mdl_make_with_profile(&disk, profile, BLOCKS, POOL, NULL) == MDL_OK);
-    for (initiator = 0; initiator < MDL_INITIATORS; initiator++)
+    last = profile == MDL_PROFILE_BASE ? 7 : 63;
+    for (initiator = 0; initiator <= last; initiator++)
         WANT(test_ready(initiator) == MDL_CHECK_CONDITION && test_ready(initiator) == MDL_GOOD);
 }
 
@@ -123,7 +127,7 @@ static void stop_on_arrival(void)
     WANT(arm_outcome(MDL_ARRIVAL_BUSY, 2) == MDL_OK);
     WANT(test_ready(0) == MDL_BUSY && reply.sense_length == 0 && reply.data_in_length == 0);
     WANT(test_ready(0) == MDL_BUSY && test_ready(0) == MDL_GOOD);
-    WANT(test_ready(7) == MDL_BUSY && test_ready(7) == MDL_BUSY && test_ready(7) == MDL_GOOD);
+    WANT(test_ready(last) == MDL_BUSY && test_ready(last) == MDL_BUSY && test_ready(last) == MDL_GOOD);
     WANT(happens(MDL_DISARM_ALL) == MDL_OK && test_ready(1) == MDL_GOOD);
 
     WANT(arm_outcome(MDL_ARRIVAL_TASK_SET_FULL, 1) == MDL_OK);
@@ -225,6 +229,108 @@ static void list_them(void)
     WANT(happens(MDL_DISARM_ALL) == MDL_OK && mdl_faults(&disk, text, sizeof text) == 0);
 }
 
+static int lists(const char *whole)
+{
+    char text[256] = "";
+
+    return mdl_faults(&disk, text, sizeof text) == strlen(whole) && strcmp(text, whole) == 0;
+}
+
+/* A fault may name only initiators that the disk has. A base disk refuses each of these faults, and any other
+ * disk arms it. */
+static void name_some(void)
+{
+    static const uint64_t masks[] = {
+        0x100, 0x101, 0x1FF, 0x100000001, BIT_63, BIT_63 | 0xFF, ALL - 1, ALL - 0xFF, ALL >> 1
+    };
+    mdl_fault busy = { .outcome = MDL_ARRIVAL_BUSY, .times = 1 };
+    uint32_t initiator;
+    size_t at;
+
+    for (at = 0; at < sizeof masks / sizeof *masks; at++) {
+        busy.initiators = masks[at];
+        WANT(arm(busy) == (last < 63 ? MDL_NO_INITIATOR : MDL_OK) && lists("") == (last < 63));
+        for (initiator = 0; initiator <= last; initiator++) {
+            const int is_met = last == 63 && masks[at] >> initiator & 1;
+
+            WANT(test_ready(initiator) == (is_met ? MDL_BUSY : MDL_GOOD));
+        }
+        WANT(lists(""));
+    }
+}
+
+/* A fault for the last initiator, and for no other. */
+static void meet_the_last(void)
+{
+    const mdl_fault busy = { .initiators = (uint64_t)1 << last, .outcome = MDL_ARRIVAL_BUSY, .times = 1 };
+    uint32_t initiator;
+
+    WANT(arm(busy) == MDL_OK);
+    for (initiator = 0; initiator < last; initiator++)
+        WANT(test_ready(initiator) == MDL_GOOD);
+    WANT(lists(last < 63 ? "  0: arrival busy times 1 to 7\n" : "  0: arrival busy times 1 to 63\n"));
+    WANT(test_ready(last) == MDL_BUSY && lists("") && test_ready(last) == MDL_GOOD);
+}
+
+#define TO_EIGHT " to 0 to 1 to 2 to 3 to 4 to 5 to 6 to 7"
+
+/* UINT64_MAX names each initiator of the disk. The fault is gone when it has stopped a command of each. */
+static void meet_all(void)
+{
+    mdl_fault busy = { .initiators = 0xFF, .outcome = MDL_ARRIVAL_BUSY, .times = 1 };
+    uint32_t initiator;
+
+    WANT(arm_outcome(MDL_ARRIVAL_BUSY, 1) == MDL_OK);
+    WANT(lists(last < 63 ? "  0: arrival busy times 1" TO_EIGHT "\n" : "  0: arrival busy times 1\n"));
+    WANT(test_ready(0) == MDL_BUSY && test_ready(0) == MDL_GOOD);
+    WANT(lists(last < 63 ? "  0: arrival busy times 1" TO_EIGHT "\n    to 0: times 0\n"
+                         : "  0: arrival busy times 1\n    to 0: times 0\n"));
+    for (initiator = 1; initiator <= last; initiator++)
+        WANT(!lists("") && test_ready(initiator) == MDL_BUSY);
+    WANT(lists("") && test_ready(last) == MDL_GOOD);
+
+    WANT(arm(busy) == MDL_OK && lists("  0: arrival busy times 1" TO_EIGHT "\n"));
+    for (initiator = 0; initiator < 8; initiator++)
+        WANT(!lists("") && test_ready(initiator) == MDL_BUSY);
+    WANT(lists("") && test_ready(last) == MDL_GOOD);
+
+    busy.times = 0;
+    busy.initiators = ALL;
+    WANT(arm(busy) == MDL_OK);
+    for (initiator = 0; initiator <= last; initiator++)
+        WANT(test_ready(initiator) == MDL_BUSY && test_ready(initiator) == MDL_BUSY);
+    WANT(lists(last < 63 ? "  0: arrival busy" TO_EIGHT "\n" : "  0: arrival busy\n"));
+    WANT(happens(MDL_DISARM_ALL) == MDL_OK && test_ready(last) == MDL_GOOD);
+}
+
+/* What is left of a fault for an initiator: `skip` while it is not 0, and `times`, even if it is 0. A fault
+ * without `times` has `skip` even if it is 0. */
+static void count_down(void)
+{
+    const mdl_fault both = { .initiators = 3, .outcome = MDL_ARRIVAL_BUSY, .skip = 2, .times = 2 };
+    const mdl_fault only_skip = { .initiators = 3, .outcome = MDL_ARRIVAL_BUSY, .skip = 2 };
+
+    WANT(arm(both) == MDL_OK && lists("  0: arrival busy skip 2 times 2 to 0 to 1\n"));
+    WANT(test_ready(1) == MDL_GOOD);
+    WANT(lists("  0: arrival busy skip 2 times 2 to 0 to 1\n    to 1: skip 1 times 2\n"));
+    WANT(test_ready(1) == MDL_GOOD);
+    WANT(lists("  0: arrival busy skip 2 times 2 to 0 to 1\n    to 1: times 2\n"));
+    WANT(test_ready(1) == MDL_BUSY && test_ready(0) == MDL_GOOD);
+    WANT(lists("  0: arrival busy skip 2 times 2 to 0 to 1\n    to 0: skip 1 times 2\n"
+               "    to 1: times 1\n"));
+    WANT(test_ready(1) == MDL_BUSY && test_ready(1) == MDL_GOOD);
+    WANT(lists("  0: arrival busy skip 2 times 2 to 0 to 1\n    to 0: skip 1 times 2\n"
+               "    to 1: times 0\n"));
+    WANT(test_ready(0) == MDL_GOOD && test_ready(0) == MDL_BUSY && test_ready(0) == MDL_BUSY && lists(""));
+
+    WANT(arm(only_skip) == MDL_OK && lists("  0: arrival busy skip 2 to 0 to 1\n"));
+    WANT(test_ready(1) == MDL_GOOD && lists("  0: arrival busy skip 2 to 0 to 1\n    to 1: skip 1\n"));
+    WANT(test_ready(1) == MDL_GOOD && lists("  0: arrival busy skip 2 to 0 to 1\n    to 1: skip 0\n"));
+    WANT(test_ready(1) == MDL_BUSY && test_ready(0) == MDL_GOOD && test_ready(0) == MDL_GOOD);
+    WANT(lists("  0: arrival busy skip 2 to 0 to 1\n    to 0: skip 0\n    to 1: skip 0\n"));
+    WANT(happens(MDL_DISARM_ALL) == MDL_OK && test_ready(0) == MDL_GOOD);
+}
+
 /* Only the commands of some initiators with a code, after others. Faults outlive a power cycle. */
 static void meet_some(void)
 {
@@ -248,6 +354,7 @@ static void meet_some(void)
 static void fill_the_numbers(void)
 {
     mdl_fault fault = { .initiators = 1, .outcome = MDL_ARRIVAL_CHECK_CONDITION };
+    const mdl_fault of_another = { .initiators = 0x100 };
     uint8_t number;
 
     for (number = 0; number < MDL_MOST_FAULTS; number++) {
@@ -256,6 +363,7 @@ static void fill_the_numbers(void)
     }
     WANT(arm(fault) == MDL_FAULTS && arm_outcome(MDL_ARRIVAL_BUSY, 0) == MDL_FAULTS);
     WANT(arm_outcome(11, 0) == MDL_UNKNOWN_FAULT && disarm(8) == MDL_FAULT_NUMBER);
+    WANT(arm(of_another) == (last < 63 ? MDL_NO_INITIATOR : MDL_FAULTS));
     for (number = 0; number < MDL_MOST_FAULTS; number++) {
         WANT(test_ready(0) == MDL_CHECK_CONDITION && senses(0x70, 0, number, 0));
         WANT(test_ready(1) == MDL_GOOD && disarm(number) == MDL_OK && disarm(number) == MDL_OK);
@@ -286,9 +394,12 @@ static const struct {
     { { .initiators = 1, .outcome = MDL_MEDIUM_CHECK_CONDITION, .key = 0x0c }, MDL_SENSE_KEY },
     { { .initiators = 1, .outcome = MDL_AFTER_CHECK_CONDITION, .key = 255 }, MDL_SENSE_KEY },
     { { .key = 16, .has_code = 2 }, MDL_NO_INITIATOR },
-    { { .initiators = 0x100, .healed_by_writes = 2 }, MDL_NO_INITIATOR },
-    { { .initiators = 0x100000001, .count = 1 }, MDL_NO_INITIATOR },
-    { { .initiators = UINT64_MAX }, MDL_NO_INITIATOR },
+    { { .count = 1, .healed_by_writes = 2 }, MDL_NO_INITIATOR },
+    { { .times = 1 }, MDL_NO_INITIATOR },
+    { { .initiators = BIT_63, .outcome = 11 }, MDL_UNKNOWN_FAULT },
+    { { .initiators = 0x100, .outcome = MDL_ARRIVAL_CHECK_CONDITION, .key = 16 }, MDL_SENSE_KEY },
+    { { .initiators = ALL, .has_code = 2 }, MDL_FAULT_FLAG },
+    { { .initiators = ALL, .healed_by_writes = 1 }, MDL_FAULT_FLAG },
     { { .initiators = 1, .has_code = 2 }, MDL_FAULT_FLAG },
     { { .initiators = 1, .has_code = 255, .code = 0x12 }, MDL_FAULT_FLAG },
     { { .initiators = 1, .count = 1, .healed_by_writes = 2 }, MDL_FAULT_FLAG },
@@ -296,7 +407,21 @@ static const struct {
     { { .initiators = 1, .lba = 1, .healed_by_writes = 1 }, MDL_FAULT_FLAG },
 };
 
-/* What the record asks for is looked at before the disk, and its free numbers last. */
+/* A base disk does not have an initiator of each of these. Any other disk returns the error. */
+static const struct {
+    mdl_fault fault;
+    mdl_error error;
+} above_7[] = {
+    { { .initiators = 0x100, .healed_by_writes = 2 }, MDL_FAULT_FLAG },
+    { { .initiators = 0x100000001, .count = 1 }, MDL_OK },
+    { { .initiators = BIT_63 | 0x100, .has_code = 2 }, MDL_FAULT_FLAG },
+    { { .initiators = BIT_63 | 1, .healed_by_writes = 1 }, MDL_FAULT_FLAG },
+    { { .initiators = ALL - 1, .has_code = 1 }, MDL_OK },
+    { { .initiators = ALL >> 1 }, MDL_OK },
+};
+
+/* What the record asks for is looked at before the disk, and its free numbers last. Without a disk the fault
+ * may name each of 64 initiators. */
 static void refuse(void)
 {
     mdl_happening it = { .kind = MDL_ARM };
@@ -308,6 +433,12 @@ static void refuse(void)
         WANT(mdl_happen(&disk, &it) == refused[at].error);
         WANT(mdl_happen(&no_disk, &it) == refused[at].error);
     }
+    for (at = 0; at < sizeof above_7 / sizeof *above_7; at++) {
+        it.fault = above_7[at].fault;
+        WANT(mdl_happen(&disk, &it) == (last < 63 ? MDL_NO_INITIATOR : above_7[at].error));
+        WANT(mdl_happen(&no_disk, &it) == (above_7[at].error ? above_7[at].error : MDL_NO_DISK));
+    }
+    WANT(happens(MDL_DISARM_ALL) == MDL_OK);
     it.number = 8;
     for (it.kind = MDL_ARM; it.kind <= MDL_DISARM_ALL; it.kind++) {
         const mdl_fault busy = { .initiators = ALL, .key = 16, .lba = UINT64_MAX };
@@ -334,6 +465,10 @@ int main(void)
         stop_afterwards();
         stop_short();
         list_them();
+        name_some();
+        meet_the_last();
+        meet_all();
+        count_down();
         fill_the_numbers();
         refuse();
         meet_some();

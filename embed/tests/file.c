@@ -61,12 +61,19 @@ static int status_of(uint32_t initiator, const uint8_t *cdb, size_t length, cons
     return reply.status;
 }
 
+/* The number of the last initiator. */
+static uint32_t last_of(mdl_profile profile)
+{
+    return profile == MDL_PROFILE_BASE ? 7 : 63;
+}
+
 static void clear_attentions(void)
 {
     static const uint8_t ready[6];
-    uint32_t at;
+    uint32_t at, count = 0;
 
-    for (at = 0; at < MDL_INITIATORS; at++)
+    WANT(mdl_initiators(&disk, &count) == MDL_OK && count >= MDL_INITIATORS);
+    for (at = 0; at < count; at++)
         WANT(status_of(at, ready, sizeof ready, NULL, 0) == MDL_CHECK_CONDITION);
 }
 
@@ -112,15 +119,33 @@ static void save_descriptor_sense(void)
     WANT(status_of(0, cdb, sizeof cdb, list, sizeof list) == MDL_GOOD);
 }
 
-/* REGISTER with APTPL 1, and RESERVE of type 5. */
-static void reserve(void)
+/* REGISTER of initiator 0 and of another one with APTPL 1, and RESERVE of type 5. */
+static void reserve(uint32_t other)
 {
     static const uint8_t registers[10] = { 0x5F, 0x06, [8] = 24 };
     static const uint8_t reserves[10] = { 0x5F, 0x01, 0x05, [8] = 24 };
     static const uint8_t new_key[24] = { [15] = 0xA1, [20] = 1 }, key[24] = { [7] = 0xA1 };
 
     WANT(status_of(0, registers, sizeof registers, new_key, sizeof new_key) == MDL_GOOD);
+    WANT(mdl_forget(&disk, other) == MDL_OK);
+    WANT(status_of(other, registers, sizeof registers, new_key, sizeof new_key) == MDL_GOOD);
     WANT(status_of(0, reserves, sizeof reserves, key, sizeof key) == MDL_GOOD);
+}
+
+static mdl_error happen(const char *words)
+{
+    mdl_happening happening;
+    mdl_error error = mdl_read_happening(words, &happening);
+
+    return error ? error : mdl_happen(&disk, &happening);
+}
+
+/* The disk has these armed faults. */
+static int has_faults(const char *whole)
+{
+    char text[256] = "";
+
+    return mdl_faults(&disk, text, sizeof text) == strlen(whole) && strcmp(text, whole) == 0;
 }
 
 /* What the file has now: a copy of it is opened. */
@@ -149,23 +174,32 @@ static int kept_byte(uint8_t lba)
     return data_in[0];
 }
 
-/* A disk that was closed is opened as a power cycle leaves it. */
+/* A disk that was closed is opened as a power cycle leaves it. The second fault has stopped a command of the
+ * last initiator. */
 static void keep(mdl_profile profile)
 {
-    mdl_happening happening;
-    uint64_t digest;
-    uint32_t mask = 0;
+    static const char of_eight[] =
+        "  0: medium 3/11/00 blocks 10 1 healed to 0 to 1 to 2 to 3 to 4 to 5 to 6 to 7\n"
+        "  1: arrival busy code 25h times 2 to 6 to 7\n    to 7: times 1\n";
+    static const char of_64[] = "  0: medium 3/11/00 blocks 10 1 healed\n"
+                                "  1: arrival busy code 25h times 2 to 62 to 63\n    to 63: times 1\n";
+    static const uint8_t capacity[10] = { 0x25 };
+    const uint32_t last = last_of(profile);
+    const char *left = last < 63 ? of_eight : of_64;
+    uint64_t digest, mask = 0;
+    uint32_t count = 0;
 
     new_disk(profile);
     write_block(5, 0x55, 0);
     save_descriptor_sense();
-    WANT(mdl_read_happening("fault medium 3/11/00 blocks 10 1 healed", &happening) == MDL_OK);
-    WANT(mdl_happen(&disk, &happening) == MDL_OK);
-    WANT(mdl_read_happening("grow 5000", &happening) == MDL_OK);
-    WANT(mdl_happen(&disk, &happening) == MDL_OK);
+    WANT(happen("fault medium 3/11/00 blocks 10 1 healed") == MDL_OK);
+    WANT(happen(last < 63 ? "fault arrival busy code 25h times 2 to 7 to 6"
+                          : "fault arrival busy code 25h times 2 to 63 to 62") == MDL_OK);
+    WANT(happen("grow 5000") == MDL_OK);
     clear_attentions();
-    reserve();
-    WANT(mdl_flush(&disk) == MDL_OK);
+    reserve(last);
+    WANT(status_of(last, capacity, sizeof capacity, NULL, 0) == MDL_BUSY);
+    WANT(has_faults(left) && mdl_flush(&disk) == MDL_OK);
     digest = kept_digest();
     write_block(6, 0x66, 0);
     WANT(kept_digest() == digest);
@@ -174,8 +208,9 @@ static void keep(mdl_profile profile)
     WANT(mdl_open(&disk, name, profile, 5000, POOL, NULL, NULL) == MDL_OK);
     clear_attentions();
     WANT(reply.sense[0] == 0x72);
-    WANT(mdl_registered(&disk, &mask) == MDL_OK && mask == 1);
-    WANT(mdl_power_cycle(&disk) == MDL_OK);
+    WANT(mdl_initiators(&disk, &count) == MDL_OK && count == last + 1);
+    WANT(mdl_registered(&disk, &mask) == MDL_OK && mask == (1 | (uint64_t)1 << last));
+    WANT(has_faults(left) && mdl_power_cycle(&disk) == MDL_OK && has_faults(left));
     digest = kept_digest();
     WANT(digest == digest_of(&disk));
     mdl_free(&disk);
@@ -294,8 +329,9 @@ static void refuse_paths(void)
 static void refuse_files(void)
 {
     static const char text[] = "This is a text, and it is longer than sixteen bytes.";
+    static const uint8_t versions[] = { 1, 2, 4 };
     mdl_damage damage = { 1, 1 };
-    size_t length;
+    size_t at, length;
 
     write_bytes(copied, (const uint8_t *)text, sizeof text);
     WANT(open_any(&disk, copied, NULL) == MDL_NOT_A_DISK);
@@ -303,10 +339,13 @@ static void refuse_files(void)
     write_block(1, 1, 0x08);
     WANT(mdl_close(&disk) == MDL_OK);
     length = read_bytes(name, bytes);
-    bytes[11] = 1;
-    write_bytes(copied, bytes, length);
-    WANT(open_any(&disk, copied, &damage) == MDL_OTHER_VERSION && damage.offset == 1);
-    bytes[11] = 2;
+    WANT(bytes[11] == 3);
+    for (at = 0; at < sizeof versions; at++) {
+        bytes[11] = versions[at];
+        write_bytes(copied, bytes, length);
+        WANT(open_any(&disk, copied, &damage) == MDL_OTHER_VERSION && damage.offset == versions[at]);
+    }
+    bytes[11] = 3;
     bytes[12] ^= 1; /* the length of a sector */
     write_bytes(copied, bytes, length);
     WANT(open_any(&disk, copied, &damage) == MDL_DAMAGED_FILE);

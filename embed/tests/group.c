@@ -189,7 +189,7 @@ static void random_list(mdl_profile profile, uint64_t seed)
     WANT(mdl_open_device(&in_file, &it.device, NULL, 0, profile, BLOCKS, 16, NULL, NULL) == MDL_OK);
     WANT(mdl_make_with_profile(&in_memory, profile, BLOCKS, 16, NULL) == MDL_OK);
     for (at = 0; at < STEPS; at++) {
-        next_event(&c, &seed);
+        next_event(profile, &c, &seed);
         if (c.is_happening)
             WANT(mdl_happen(&in_file, &c.happening) == mdl_happen(&in_memory, &c.happening));
         else
@@ -215,9 +215,10 @@ static void refuse(void)
     memset(&reply, 0xFF, sizeof reply);
     before = reply;
     WANT(mdl_execute_unflushed(&disk, 0, read_one, 10, NULL, 0, data_in, 512, &reply) == MDL_NO_DISK);
+    WANT(mdl_execute_unflushed(&disk, 8, read_one, 10, NULL, 0, data_in, 512, &reply) == MDL_NO_DISK);
+    WANT(mdl_make(&disk, 64, 4, NULL) == MDL_OK);
     WANT(mdl_execute_unflushed(&disk, 8, read_one, 10, NULL, 0, data_in, 512, &reply)
          == MDL_NO_INITIATOR);
-    WANT(mdl_make(&disk, 64, 4, NULL) == MDL_OK);
     WANT(mdl_execute_unflushed(NULL, 0, read_one, 10, NULL, 0, data_in, 512, &reply) == MDL_NULL_POINTER);
     WANT(mdl_execute_unflushed(&disk, 0, NULL, 10, NULL, 0, data_in, 512, &reply) == MDL_NULL_POINTER);
     WANT(mdl_execute_unflushed(&disk, 0, read_one, 10, NULL, 1, data_in, 512, &reply)

@@ -14,7 +14,7 @@ static int failures;
         } \
     } while (0)
 
-enum { BLOCKS = 64, POOL = 8, ALL = 0xFF };
+enum { BLOCKS = 64, POOL = 8 };
 
 /* The 16 conditions that the disk knows, by their codes in SPC-4's list of sense codes. */
 enum {
@@ -34,8 +34,19 @@ static const unsigned conditions[] = {
 enum { CONDITIONS = sizeof conditions / sizeof *conditions };
 
 static mdl_disk disk = MDL_NONE, no_disk = MDL_NONE;
+static uint32_t made; /* the profile of the disk */
+static uint32_t last; /* its last initiator: 7 or 63 */
+static uint64_t all;  /* the mask of its initiators */
+static uint64_t high; /* some of them above 7, if it has any */
 static uint8_t data_in[MDL_BUFFER_LENGTH];
 static mdl_reply reply;
+
+#define BIT_63 ((uint64_t)1 << 63)
+
+static uint64_t bit(uint32_t initiator)
+{
+    return (uint64_t)1 << initiator;
+}
 
 static int status_of(uint32_t initiator, const uint8_t *cdb, size_t length, const uint8_t *bytes,
                      size_t byte_count)
@@ -63,13 +74,13 @@ static int reports(uint32_t initiator, unsigned code)
 }
 
 /* Each initiator of a mask reports a condition. */
-static int report(uint32_t mask, unsigned code)
+static int report(uint64_t mask, unsigned code)
 {
     uint32_t initiator;
     int is_so = 1;
 
-    for (initiator = 0; initiator < MDL_INITIATORS; initiator++)
-        is_so &= !(mask >> initiator & 1) || reports(initiator, code);
+    for (initiator = 0; initiator <= last; initiator++)
+        is_so &= !(mask & bit(initiator)) || reports(initiator, code);
     return is_so;
 }
 
@@ -79,13 +90,13 @@ static int is_quiet(void)
     uint32_t initiator;
     int is_so = 1;
 
-    for (initiator = 0; initiator < MDL_INITIATORS; initiator++)
+    for (initiator = 0; initiator <= last; initiator++)
         is_so &= is_ready(initiator);
     return is_so;
 }
 
 /* The initiators of a mask report a condition, and no other condition was pending for any. */
-static int only_report(uint32_t mask, unsigned code)
+static int only_report(uint64_t mask, unsigned code)
 {
     return report(mask, code) && is_quiet();
 }
@@ -100,20 +111,21 @@ static int senses(uint32_t initiator, unsigned code)
         && (unsigned)(data_in[12] << 8 | data_in[13]) == code;
 }
 
-static uint32_t made; /* the profile of the disk */
-
 static void make_quiet(uint32_t profile)
 {
     mdl_free(&disk);
     made = profile;
+    last = profile == MDL_PROFILE_BASE ? 7 : 63;
+    all = profile == MDL_PROFILE_BASE ? 0xFF : UINT64_MAX;
+    high = (BIT_63 | bit(32) | bit(8)) & all;
     WANT(mdl_make_with_profile(&disk, profile, BLOCKS, POOL, NULL) == MDL_OK);
-    WANT(only_report(ALL, POWER_ON));
+    WANT(only_report(all, POWER_ON));
 }
 
-/* The fields that a kind does not need have numbers that no kind would accept. */
+/* The fields that a kind does not read have numbers that a base disk would refuse. */
 static mdl_error happens(uint32_t kind)
 {
-    const mdl_happening it = { .kind = kind, .initiator = 8, .initiators = (uint64_t)1 << 63 };
+    const mdl_happening it = { .kind = kind, .initiator = 64, .initiators = BIT_63 };
 
     return mdl_happen(&disk, &it);
 }
@@ -121,7 +133,7 @@ static mdl_error happens(uint32_t kind)
 static mdl_error loses_nexus(uint32_t initiator)
 {
     const mdl_happening it = { .kind = MDL_NEXUS_LOSS, .initiator = initiator,
-                               .initiators = (uint64_t)1 << 63 };
+                               .initiators = BIT_63 };
 
     return mdl_happen(&disk, &it);
 }
@@ -129,7 +141,7 @@ static mdl_error loses_nexus(uint32_t initiator)
 static mdl_error establishes(unsigned code, uint64_t initiators)
 {
     const uint8_t asc = (uint8_t)(code >> 8), ascq = (uint8_t)code;
-    const mdl_happening it = { .kind = MDL_ATTENTION, .initiator = 8, .initiators = initiators,
+    const mdl_happening it = { .kind = MDL_ATTENTION, .initiator = 64, .initiators = initiators,
                                .asc = asc, .ascq = ascq };
 
     return mdl_happen(&disk, &it);
@@ -137,7 +149,7 @@ static mdl_error establishes(unsigned code, uint64_t initiators)
 
 static mdl_error grows(uint64_t blocks)
 {
-    const mdl_happening it = { .kind = MDL_GROW, .initiator = 8, .initiators = (uint64_t)1 << 63,
+    const mdl_happening it = { .kind = MDL_GROW, .initiator = 64, .initiators = BIT_63,
                                .blocks = blocks };
 
     return mdl_happen(&disk, &it);
@@ -205,12 +217,18 @@ static int is_as_before(const struct seen *before)
     return memcmp(&now, before, sizeof now) == 0;
 }
 
-static uint32_t registered(void)
+static uint64_t registered(void)
 {
-    uint32_t mask = ~(uint32_t)0;
+    uint64_t mask = 0x123456789ABCDEF0;
 
     WANT(mdl_registered(&disk, &mask) == MDL_OK);
     return mask;
+}
+
+/* Initiators 0 and the last one are registered. */
+static int are_registered(void)
+{
+    return registered() == (1 | bit(last));
 }
 
 /* A disk with mapped and anchored blocks, two registrants, and a reservation of one of them. */
@@ -224,8 +242,8 @@ static void make_used(uint32_t profile, struct seen *seen)
     memset(bytes, 0xA5, sizeof bytes);
     WANT(status_of(0, write, sizeof write, bytes, sizeof bytes) == MDL_GOOD);
     WANT(status_of(0, anchor, sizeof anchor, extent, sizeof extent) == MDL_GOOD);
-    WANT(reserve_out(0, 0, 0, 0, 0x10) == MDL_GOOD && reserve_out(6, 0, 0, 0, 0x66) == MDL_GOOD);
-    WANT(reserve_out(6, 1, 5, 0x66, 0) == MDL_GOOD && registered() == 0x41 && is_quiet());
+    WANT(reserve_out(0, 0, 0, 0, 0x10) == MDL_GOOD && reserve_out(last, 0, 0, 0, 0x66) == MDL_GOOD);
+    WANT(reserve_out(last, 1, 5, 0x66, 0) == MDL_GOOD && are_registered() && is_quiet());
     look(seen);
     WANT(seen->blocks[3 * MDL_BLOCK_LENGTH] == 0xA5 && seen->keys[7] == 16);
     WANT(seen->reservation[7] == 16 && seen->capacity[3] == BLOCKS - 1);
@@ -237,22 +255,23 @@ static void reset(uint32_t profile, uint32_t kind, unsigned code)
     static struct seen before;
 
     make_used(profile, &before);
-    WANT(happens(kind) == MDL_OK && only_report(ALL, code));
-    WANT(is_as_before(&before) && registered() == 0x41);
-    WANT(happens(kind) == MDL_OK && happens(kind) == MDL_OK && senses(5, code) && senses(5, 0));
-    WANT(only_report(ALL & ~0x20, code));
+    WANT(happens(kind) == MDL_OK && only_report(all, code));
+    WANT(is_as_before(&before) && are_registered());
+    WANT(happens(kind) == MDL_OK && happens(kind) == MDL_OK);
+    WANT(senses(last - 2, code) && senses(last - 2, 0));
+    WANT(only_report(all & ~bit(last - 2), code));
 
     /* The saved mode pages become the current ones (SPC-4, 7.5). */
     WANT(select_swp(1, 0) == MDL_GOOD && is_write_protected());
-    WANT(only_report(ALL & ~1, MODE_PARAMETERS_CHANGED));
-    WANT(happens(kind) == MDL_OK && only_report(ALL, code) && !is_write_protected());
+    WANT(only_report(all - 1, MODE_PARAMETERS_CHANGED));
+    WANT(happens(kind) == MDL_OK && only_report(all, code) && !is_write_protected());
     WANT(select_swp(1, 1) == MDL_GOOD && is_write_protected());
-    WANT(only_report(ALL & ~1, MODE_PARAMETERS_CHANGED));
-    WANT(happens(kind) == MDL_OK && only_report(ALL, code) && is_write_protected());
+    WANT(only_report(all - 1, MODE_PARAMETERS_CHANGED));
+    WANT(happens(kind) == MDL_OK && only_report(all, code) && is_write_protected());
 
     /* What was pending comes after it. */
-    WANT(select_swp(0, 1) == MDL_GOOD && happens(kind) == MDL_OK && report(ALL, code));
-    WANT(only_report(ALL & ~1, MODE_PARAMETERS_CHANGED));
+    WANT(select_swp(0, 1) == MDL_GOOD && happens(kind) == MDL_OK && report(all, code));
+    WANT(only_report(all - 1, MODE_PARAMETERS_CHANGED));
 }
 
 /* As mdl_power_cycle. Registrations were made without APTPL, so they are gone. */
@@ -261,47 +280,70 @@ static void cycle_power(uint32_t profile)
     static struct seen before, after;
 
     make_used(profile, &before);
-    WANT(establishes(INQUIRY_DATA_CHANGED, ALL) == MDL_OK && happens(MDL_POWER_CYCLE) == MDL_OK);
-    WANT(only_report(ALL, POWER_ON) && registered() == 0);
+    WANT(establishes(INQUIRY_DATA_CHANGED, all) == MDL_OK && happens(MDL_POWER_CYCLE) == MDL_OK);
+    WANT(only_report(all, POWER_ON) && registered() == 0);
     look(&after);
     WANT(memcmp(after.blocks, before.blocks, sizeof after.blocks) == 0);
     WANT(memcmp(after.status, before.status, sizeof after.status) == 0);
     WANT(memcmp(after.capacity, before.capacity, sizeof after.capacity) == 0);
     WANT(after.keys[7] == 0 && after.reservation[7] == 0);
     WANT(select_swp(1, 0) == MDL_GOOD && is_write_protected());
-    WANT(happens(MDL_POWER_CYCLE) == MDL_OK && only_report(ALL, POWER_ON) && !is_write_protected());
+    WANT(happens(MDL_POWER_CYCLE) == MDL_OK && only_report(all, POWER_ON) && !is_write_protected());
 }
 
-/* Only the initiator that loses its nexus learns of it (SAM-5, 6.3.4). */
+/* Only the initiator that loses its nexus learns of it (SAM-5, 6.3.4). An initiator that the disk does not
+ * have loses none. */
 static void lose_nexus(uint32_t profile)
 {
     static struct seen before;
     uint32_t initiator;
 
     make_used(profile, &before);
-    for (initiator = 0; initiator < MDL_INITIATORS; initiator++) {
+    for (initiator = 0; initiator <= last; initiator++) {
         WANT(loses_nexus(initiator) == MDL_OK && loses_nexus(initiator) == MDL_OK);
-        WANT(only_report(1u << initiator, NEXUS_LOSS));
+        WANT(only_report(bit(initiator), NEXUS_LOSS));
     }
-    WANT(is_as_before(&before) && registered() == 0x41);
-    WANT(establishes(INQUIRY_DATA_CHANGED, ALL) == MDL_OK && loses_nexus(6) == MDL_OK);
-    WANT(senses(6, NEXUS_LOSS) && only_report(ALL, INQUIRY_DATA_CHANGED));
+    for (; initiator < 256; initiator++)
+        WANT(loses_nexus(initiator) == MDL_NO_INITIATOR);
+    WANT(is_quiet() && is_as_before(&before) && are_registered());
+    WANT(establishes(INQUIRY_DATA_CHANGED, all) == MDL_OK && loses_nexus(last) == MDL_OK);
+    WANT(senses(last, NEXUS_LOSS) && only_report(all, INQUIRY_DATA_CHANGED));
     WANT(select_swp(1, 0) == MDL_GOOD && loses_nexus(0) == MDL_OK && report(1, NEXUS_LOSS));
-    WANT(is_write_protected() && only_report(ALL & ~1, MODE_PARAMETERS_CHANGED));
+    WANT(is_write_protected() && only_report(all - 1, MODE_PARAMETERS_CHANGED));
 }
 
-/* Each condition for each set of initiators, and for no other initiator. */
+/* Each condition for the initiators of a mask, and for no other one. UINT64_MAX names all that the disk has.
+ * Any other mask is refused if it has a bit of an initiator that the disk does not have. */
+static void establish_for(uint64_t mask)
+{
+    const int is_own = mask == UINT64_MAX || !(mask & ~all);
+    size_t at;
+
+    for (at = 0; at < CONDITIONS; at++) {
+        WANT(establishes(conditions[at], mask) == (is_own ? MDL_OK : MDL_NO_INITIATOR));
+        WANT(is_own ? only_report(mask, conditions[at]) : is_quiet());
+    }
+}
+
+/* Each set of the first eight initiators, each single initiator, and each set of all but one. */
 static void establish_each(uint32_t profile)
 {
     static struct seen before;
-    uint32_t mask;
-    size_t at;
+    uint64_t mask;
+    uint32_t initiator;
 
     make_used(profile, &before);
-    for (at = 0; at < CONDITIONS; at++)
-        for (mask = 0; mask <= ALL; mask++)
-            WANT(establishes(conditions[at], mask) == MDL_OK && only_report(mask, conditions[at]));
-    WANT(is_as_before(&before) && registered() == 0x41);
+    for (mask = 0; mask <= 0xFF; mask++)
+        establish_for(mask);
+    for (initiator = 0; initiator < 64; initiator++) {
+        establish_for(bit(initiator));
+        establish_for(~bit(initiator));
+    }
+    establish_for(0x142);
+    establish_for(BIT_63 | 0x100);
+    establish_for(UINT64_MAX - 0xFF);
+    establish_for(UINT64_MAX);
+    WANT(is_as_before(&before) && are_registered());
 }
 
 /* Of two 29h conditions that of higher precedence is left, whichever comes first (SAM-5, 5.14). */
@@ -314,9 +356,9 @@ static void precede(void)
     for (first = 0; first < sizeof resets / sizeof *resets; first++)
         for (second = 0; second < sizeof resets / sizeof *resets; second++) {
             higher = first < second ? first : second;
-            WANT(establishes(resets[first], 0x18) == MDL_OK);
-            WANT(establishes(resets[second], 0x18) == MDL_OK);
-            WANT(only_report(0x18, resets[higher]));
+            WANT(establishes(resets[first], 0x18 | high) == MDL_OK);
+            WANT(establishes(resets[second], 0x18 | high) == MDL_OK);
+            WANT(only_report(0x18 | high, resets[higher]));
         }
 }
 
@@ -327,19 +369,20 @@ static void establish_all(void)
 
     for (times = 0; times < 2; times++)
         for (at = 0; at < CONDITIONS; at++)
-            WANT(establishes(conditions[at], 0x12) == MDL_OK);
-    WANT(report(0x12, POWER_ON));
+            WANT(establishes(conditions[at], 0x12 | high) == MDL_OK);
+    WANT(report(0x12 | high, POWER_ON));
     for (at = 0; at < CONDITIONS; at++)
-        WANT(conditions[at] >> 8 == 0x29 || report(0x12, conditions[at]));
+        WANT(conditions[at] >> 8 == 0x29 || report(0x12 | high, conditions[at]));
     WANT(is_quiet());
 }
 
-/* The disk knows 16 of all 65,536 codes. The code is looked at before the mask. */
+/* A base disk knows 16 of all 65,536 codes. The code is looked at before the mask. */
 static void name_conditions(void)
 {
     unsigned code;
     size_t at;
 
+    make_quiet(MDL_PROFILE_BASE);
     for (code = 0; code <= 0xFFFF; code++) {
         int is_known = 0;
 
@@ -406,8 +449,8 @@ static void grow(uint32_t profile)
     WANT(access_blocks(0x28, 63, 2) == MDL_CHECK_CONDITION && is_past(64));
     WANT(grows(BLOCKS) == MDL_OK && grows(BLOCKS - 1) == MDL_OK && grows(1) == MDL_OK);
     WANT(is_quiet() && is_as_before(&before) && last_block() == 63);
-    WANT(grows(128) == MDL_OK && only_report(ALL, CAPACITY_DATA_CHANGED));
-    WANT(last_block() == 127 && registered() == 0x41);
+    WANT(grows(128) == MDL_OK && only_report(all, CAPACITY_DATA_CHANGED));
+    WANT(last_block() == 127 && are_registered());
     WANT(access_blocks(0x28, 0, 64) == MDL_GOOD);
     WANT(memcmp(data_in, before.blocks, sizeof before.blocks) == 0);
     use_new_blocks();
@@ -415,9 +458,9 @@ static void grow(uint32_t profile)
 
     /* It grows twice before anyone learns of it, and keeps its size through other happenings. */
     WANT(grows(129) == MDL_OK && grows(most) == MDL_OK && grows(most) == MDL_OK);
-    WANT(only_report(ALL, CAPACITY_DATA_CHANGED) && last_block() == most - 1);
+    WANT(only_report(all, CAPACITY_DATA_CHANGED) && last_block() == most - 1);
     WANT(happens(MDL_TARGET_RESET) == MDL_OK && happens(MDL_POWER_CYCLE) == MDL_OK);
-    WANT(only_report(ALL, POWER_ON) && last_block() == most - 1);
+    WANT(only_report(all, POWER_ON) && last_block() == most - 1);
 }
 
 /* A record without a fault. */
@@ -430,27 +473,44 @@ static const struct {
 } refused[] = {
     { RECORD(9, 0, 0, 1, 0x29, 0), MDL_UNKNOWN_HAPPENING },
     { RECORD(256, 0, 0, 1, 0x29, 0), MDL_UNKNOWN_HAPPENING },
-    { RECORD(65536, 8, 256, 0, 0, 0), MDL_UNKNOWN_HAPPENING },
+    { RECORD(65536, 64, 256, 0, 0, 0), MDL_UNKNOWN_HAPPENING },
     { RECORD(UINT32_MAX, 0, 0, 1, 0x29, 0), MDL_UNKNOWN_HAPPENING },
-    { RECORD(MDL_NEXUS_LOSS, 8, 0, 1, 0x29, 0), MDL_NO_INITIATOR },
+    { RECORD(MDL_NEXUS_LOSS, 64, 0, 1, 0x29, 0), MDL_NO_INITIATOR },
     { RECORD(MDL_NEXUS_LOSS, 256, 0, 1, 0x29, 0), MDL_NO_INITIATOR },
+    { RECORD(MDL_NEXUS_LOSS, 256 + 63, 0, 1, 0x29, 0), MDL_NO_INITIATOR },
     { RECORD(MDL_NEXUS_LOSS, UINT32_MAX, 0, 1, 0x29, 0), MDL_NO_INITIATOR },
-    { RECORD(MDL_ATTENTION, 0, ALL, 1, 0x29, 1), MDL_UNKNOWN_CONDITION },
+    { RECORD(MDL_ATTENTION, 0, 0xFF, 1, 0x29, 1), MDL_UNKNOWN_CONDITION },
     { RECORD(MDL_ATTENTION, 0, UINT64_MAX, 1, 0x00, 0x29), MDL_UNKNOWN_CONDITION },
-    { RECORD(MDL_ATTENTION, 0, 0x100, 1, 0x2A, 1), MDL_NO_INITIATOR },
-    { RECORD(MDL_ATTENTION, 0, 0x100000001, 1, 0x2A, 1), MDL_NO_INITIATOR },
-    { RECORD(MDL_ATTENTION, 0, (uint64_t)1 << 63, 1, 0x2A, 1), MDL_NO_INITIATOR },
-    { RECORD(MDL_ATTENTION, 0, UINT64_MAX, 1, 0x2A, 1), MDL_NO_INITIATOR },
+    { RECORD(MDL_ATTENTION, 0, BIT_63, 1, 0x29, 0xFF), MDL_UNKNOWN_CONDITION },
     { RECORD(MDL_GROW, 0, 0, 0, 0x29, 0), MDL_BLOCKS },
     { RECORD(MDL_GROW, 0, 0, ((uint64_t)1 << 40) + 1, 0x29, 0), MDL_BLOCKS },
     { RECORD(MDL_GROW, 0, 0, UINT64_MAX, 0x29, 0), MDL_BLOCKS },
 };
 
-/* What the record asks for is looked at before the disk. */
+/* Masks that a base disk refuses. */
+static const uint64_t above_7[] = {
+    0x100, 0x101, 0x1FF, 0x100000001, BIT_63, BIT_63 | 0xFF, UINT64_MAX - 1, UINT64_MAX - 0xFF,
+    UINT64_MAX >> 1
+};
+
+static void refuse_masks(void)
+{
+    mdl_happening it = RECORD(MDL_ATTENTION, 0, 0, 1, 0x2A, 1);
+    size_t at;
+
+    for (at = 0; at < sizeof above_7 / sizeof *above_7; at++) {
+        it.initiators = above_7[at];
+        WANT(mdl_happen(&disk, &it) == (last < 63 ? MDL_NO_INITIATOR : MDL_OK));
+        WANT(only_report(last < 63 ? 0 : above_7[at], MODE_PARAMETERS_CHANGED));
+        WANT(mdl_happen(&no_disk, &it) == MDL_NO_DISK);
+    }
+}
+
+/* What the record asks for is looked at before the disk. Without a disk it may name each of 64 initiators. */
 static void refuse(uint32_t profile)
 {
     static struct seen before;
-    mdl_happening it = RECORD(MDL_POWER_CYCLE, 0, ALL, 128, 0x2A, 1);
+    mdl_happening it = RECORD(MDL_POWER_CYCLE, 63, UINT64_MAX, 128, 0x2A, 1);
     size_t at;
     void *target;
 
@@ -465,8 +525,12 @@ static void refuse(uint32_t profile)
     }
     for (it.kind = MDL_POWER_CYCLE; it.kind <= MDL_GROW; it.kind++)
         WANT(mdl_happen(&no_disk, &it) == MDL_NO_DISK && !no_disk.target);
+    it.kind = MDL_NEXUS_LOSS;
+    for (it.initiator = 0; it.initiator < 128; it.initiator++)
+        WANT(mdl_happen(&no_disk, &it) == (it.initiator < 64 ? MDL_NO_DISK : MDL_NO_INITIATOR));
+    refuse_masks();
     WANT(disk.target == target && is_quiet());
-    WANT(is_as_before(&before) && registered() == 0x41);
+    WANT(is_as_before(&before) && are_registered());
 }
 
 int main(void)

@@ -53,9 +53,9 @@ static inline uint64_t digest_of(mdl_disk *disk)
         { 0x9E, 0x10, [13] = 32 },          /* READ CAPACITY(16) */
         { 0x5A, 0x08, 0x3F, [8] = 255 },    /* MODE SENSE(10), the current values */
         { 0x5A, 0x08, 0xFF, [8] = 255 },    /* and the saved values */
-        { 0x5E, 0x00, [7] = 1 },            /* READ KEYS */
-        { 0x5E, 0x01, [7] = 1 },            /* READ RESERVATION */
-        { 0x5E, 0x03, [7] = 1 },            /* READ FULL STATUS */
+        { 0x5E, 0x00, [7] = 16 },           /* READ KEYS */
+        { 0x5E, 0x01, [7] = 16 },           /* READ RESERVATION */
+        { 0x5E, 0x03, [7] = 16 },           /* READ FULL STATUS */
         { 0x12, 0x00, [4] = 96 },           /* INQUIRY */
         { 0x12, 0x01, 0x83, [4] = 96 },     /* its page of names */
         { 0x12, 0x01, 0xB0, [4] = 64 },     /* and its page of limits */
@@ -63,12 +63,13 @@ static inline uint64_t digest_of(mdl_disk *disk)
     static const uint8_t ready[6], status[16] = { 0x9E, 0x12, [12] = 0x40 };
     static const uint8_t read[10] = { 0x28, [8] = 64 };
     uint64_t digest = 0xCBF29CE484222325u;
-    char text[4096] = "";
-    uint32_t at;
+    char text[32768] = ""; /* eight faults, each with two words and a line for each of 64 initiators */
+    uint32_t at, initiators = 0;
 
     mdl_faults(disk, text, sizeof text);
     mix(&digest, text, strlen(text));
-    for (at = 0; at < MDL_INITIATORS; at++)
+    mdl_initiators(disk, &initiators);
+    for (at = 0; at < initiators; at++)
         mix_reply(&digest, disk, at, ready, sizeof ready, NULL, 0);
     for (at = 0; at < sizeof looks / sizeof *looks; at++) {
         size_t length = looks[at][0] == 0x9E ? 16 : looks[at][0] == 0x12 ? 6 : 10;

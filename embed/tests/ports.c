@@ -43,12 +43,19 @@ static void put_key(uint32_t initiator, uint8_t key)
     WANT(status_of(initiator, cdb, sizeof cdb, list, sizeof list) == MDL_GOOD);
 }
 
-static uint32_t registered(void)
+static uint64_t registered(void)
 {
-    uint32_t mask = ~(uint32_t)0;
+    uint64_t mask = 0x123456789ABCDEF0;
 
     WANT(mdl_registered(&disk, &mask) == MDL_OK);
     return mask;
+}
+
+static uint32_t last; /* the last initiator of the disk */
+
+static uint64_t bit(uint32_t initiator)
+{
+    return (uint64_t)1 << initiator;
 }
 
 static void refuse_profiles(void)
@@ -156,18 +163,51 @@ static void show_names_of_seeds(void)
     }
 }
 
+/* A new disk of a profile, and how many initiators it has. */
+static void make(uint32_t profile)
+{
+    uint32_t count = 0;
+
+    WANT(mdl_make_with_profile(&disk, profile, 64, 4, NULL) == MDL_OK);
+    WANT(mdl_initiators(&disk, &count) == MDL_OK);
+    WANT(count == (profile == MDL_PROFILE_BASE ? MDL_INITIATORS : MDL_MOST_INITIATORS));
+    last = profile == MDL_PROFILE_BASE ? 7 : 63;
+}
+
+/* The disk has no such initiator, and nothing changes. */
+static int is_missing(uint32_t initiator)
+{
+    static const uint8_t ready[6];
+    mdl_reply before;
+
+    memcpy(&before, &reply, sizeof reply);
+    return mdl_execute(&disk, initiator, ready, sizeof ready, NULL, 0, NULL, 0, &reply)
+            == MDL_NO_INITIATOR
+        && mdl_execute_unflushed(&disk, initiator, ready, sizeof ready, NULL, 0, NULL, 0, &reply)
+            == MDL_NO_INITIATOR
+        && memcmp(&reply, &before, sizeof reply) == 0
+        && mdl_forget(&disk, initiator) == MDL_NO_INITIATOR;
+}
+
 static void refuse_ports(void)
 {
-    uint32_t mask = 5;
+    static const uint8_t ready[6];
+    uint64_t mask = 5;
+    uint32_t count = 5;
 
+    WANT(mdl_initiators(NULL, &count) == MDL_NULL_POINTER && count == 5);
+    WANT(mdl_initiators(&disk, NULL) == MDL_NULL_POINTER);
+    WANT(mdl_initiators(&no_disk, &count) == MDL_NO_DISK && count == 5);
     WANT(mdl_registered(NULL, &mask) == MDL_NULL_POINTER && mask == 5);
     WANT(mdl_registered(&disk, NULL) == MDL_NULL_POINTER);
     WANT(mdl_registered(&no_disk, &mask) == MDL_NO_DISK && mask == 5);
     WANT(mdl_forget(NULL, 0) == MDL_NULL_POINTER);
-    WANT(mdl_forget(&no_disk, 8) == MDL_NO_INITIATOR);
-    WANT(mdl_forget(&no_disk, 7) == MDL_NO_DISK);
-    WANT(mdl_forget(&disk, 8) == MDL_NO_INITIATOR);
-    WANT(mdl_forget(&disk, 256) == MDL_NO_INITIATOR);
+    WANT(mdl_forget(&no_disk, 7) == MDL_NO_DISK && mdl_forget(&no_disk, 64) == MDL_NO_DISK);
+    WANT(mdl_execute(&no_disk, 7, ready, 6, NULL, 0, NULL, 0, &reply) == MDL_NO_DISK);
+    WANT(mdl_execute(&no_disk, 64, ready, 6, NULL, 0, NULL, 0, &reply) == MDL_NO_DISK);
+    WANT(last == 63 || (is_missing(8) && is_missing(63)));
+    WANT(is_missing(64) && is_missing(255) && is_missing(256) && is_missing(256 + 5));
+    WANT(is_missing(UINT32_MAX));
 }
 
 static void ask(void)
@@ -176,16 +216,16 @@ static void ask(void)
 
     WANT(registered() == 0);
     /* The question reports no unit attention, such as POWER ON here, and clears none. */
-    for (initiator = 0; initiator < MDL_INITIATORS; initiator++)
+    for (initiator = 0; initiator <= last; initiator++)
         WANT(!is_ready(initiator) && is_ready(initiator));
     put_key(1, 0x11);
     put_key(6, 0x66);
     WANT(registered() == 0x42);
-    put_key(7, 0x77);
+    put_key(last, 0x77);
     put_key(0, 0x10);
-    WANT(registered() == 0xC3);
+    WANT(registered() == (0x43 | bit(last)));
     put_key(6, 0);
-    WANT(registered() == 0x83);
+    WANT(registered() == (0x03 | bit(last)));
 }
 
 /* Two conditions are pending for initiator 0, and one for each other. */
@@ -195,10 +235,11 @@ static void forget(void)
     static const uint8_t select[6] = { 0x15, 0x10, 0, 0, 16 };
     static const uint8_t key[24] = { [7] = 0x77 }, page[16] = { [4] = 0x0A, 0x0A, 0, 0, 8 };
 
-    WANT(status_of(7, select, sizeof select, page, sizeof page) == MDL_GOOD);
+    WANT(status_of(last, select, sizeof select, page, sizeof page) == MDL_GOOD);
     WANT(mdl_forget(&disk, 5) == MDL_OK && is_ready(5));
-    WANT(registered() == 0x83);
-    WANT(status_of(7, clear, sizeof clear, key, sizeof key) == MDL_GOOD && registered() == 0);
+    WANT(mdl_forget(&disk, last - 1) == MDL_OK && is_ready(last - 1) && !is_ready(4));
+    WANT(registered() == (0x03 | bit(last)));
+    WANT(status_of(last, clear, sizeof clear, key, sizeof key) == MDL_GOOD && registered() == 0);
     WANT(mdl_forget(&disk, 0) == MDL_OK && is_ready(0));
     WANT(!is_ready(1) && reply.sense[12] == 0x2A && reply.sense[13] == 0x01);
     WANT(!is_ready(1) && reply.sense[13] == 0x03);
@@ -206,18 +247,54 @@ static void forget(void)
     WANT(mdl_forget(&disk, 2) == MDL_OK && is_ready(2));
     WANT(mdl_power_cycle(&disk) == MDL_OK && mdl_forget(&disk, 3) == MDL_OK);
     WANT(is_ready(3) && !is_ready(4) && is_ready(4));
+    WANT(mdl_forget(&disk, last) == MDL_OK && is_ready(last) && !is_ready(last - 1));
+}
+
+/* REGISTER with SPEC_I_PT: initiator 0 registers all others of an extended disk by their TransportIDs
+ * (SPC-4, 6.16.3 and 7.6.4). There is room for a registration of each. */
+static void register_all(void)
+{
+    enum { IDS = 63, ID_LENGTH = 24, LENGTH = IDS * ID_LENGTH };
+    static uint8_t list[28 + LENGTH] = { [15] = 0xC1, [20] = 8, [26] = LENGTH >> 8, LENGTH & 255 };
+    static const uint8_t cdb[10] = { 0x5F, [7] = sizeof list >> 8, sizeof list & 255 };
+    static const uint8_t keys[10] = { 0x5E, 0, [7] = 16 }, full_status[10] = { 0x5E, 3, [7] = 16 };
+    uint8_t id[ID_LENGTH] = { 6, [4] = 0x30, [10] = 1 };
+    size_t at;
+
+    for (at = 0; at < IDS; at++) {
+        id[11] = (uint8_t)(at + 1);
+        memcpy(list + 28 + at * ID_LENGTH, id, sizeof id);
+    }
+    WANT(mdl_forget(&disk, 0) == MDL_OK && registered() == 0);
+    WANT(status_of(0, cdb, sizeof cdb, list, sizeof list) == MDL_GOOD && registered() == UINT64_MAX);
+    WANT(status_of(0, keys, sizeof keys, NULL, 0) == MDL_GOOD && reply.data_in_length == 520);
+    WANT(data_in[6] == 2 && data_in[7] == 0 && data_in[519] == 0xC1);
+    WANT(status_of(0, full_status, sizeof full_status, NULL, 0) == MDL_GOOD);
+    WANT(reply.data_in_length == 3080 && data_in[6] == 12 && data_in[7] == 0);
+    for (at = 0; at <= IDS; at++) {
+        id[11] = (uint8_t)at;
+        WANT(!memcmp(data_in + 8 + 48 * at + 24, id, sizeof id));
+    }
+    put_key(0, 0);
+    WANT(registered() == UINT64_MAX - 1);
 }
 
 int main(void)
 {
+    uint32_t profile;
+
     refuse_profiles();
     show_identities();
     show_physical_blocks();
     show_names_of_seeds();
-    WANT(mdl_make(&disk, 64, 4, NULL) == MDL_OK);
-    refuse_ports();
-    ask();
-    forget();
-    mdl_free(&disk);
+    for (profile = MDL_PROFILE_BASE; profile <= MDL_PROFILE_EXTENDED_512E; profile++) {
+        make(profile);
+        refuse_ports();
+        ask();
+        forget();
+        if (profile != MDL_PROFILE_BASE)
+            register_all();
+        mdl_free(&disk);
+    }
     return failures != 0;
 }

@@ -121,7 +121,7 @@ static void print_happening(const struct command *c)
         printf(" %" PRIu64, it->blocks);
     if (it->kind == MDL_ATTENTION)
         printf(" %02Xh/%02Xh", (unsigned)it->asc, (unsigned)it->ascq);
-    if (it->kind == MDL_ATTENTION && it->initiators == 1u << c->initiator)
+    if (it->kind == MDL_ATTENTION && it->initiators != UINT64_MAX)
         printf(" %u", (unsigned)c->initiator);
     putchar('\n');
 }
@@ -132,7 +132,7 @@ static void next_of(mdl_profile profile, struct command *c, uint64_t *seed)
     if (profile == MDL_PROFILE_BASE)
         next_command(c, seed);
     else
-        next_event(c, seed);
+        next_event(profile, c, seed);
 }
 
 static void print_script(mdl_profile profile, uint64_t seed, unsigned long count)

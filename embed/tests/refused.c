@@ -150,7 +150,7 @@ static void take_no_memory(void)
     held_before = held;
     requests = 0;
     for (at = 0; at < 3000; at++) {
-        next_event(&c, &seed);
+        next_event(MDL_PROFILE_EXTENDED, &c, &seed);
         if (c.is_happening)
             WANT(mdl_happen(&disk, &c.happening) == MDL_OK);
         else

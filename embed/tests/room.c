@@ -71,7 +71,8 @@ static const struct {
     { { 0x9E, 0x12, [10] = 1 }, 16, 8200, MDL_GOOD },             /* and more than it has */
     { { 0x5E, 0, [8] = 255 }, 10, 255, MDL_GOOD },                /* READ KEYS */
     { { 0x5E, 3, [7] = 1 }, 10, 256, MDL_GOOD },                  /* READ FULL STATUS */
-    { { 0x5E, 3, [7] = 2 }, 10, 296, MDL_GOOD },                  /* and more than it has */
+    { { 0x5E, 3, [7] = 12, 8 }, 10, 3080, MDL_GOOD },             /* as long as it can be */
+    { { 0x5E, 3, [7] = 255, 255 }, 10, 3080, MDL_GOOD },          /* and more than it has */
     { { 0xFF }, 10, 0, MDL_CHECK_CONDITION },                     /* no command */
     { { 0x00 }, 0, 0, MDL_CHECK_CONDITION },                      /* no byte */
 };

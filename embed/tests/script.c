@@ -3,6 +3,7 @@
  * It prints a line for each line of standard input, and bytes in hexadecimal: the status, data-in and sense
  * data. What a line prints is written before the next one is read. */
 #define _XOPEN_SOURCE 700
+#include <ctype.h>
 #include <inttypes.h>
 #include <stdio.h>
 #include <stdlib.h>
@@ -61,13 +62,29 @@ static void send_command(struct script *it, uint32_t initiator, const uint8_t *c
     }
 }
 
+/* The initiator that a word names by its number, as 17, 0x11 or 11h. UINT32_MAX if the word is no number: no
+ * disk has this initiator. */
+static uint32_t initiator_in(const char *word)
+{
+    const size_t length = word ? strlen(word) : 0;
+    const int ends_with_h = length > 1 && (word[length - 1] == 'h' || word[length - 1] == 'H');
+    const int is_hexadecimal = ends_with_h || (length > 2 && (word[1] == 'x' || word[1] == 'X'));
+    unsigned long number;
+    char *end;
+
+    if (length == 0 || !isxdigit((unsigned char)word[0]))
+        return UINT32_MAX;
+    number = strtoul(word, &end, is_hexadecimal ? 16 : 10);
+    return end + ends_with_h == word + length && number < UINT32_MAX ? (uint32_t)number : UINT32_MAX;
+}
+
 /* raw INITIATOR CDB DATA-OUT */
 static void send_raw(struct script *it, char **words)
 {
     uint8_t cdb[300];
     size_t length = read_bytes(words[2], cdb, sizeof cdb);
 
-    send_command(it, (uint32_t)atoi(words[1]), cdb, length,
+    send_command(it, initiator_in(words[1]), cdb, length,
                  read_bytes(words[3], data_out, sizeof data_out));
 }
 
@@ -86,20 +103,19 @@ static void fill(struct script *it, char **words)
         cdb[10 + at] = (uint8_t)(count >> 8 * (3 - at));
     length = length < sizeof data_out ? length : sizeof data_out;
     memset(data_out, (int)strtoul(words[4], NULL, 0), length);
-    send_command(it, (uint32_t)atoi(words[1]), cdb, sizeof cdb, length);
+    send_command(it, initiator_in(words[1]), cdb, sizeof cdb, length);
 }
 
 /* INITIATOR WORD..., the words of a tool */
-static void send_tool(struct script *it, const char *line)
+static void send_tool(struct script *it, uint32_t initiator, const char *rest)
 {
     mdl_command command;
-    mdl_error error = mdl_tool(line + 1, data_out, sizeof data_out, &command);
+    mdl_error error = mdl_tool(rest, data_out, sizeof data_out, &command);
 
     if (error)
         printf("error %d", (int)error);
     else
-        send_command(it, (uint32_t)(line[0] - '0'), command.cdb, command.cdb_length,
-                     command.data_out_length);
+        send_command(it, initiator, command.cdb, command.cdb_length, command.data_out_length);
 }
 
 /* The verb of a happening, as sgrun prints it if the disk underwent it. */
@@ -120,7 +136,7 @@ static void happen(struct script *it, const char *line)
 
 static void print_faults(struct script *it)
 {
-    char text[8192] = "";
+    char text[32768] = "";
 
     mdl_faults(&it->disk, text, sizeof text);
     printf("FAULTS\n%s", text);
@@ -133,9 +149,9 @@ static void run_line(struct script *it, const char *line)
 
     strcpy(copy, line);
     for (at = 0; at < 5; at++)
-        words[at] = strtok_r(at ? NULL : copy, " ", &rest);
-    if (line[0] >= '0' && line[0] <= '7')
-        send_tool(it, line);
+        words[at] = strtok_r(at ? NULL : copy, " \t", &rest);
+    if (initiator_in(words[0]) < MDL_MOST_INITIATORS)
+        send_tool(it, initiator_in(words[0]), line + strcspn(line, " \t"));
     else if (!strncmp(line, "raw ", 4))
         send_raw(it, words);
     else if (!strncmp(line, "fill ", 5) && words[4])

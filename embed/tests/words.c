@@ -14,7 +14,9 @@ static int failures;
         } \
     } while (0)
 
-enum { ALL = 0xFF, MOST_WORDS = 64 };
+enum { MOST_WORDS = 64 };
+#define ALL UINT64_MAX
+#define BIT_63 ((uint64_t)1 << 63)
 
 /* Words, and all that they ask for. */
 static const struct {
@@ -27,6 +29,11 @@ static const struct {
     { "reset target", { .kind = MDL_TARGET_RESET } },
     { "nexus 0", { .kind = MDL_NEXUS_LOSS, .initiator = 0 } },
     { "nexus\t7", { .kind = MDL_NEXUS_LOSS, .initiator = 7 } },
+    { "nexus 007", { .kind = MDL_NEXUS_LOSS, .initiator = 7 } },
+    { "nexus 8", { .kind = MDL_NEXUS_LOSS, .initiator = 8 } },
+    { "nexus 63", { .kind = MDL_NEXUS_LOSS, .initiator = 63 } },
+    { "nexus 0x3f", { .kind = MDL_NEXUS_LOSS, .initiator = 63 } },
+    { "nexus 3Fh", { .kind = MDL_NEXUS_LOSS, .initiator = 63 } },
     { "grow 1", { .kind = MDL_GROW, .blocks = 1 } },
     { "grow 8192", { .kind = MDL_GROW, .blocks = 8192 } },
     { "grow 0x10000000000", { .kind = MDL_GROW, .blocks = 1099511627776 } },
@@ -35,6 +42,11 @@ static const struct {
       { .kind = MDL_ATTENTION, .asc = 0x2A, .ascq = 0x09, .initiators = 0x08 } },
     { "attention 3Fh/0Eh 7 0 5 7",
       { .kind = MDL_ATTENTION, .asc = 0x3F, .ascq = 0x0E, .initiators = 0xA1 } },
+    { "attention 2Ah/09h 8", { .kind = MDL_ATTENTION, .asc = 0x2A, .ascq = 0x09, .initiators = 0x100 } },
+    { "attention 2Ah/09h 0 8",
+      { .kind = MDL_ATTENTION, .asc = 0x2A, .ascq = 0x09, .initiators = 0x101 } },
+    { "attention 2Ah/09h 63 8 0x20",
+      { .kind = MDL_ATTENTION, .asc = 0x2A, .ascq = 0x09, .initiators = BIT_63 | 0x100000100 } },
     { "heal", { .kind = MDL_DISARM_ALL } },
     { "heal 0", { .kind = MDL_DISARM, .number = 0 } },
     { "heal 7", { .kind = MDL_DISARM, .number = 7 } },
@@ -70,7 +82,10 @@ static const struct {
       { .initiators = ALL, .outcome = MDL_AFTER_SHORT_DATA_IN, .blocks = UINT32_MAX } },
     { "fault arrival busy to 0", { .initiators = 0x01, .outcome = MDL_ARRIVAL_BUSY } },
     { "fault arrival busy to 7 to 2 to 7", { .initiators = 0x84, .outcome = MDL_ARRIVAL_BUSY } },
-    { "fault arrival busy to 0 to 1 to 2 to 3 to 4 to 5 to 6 to 7", { .initiators = ALL } },
+    { "fault arrival busy to 0 to 1 to 2 to 3 to 4 to 5 to 6 to 7", { .initiators = 0xFF } },
+    { "fault arrival busy to 8", { .initiators = 0x100 } },
+    { "fault arrival busy to 8 to 0", { .initiators = 0x101 } },
+    { "fault arrival busy to 63 to 08 to 20h", { .initiators = BIT_63 | 0x100000100 } },
     { "fault arrival busy code 2Ah", { .initiators = ALL, .has_code = 1, .code = 0x2A } },
     { "fault arrival busy code 00h", { .initiators = ALL, .has_code = 1, .code = 0x00 } },
     { "fault arrival busy blocks 18446744073709551615 1",
@@ -97,12 +112,14 @@ static const struct {
     { "raw 0 00", MDL_UNKNOWN_VERB },      { "# power", MDL_UNKNOWN_VERB },
     { "0 sg_inq", MDL_UNKNOWN_VERB },      { "power 0", MDL_USAGE },
     { "reset unit", MDL_USAGE },           { "reset target 0", MDL_USAGE },
-    { "nexus", MDL_USAGE },                { "nexus 8", MDL_USAGE },
-    { "nexus 00", MDL_USAGE },             { "nexus 0 1", MDL_USAGE },
+    { "nexus", MDL_USAGE },                { "nexus 64", MDL_USAGE },
+    { "nexus 0x40", MDL_USAGE },           { "nexus 0 1", MDL_USAGE },
+    { "nexus -1", MDL_USAGE },             { "nexus 4294967296", MDL_USAGE },
+    { "nexus 3F", MDL_USAGE },             { "nexus 18446744073709551616", MDL_USAGE },
     { "grow", MDL_USAGE },                 { "grow 0", MDL_USAGE },
     { "grow 1099511627777", MDL_USAGE },   { "grow -1", MDL_USAGE },
     { "attention", MDL_USAGE },            { "attention 3fh/0eh", MDL_USAGE },
-    { "attention 29h/01h", MDL_USAGE },    { "attention 29h/00h 0 8", MDL_USAGE },
+    { "attention 29h/01h", MDL_USAGE },    { "attention 29h/00h 0 64", MDL_USAGE },
     { "heal 8", MDL_USAGE },               { "heal 0 1", MDL_USAGE },
     { "fault", MDL_USAGE },                { "fault arrival", MDL_USAGE },
     { "fault busy", MDL_USAGE },           { "fault medium busy", MDL_USAGE },
@@ -111,7 +128,7 @@ static const struct {
     { "fault medium first", MDL_USAGE },   { "fault medium first 4294967296", MDL_USAGE },
     { "fault after first x", MDL_USAGE },  { "fault after first 4294967296", MDL_USAGE },
     { "fault arrival first 0", MDL_USAGE }, { "fault after deferred 4/44/01", MDL_USAGE },
-    { "fault arrival busy to", MDL_USAGE }, { "fault arrival busy to 8", MDL_USAGE },
+    { "fault arrival busy to", MDL_USAGE }, { "fault arrival busy to 64", MDL_USAGE },
     { "fault arrival busy code 28", MDL_USAGE }, { "fault arrival busy healed", MDL_USAGE },
     { "fault arrival busy blocks 0 0", MDL_USAGE }, { "fault arrival busy blocks 0", MDL_USAGE },
     { "fault arrival busy times 0", MDL_USAGE }, { "fault arrival busy skip 65536", MDL_USAGE },
@@ -178,6 +195,21 @@ static const char *many_words(const char *verb, size_t count)
     return words;
 }
 
+/* A unit attention for the initiators below `count`, each by its number. */
+static const char *each_initiator(int count)
+{
+    static char words[1024];
+    size_t length;
+    int at;
+
+    strcpy(words, "attention 28h/00h");
+    for (at = 0; at < count; at++) {
+        length = strlen(words);
+        snprintf(words + length, sizeof words - length, " %d", at);
+    }
+    return words;
+}
+
 static int is_refused(const char *words, mdl_error error)
 {
     mdl_happening it, before;
@@ -203,6 +235,8 @@ static void refuse(void)
     WANT(is_refused(many_words("\x01", MOST_WORDS + 1), MDL_BAD_BYTE));
     WANT(mdl_read_happening(many_words("attention 28h/00h", MOST_WORDS - 1), &it) == MDL_OK);
     WANT(it.initiators == 1);
+    WANT(mdl_read_happening(each_initiator(62), &it) == MDL_OK && it.initiators == ALL >> 2);
+    WANT(is_refused(each_initiator(63), MDL_TOO_MANY_WORDS));
     WANT(is_refused(NULL, MDL_NULL_POINTER));
     WANT(mdl_read_happening("power", NULL) == MDL_NULL_POINTER);
     WANT(mdl_read_happening(NULL, NULL) == MDL_NULL_POINTER);
@@ -227,30 +261,56 @@ static int reports(mdl_disk *disk, uint32_t initiator, uint8_t status, uint8_t a
         && (status != MDL_CHECK_CONDITION || (reply.sense[12] == asc && reply.sense[13] == ascq));
 }
 
+/* What mdl_happen returns for a record. A base disk, whose last initiator is 7, refuses any above it. */
+static mdl_error result_of(const mdl_happening *it, uint32_t last)
+{
+    const uint64_t mask = it->kind == MDL_ARM ? it->fault.initiators : it->initiators;
+    const int is_above_7 = it->kind == MDL_NEXUS_LOSS ? it->initiator > 7 : mask != ALL && mask > 0xFF;
+
+    return last < 63 && is_above_7 ? MDL_NO_INITIATOR : MDL_OK;
+}
+
 /* mdl_happen takes each record, for a disk of each profile. */
 static void let_happen(uint32_t profile)
 {
     mdl_disk disk = MDL_NONE, no_disk = MDL_NONE;
-    uint32_t initiator;
+    mdl_happening arming = { .kind = MDL_ARM };
+    uint32_t initiator, last = profile == MDL_PROFILE_BASE ? 7 : 63;
     size_t at;
 
     WANT(mdl_make_with_profile(&disk, profile, 64, 16, NULL) == MDL_OK);
     for (at = 0; at < sizeof read / sizeof *read; at++) {
-        WANT(happen(&disk, read[at].words) == MDL_OK);
+        WANT(happen(&disk, read[at].words) == result_of(&read[at].asked, last));
         WANT(happen(&no_disk, read[at].words) == MDL_NO_DISK);
     }
     for (at = 0; at < sizeof faults / sizeof *faults; at++) {
-        WANT(happen(&disk, "heal") == MDL_OK && happen(&disk, faults[at].words) == MDL_OK);
+        arming.fault = faults[at].asked;
+        WANT(happen(&disk, "heal") == MDL_OK);
+        WANT(happen(&disk, faults[at].words) == result_of(&arming, last));
+        WANT((mdl_faults(&disk, NULL, 0) > 0) == (result_of(&arming, last) == MDL_OK));
         WANT(happen(&no_disk, faults[at].words) == MDL_NO_DISK);
     }
     WANT(happen(&disk, "heal") == MDL_OK && happen(&disk, "power") == MDL_OK);
-    for (initiator = 0; initiator < MDL_INITIATORS; initiator++)
+    for (initiator = 0; initiator <= last; initiator++)
         WANT(reports(&disk, initiator, MDL_CHECK_CONDITION, 0x29, 0x00)
              && reports(&disk, initiator, MDL_GOOD, 0, 0));
+    WANT(happen(&disk, "attention 28h/00h") == MDL_OK);
+    for (initiator = 0; initiator <= last; initiator++)
+        WANT(reports(&disk, initiator, MDL_CHECK_CONDITION, 0x28, 0x00)
+             && reports(&disk, initiator, MDL_GOOD, 0, 0));
+    WANT(happen(&disk, "attention 28h/00h 0 8") == (last < 63 ? MDL_NO_INITIATOR : MDL_OK));
+    WANT(reports(&disk, 0, last < 63 ? MDL_GOOD : MDL_CHECK_CONDITION, 0x28, 0x00));
     WANT(happen(&disk, "nexus 5") == MDL_OK && reports(&disk, 5, MDL_CHECK_CONDITION, 0x29, 0x07));
+    WANT(happen(&disk, "nexus 8") == (last < 63 ? MDL_NO_INITIATOR : MDL_OK));
+    WANT(happen(&disk, "nexus 63") == (last < 63 ? MDL_NO_INITIATOR : MDL_OK));
+    WANT(reports(&disk, last, last < 63 ? MDL_GOOD : MDL_CHECK_CONDITION, 0x29, 0x07));
     WANT(happen(&disk, "fault arrival busy times 1 to 5") == MDL_OK);
     WANT(reports(&disk, 4, MDL_GOOD, 0, 0) && reports(&disk, 5, MDL_BUSY, 0, 0));
     WANT(reports(&disk, 5, MDL_GOOD, 0, 0));
+    WANT(happen(&disk, "fault arrival busy times 1") == MDL_OK);
+    for (initiator = 0; initiator <= last; initiator++)
+        WANT(mdl_faults(&disk, NULL, 0) > 0 && reports(&disk, initiator, MDL_BUSY, 0, 0));
+    WANT(mdl_faults(&disk, NULL, 0) == 0);
     for (at = 0; at < MDL_MOST_FAULTS; at++)
         WANT(happen(&disk, "fault arrival silent to 1") == MDL_OK);
     WANT(happen(&disk, "fault arrival silent") == MDL_FAULTS);

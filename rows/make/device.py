@@ -50,6 +50,7 @@ class Device:
 
     def __init__(self, capacity, pool, profile="base", seed=1):
         self.profile, self.takes_short_data_out, self.physical_exponent = PROFILES[profile]
+        self.initiators = INITIATORS[self.profile]
         self.seed = seed  # of the names, 60 bits
         self.provisioning = Provisioning(capacity, pool)
         self.stopped = False
@@ -62,7 +63,7 @@ class Device:
         """SAM-5, 5.14: one condition is pending for each initiator, and no other."""
         self.attentions = {
             initiator: [sense.POWER_ON_RESET_OR_BUS_DEVICE_RESET_OCCURRED]
-            for initiator in INITIATORS
+            for initiator in self.initiators
         }
 
     # What happens between two commands (docs/PROFILE.md, "Happenings"). Logical blocks stay.
@@ -84,7 +85,7 @@ class Device:
         """SAM-5, 6.3: registrations and the reservation stay, and each initiator is told."""
         self.stopped = False
         self.modes.become_saved()
-        self.raise_attention(INITIATORS, code)
+        self.raise_attention(self.initiators, code)
 
     def nexus_loss(self, initiator):
         """SAM-5, 6.3: it concerns one initiator."""
@@ -94,7 +95,7 @@ class Device:
         """SBC-3, 4.5: the disk gets more addresses, and never fewer."""
         if capacity > self.provisioning.capacity:
             self.provisioning.capacity = capacity
-            self.raise_attention(INITIATORS, sense.CAPACITY_DATA_HAS_CHANGED)
+            self.raise_attention(self.initiators, sense.CAPACITY_DATA_HAS_CHANGED)
 
     def execute(self, initiator, cdb, data_out):
         if self.profile == "extended":

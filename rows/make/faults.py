@@ -8,7 +8,7 @@ from copy import copy, deepcopy
 from dataclasses import dataclass, field
 
 from provisioning import ALL_BLOCKS
-from reservations import Conflict
+from reservations import INITIATORS, Conflict
 from sense import ILLEGAL_REQUEST, INSUFFICIENT_RESOURCES, MEDIUM_ERROR, CheckCondition, Sense
 
 MOST_FAULTS = 8
@@ -25,7 +25,7 @@ class Fault:
     place: str
     what: str
     value: object = None  # (sense key, code), or a number of blocks or bytes
-    initiators: set = field(default_factory=lambda: set(range(8)))
+    initiators: set = field(default_factory=lambda: set(INITIATORS["extended"]))
     code: int | None = None
     blocks: tuple | None = None  # address and count
     healed: bool = False
@@ -134,7 +134,7 @@ def seen_by_faults(device, initiator, cdb, data_out):
     code = cdb[0] if cdb else None
     probe = copy(device)
     probe.provisioning = Probe(device.provisioning.capacity)
-    probe.attentions = deepcopy(device.attentions)
+    probe.attentions = {initiator: [*queue] for initiator, queue in device.attentions.items()}
     probe.modes, probe.reservations = deepcopy(device.modes), deepcopy(device.reservations)
     try:
         probe.data_in(initiator, cdb, data_out)

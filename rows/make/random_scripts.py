@@ -9,11 +9,13 @@ import random
 from device import PROFILES, Device
 from layouts import LAYOUTS_OF
 from modes import CHANGEABLE, DEFAULT
-from random_words import attention_words, fault_words, show_line, tool_line
-from reservations import ALL_TG_PT, SPEC_I_PT, TYPES, UNREG, transport_id
+from random_words import attention_words, fault_words, in_any_form, show_line, tool_line
+from reservations import ALL_TG_PT, INITIATORS, SPEC_I_PT, TYPES, UNREG, transport_id
 from script import Run
 
-INITIATORS = (0, 0, 0, 0, 1, 1, 1, 2, 2, 3, 4, 5, 6, 7)
+# Who sends lines, by profile. Some initiators are more frequent.
+SENDERS = {"base": (0, 0, 0, 0, 1, 1, 1, 2, 2, 3, 4, 5, 6, 7)}
+SENDERS["extended"] = SENDERS["base"] + (8, 31, 32, 63)
 # Some commands are more frequent in a script: of reservations, mode pages, provisioning, blocks,
 # reports, or none. A base disk has few of the last two.
 THEMES = (
@@ -89,21 +91,28 @@ class Script:
                 return self.happening()
             if self.is_rare(0.04):
                 return self.near_bad_blocks()
-        initiator, place = self.random.choice(INITIATORS), self.random.random()
+        initiator, place = self.random.choice(SENDERS[self.profile]), self.random.random()
         if place < 0.005:
             return "power"
         if place < 0.10:
-            return f"{initiator} {self.usual_tool_line()}"
+            return f"{self.word_of(initiator)} {self.usual_tool_line()}"
         if place < 0.13:
-            return tool_line(self.random, initiator, self.profile)
+            return tool_line(self.random, self.word_of(initiator), self.profile)
         if place < 0.17:
             return show_line(self.random, self.profile)
         if place < 0.25:
-            return f"fill {initiator} {self.address()} {self.small()} {self.small()}"
+            return f"fill {self.word_of(initiator)} {self.address()} {self.small()} {self.small()}"
         (code, action), layout = self.random.choice(self.layouts)
         initiator = self.sender(initiator, layout.name)
         cdb, data_out = self.command(code, action, layout)
-        return f"raw {initiator} {cdb.hex() or '-'} {data_out.hex() or '-'}"
+        return f"raw {self.word_of(initiator)} {cdb.hex() or '-'} {data_out.hex() or '-'}"
+
+    def word_of(self, initiator):
+        """An initiator as a line names it. A line of an extended disk now and then has another form of the
+        number, or rarely a number of no initiator."""
+        if self.profile == "base" or not self.is_rare(0.2):
+            return f"{initiator}"
+        return in_any_form(self.random, 64 if self.is_rare(0.05) else initiator)
 
     def sender(self, initiator, command):
         """Who sends a command. A registrant mostly reserves an extended disk, and the holder moves the
@@ -130,7 +139,7 @@ class Script:
 
     def happening(self):
         """A verb of an extended disk, now and then with words that it does not take."""
-        initiator = self.random.choice(INITIATORS)
+        initiator = self.word_of(self.random.choice(SENDERS[self.profile]))
         verb = self.random.choice(HAPPENINGS)
         if verb == "nexus":
             verb += f" {initiator}"
@@ -142,7 +151,7 @@ class Script:
             verb += f" {fault_words(self.random, self.bad_address, self.small)}"
         elif verb == "heal":
             verb += self.random.choice(("", "", f" {self.random.randrange(9)}"))
-        return verb + (self.random.choice((" 8", " x", " 0 0")) if self.is_rare(0.05) else "")
+        return verb + (self.random.choice((" 64", " x", " 0 0")) if self.is_rare(0.05) else "")
 
     def bad_address(self):
         self.bad = self.address()
@@ -150,7 +159,7 @@ class Script:
 
     def near_bad_blocks(self):
         """A command that reads, writes or marks the blocks of the last fault, if it is on blocks."""
-        initiator = self.random.choice(INITIATORS)
+        initiator = self.word_of(self.random.choice(SENDERS[self.profile]))
         address, count = max(0, self.bad - self.random.choice((0, 0, 1))), self.small()
         few = min(count, 3)  # as many as a line has room for
         return self.random.choice((
@@ -309,10 +318,12 @@ class Script:
         named = self.transport_ids((0, *20 * (1,), 2))
         return bytes([0, flags]) + port.to_bytes(2, "big") + named
 
-    def transport_ids(self, counts=(0, 1, 1, 1, 2, 2, 3, 5, 8, 9)):
-        """TransportIDs after their length, now and then with a wrong bit, cut or with a wrong length."""
+    def transport_ids(self, counts=(0, 1, 1, 1, 2, 2, 3, 5, 64, 65)):
+        """TransportIDs after their length, now and then with a wrong bit, cut or with a wrong length. Many
+        of them name most initiators."""
         count = self.random.choice(counts)
-        named = self.random.choices(INITIATORS, k=count)
+        few, all_of_them = SENDERS["extended"], INITIATORS["extended"]
+        named = self.random.choices(few if count < len(few) else all_of_them, k=count)
         data = bytearray(b"".join(map(transport_id, named)))
         if data and self.is_rare(0.25):
             data[self.random.randrange(len(data))] ^= 1 << self.random.randrange(8)

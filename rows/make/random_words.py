@@ -2,6 +2,7 @@
 valid ones."""
 
 from attentions import CONDITIONS, RESETS
+from reservations import INITIATORS
 from sense import code_text
 from texts import OF_PROFILE
 from tools import TOOLS_OF
@@ -71,7 +72,7 @@ OPERATION_CODES = ("00h", "28h", "28h", "2Ah", "8ah", "8Ah", "88h", "41h", "93h"
                    "5eh", "5Fh", "12h", "03h", "1ah", "15h", "C1h", "3fh", "3Fh", "A8h", "aah",
                    "2Eh", "8eh", "34h", "91h", "A0h", "a3h", "4dh", "B7h", "1Dh", "2fh", "AFh",
                    "8Fh", "89h", "89h")
-WRONG_WORDS = ("busy", "once", "to", "8", "code", "28", "blocks", "0", "healed", "times", "65536",
+WRONG_WORDS = ("busy", "once", "to", "64", "code", "28", "blocks", "0", "healed", "times", "65536",
                "-1", "first", "deferred", "3/11", "medium", "BUSY", "0x")
 
 
@@ -93,11 +94,13 @@ def show_line(random, profile):
 
 
 def attention_words(random, initiator):
-    """A condition, of a reset half the time, for some initiators or for each, rarely misspelled."""
+    """A condition, of a reset half the time, for some initiators or for each, rarely misspelled. A line has
+    room for 62 initiators."""
     code = code_text(random.choice(random.choice((RESETS, CONDITIONS))))
     if random.random() < 0.05:
         code = random.choice((code.lower(), code[:-1], code.replace("/", ""), "29h/01h", "00h/00h"))
-    others = " ".join(random.choices("01234567", k=random.randrange(1, 9)))
+    others = random.choices(INITIATORS["extended"], k=random.choice((1, 2, 2, 3, 5, 8, 61, 62)))
+    others = " ".join(in_any_form(random, it) for it in others)
     return random.choice((code, f"{code} {initiator}", f"{code} {initiator} {others}"))
 
 
@@ -125,7 +128,7 @@ def fault_options(random, place, address, count):
     if random.random() < (0.6 if on_blocks else 0.02):
         yield "healed"
     for _ in range(random.choice((0, 0, 1, 1, 1, 2))):
-        yield f"to {random.choice('00112')}"
+        yield f"to {in_any_form(random, random.choice((0, 0, 1, 1, 2, 8, 63)))}"
     if random.random() < 0.2:
         yield f"code {random.choice(OPERATION_CODES)}"
     if random.random() < 0.3:

@@ -26,8 +26,9 @@ EXCLUSIVE = (
     EXCLUSIVE_ACCESS, EXCLUSIVE_ACCESS_REGISTRANTS_ONLY, EXCLUSIVE_ACCESS_ALL_REGISTRANTS)
 TYPES = (WRITE_EXCLUSIVE, *SHARED, EXCLUSIVE_ACCESS)
 
-INITIATORS = range(8)
-MOST_REGISTRANTS = 6
+# By profile: the initiators of a disk, and how many of them can be registered at once.
+INITIATORS = {"base": range(8), "extended": range(64)}
+MOST_REGISTRANTS = {"base": 6, "extended": 64}
 LIST_LENGTH = 24
 # With SPEC_I_PT the list goes on with TRANSPORTID PARAMETER DATA LENGTH and the TransportIDs.
 TRANSPORT_IDS_LENGTH_AT, TRANSPORT_IDS_AT, TRANSPORT_ID_LENGTH = 24, 28, 24
@@ -168,12 +169,13 @@ def full_status_descriptor(state, registrant):
 
 def transport_id(initiator):
     """The TransportID of a SAS initiator port (SPC-4, 7.6.4)"""
-    address = 0x30 << 56 | 0x0100 | initiator
+    address = 0x3000_0000_0000_0100 + initiator
     return bytes([0x06, 0, 0, 0]) + address.to_bytes(8, "big") + bytes(12)
 
 
-# The initiators by their TransportIDs. One with a reserved bit that is set names nobody.
-NAMED_BY = {transport_id(initiator): initiator for initiator in INITIATORS}
+# The initiators of an extended disk by their TransportIDs, as no list of a base disk has any. One with a
+# reserved bit that is set names nobody.
+NAMED_BY = {transport_id(initiator): initiator for initiator in INITIATORS["extended"]}
 
 
 # ------------------------------------------------------------------------- PERSISTENT RESERVE OUT
@@ -251,7 +253,7 @@ def has_whole_transport_ids(parameters):
     """TRANSPORTID PARAMETER DATA LENGTH counts the bytes after it. There are not too many of them."""
     length = len(parameters) - TRANSPORT_IDS_AT
     said = int.from_bytes(parameters[TRANSPORT_IDS_LENGTH_AT:TRANSPORT_IDS_AT], "big")
-    return 0 <= length <= TRANSPORT_ID_LENGTH * len(INITIATORS) and length == said
+    return 0 <= length <= TRANSPORT_ID_LENGTH * len(INITIATORS["extended"]) and length == said
 
 
 def check_scope_and_type(command):
@@ -284,7 +286,7 @@ def register(request):
     if caller not in state.keys:
         if request.action_key == 0:
             return
-        if len(state.keys) == MOST_REGISTRANTS:
+        if len(state.keys) == MOST_REGISTRANTS[request.device.profile]:
             raise CheckCondition(ILLEGAL_REQUEST, INSUFFICIENT_REGISTRATION_RESOURCES)
     if request.action_key:
         state.register(caller, request.action_key, request.all_tg_pt)
@@ -298,16 +300,14 @@ def register(request):
 
 def register_together(request):
     """SPC-4, 5.13 (registering) and 6.16.3 (SPEC_I_PT): the caller and all initiators that the list
-    names are registered, or none is. A registrant is passed over."""
+    names are registered. A registrant is passed over. An extended disk has room for all of them."""
     state = request.state
     if request.caller in state.keys or request.action_key == 0:
         raise invalid_field_in_parameter_list(20)
     named = dict.fromkeys([request.caller, *named_initiators(request.transport_ids)])
-    new = [initiator for initiator in named if initiator not in state.keys]
-    if len(state.keys) + len(new) > MOST_REGISTRANTS:
-        raise CheckCondition(ILLEGAL_REQUEST, INSUFFICIENT_REGISTRATION_RESOURCES)
-    for initiator in new:
-        state.register(initiator, request.action_key, request.all_tg_pt)
+    for initiator in named:
+        if initiator not in state.keys:
+            state.register(initiator, request.action_key, request.all_tg_pt)
     state.aptpl = request.aptpl
     state.count_change()
 
@@ -330,9 +330,6 @@ def register_and_move(request):
     if state.type in ALL_REGISTRANTS or state.taker != caller:
         raise Conflict
     flags, named = request.parameters[MOVE_FLAGS_AT], destination(request)
-    left = [who for who in state.keys if who != caller or not flags & UNREG]
-    if named not in state.keys and len(left) == MOST_REGISTRANTS:
-        raise CheckCondition(ILLEGAL_REQUEST, INSUFFICIENT_REGISTRATION_RESOURCES)
     if flags & UNREG:
         del state.keys[caller]
     state.register(named, request.action_key, all_tg_pt=False)

@@ -22,7 +22,7 @@ import sense
 import texts
 import tools
 from attentions import CONDITIONS
-from device import CHECK_CONDITION, GOOD, RESERVATION_CONFLICT, Device
+from device import CHECK_CONDITION, GOOD, INITIATORS, RESERVATION_CONFLICT, Device
 from faults import BUSY, MOST_FAULTS, NO_REPLY, STATUSES, TASK_SET_FULL, Fault as ArmedFault
 from words import hex_bytes, hex_lines, number
 
@@ -41,7 +41,6 @@ STATUS_NAMES = {
     NO_REPLY: "NO REPLY",
 }
 EXIT_STATUSES = {RESERVATION_CONFLICT: 24, BUSY: 26, TASK_SET_FULL: 27, NO_REPLY: 33}
-INITIATORS = "01234567"
 
 
 class Fault(Exception):
@@ -82,9 +81,10 @@ class Run:
         verb, *operands = found
         if verb in VERBS[self.device.profile]:
             return VERBS[self.device.profile][verb](self.device, operands)
-        if is_initiator(verb):
-            return tool(self.device, int(verb), operands)
-        raise Fault("unknown verb")
+        initiator = initiator_in(verb, self.device.profile)
+        if initiator is None:
+            raise Fault("unknown verb")
+        return tool(self.device, initiator, operands)
 
 
 def run(script, capacity, pool, profile="base"):
@@ -105,7 +105,7 @@ def raw(device, operands):
     """raw I CDB [DATA]"""
     if len(operands) not in (2, 3):
         raise Fault("usage")
-    initiator = initiator_of(operands[0])
+    initiator = initiator_of(device, operands[0])
     sent = [hex_bytes(word) for word in operands[1:]]
     if None in sent:
         raise Fault("hex")
@@ -117,7 +117,7 @@ def fill(device, operands):
     """fill I LBA COUNT BYTE: a WRITE(16) of equal bytes (SBC-3, 5.35)"""
     if len(operands) != 4:
         raise Fault("usage")
-    initiator = initiator_of(operands[0])
+    initiator = initiator_of(device, operands[0])
     most = (2**64 - 1, 256, 255)
     numbers = [number(word, 0, limit) for word, limit in zip(operands[1:], most)]
     if None in numbers:
@@ -164,9 +164,10 @@ def reset(device, operands):
 
 def nexus(device, operands):
     """nexus I: initiator I loses its I_T nexus"""
-    if len(operands) != 1 or not is_initiator(operands[0]):
+    initiators = [initiator_in(word, device.profile) for word in operands]
+    if len(initiators) != 1 or None in initiators:
         raise Fault("usage")
-    device.nexus_loss(int(operands[0]))
+    device.nexus_loss(*initiators)
     return ["NEXUS LOSS"], 0
 
 
@@ -181,10 +182,11 @@ def grow(device, operands):
 
 def attention(device, operands):
     """attention CODE [I]...: a condition is established for each initiator, or for those named"""
-    code, *initiators = operands or [""]
-    if code not in CODES or not all(map(is_initiator, initiators)):
+    code, *words = operands or [""]
+    initiators = [initiator_in(word, device.profile) for word in words]
+    if code not in CODES or None in initiators:
         raise Fault("usage")
-    device.raise_attention([int(digit) for digit in initiators or INITIATORS], CODES[code])
+    device.raise_attention(initiators or device.initiators, CODES[code])
     return ["ATTENTION"], 0
 
 
@@ -217,16 +219,17 @@ def fault(device, operands):
 
 
 def faults(device, operands):
-    """faults: the armed faults in the words that arm them, and what is left of them"""
+    """faults: the armed faults in the words that arm them, and what is left for each initiator whose
+    commands a fault has counted"""
     if operands:
         raise Fault("usage")
     lines = ["FAULTS"]
     for slot, armed in enumerate(device.faults.slots):
         if armed:
             lines.append(f"  {slot}: {fault_text(armed)}")
-            for initiator, (skip, times) in sorted(armed.left.items()):
-                if skip or times is not None:
-                    lines.append(f"    to {initiator}:{counts_text(skip, times)}")
+            for initiator, left in sorted(armed.left.items()):
+                if left != [armed.skip, armed.times]:
+                    lines.append(f"    to {initiator}:{counts_text(*left) or ' skip 0'}")
     return lines, 0
 
 
@@ -244,7 +247,7 @@ def fault_text(armed):
     if armed.healed:
         text += " healed"
     text += counts_text(armed.skip, armed.times)
-    if len(armed.initiators) < len(INITIATORS):
+    if len(armed.initiators) < len(INITIATORS["extended"]):
         text += "".join(f" to {initiator}" for initiator in sorted(armed.initiators))
     return text
 
@@ -285,6 +288,12 @@ def extent(address, count):
     return None if None in numbers else numbers
 
 
+def named(word):
+    """`to I`, with the set of initiator I"""
+    initiator = initiator_in(word, "extended")
+    return None if initiator is None else {initiator}
+
+
 SENSE_CODE = re.compile("([0-9abdefABDEF])/([0-9a-fA-F]{2})/([0-9a-fA-F]{2})")  # Ch is no sense key
 OPERATION_CODE = re.compile("([0-9a-fA-F]{2})h")
 WHAT_AT = {
@@ -294,7 +303,7 @@ WHAT_AT = {
 }
 OPERANDS = {"to": 1, "code": 1, "blocks": 2, "healed": 0, "skip": 1, "times": 1}
 OPTION_VALUES = {
-    "to": lambda word: {int(word)} if is_initiator(word) else None,
+    "to": named,
     "code": lambda word: int(word[:2], 16) if OPERATION_CODE.fullmatch(word) else None,
     "blocks": extent,
     "healed": lambda: True,
@@ -318,14 +327,18 @@ OF_EXTENDED = {"reset": reset, "nexus": nexus, "grow": grow, "attention": attent
 VERBS = {"base": OF_BOTH, "extended": OF_BOTH | OF_EXTENDED}
 
 
-def is_initiator(word):
-    return len(word) == 1 and word in INITIATORS
+def initiator_in(word, profile):
+    """The initiator that a word names, or None. On a base disk it is one digit."""
+    if profile == "base" and len(word) != 1:
+        return None
+    return number(word, 0, INITIATORS[profile][-1])
 
 
-def initiator_of(word):
-    if not is_initiator(word):
+def initiator_of(device, word):
+    initiator = initiator_in(word, device.profile)
+    if initiator is None:
         raise Fault("initiator")
-    return int(word)
+    return initiator
 
 
 # ----------------------------------------------------------------------------------------- replies

@@ -106,7 +106,7 @@ static void trace(struct scsi_cmd *cmd, int initiator, const mdl_reply *reply)
 static mdl_error execute_of_session(struct scsi_cmd *cmd, int initiator, mdl_reply *reply)
 {
     int preempts = is_preempt_and_abort(cmd->scb, (size_t)cmd->scb_len);
-    uint32_t lost = preempts ? registered_initiators(cmd->dev) : 0;
+    uint64_t lost = preempts ? registered_initiators(cmd->dev) : 0;
     mdl_error error;
     int other;
 
@@ -116,7 +116,7 @@ static mdl_error execute_of_session(struct scsi_cmd *cmd, int initiator, mdl_rep
     error = execute_command(cmd, (uint32_t)initiator, reply);
     if (preempts)
         lost &= ~registered_initiators(cmd->dev);
-    for (other = 0; other < PORT_NUMBERS; other++)
+    for (other = 0; other < MOST_PORT_NUMBERS; other++)
         if (lost >> other & 1)
             end_held_of(cmd->dev, other);
     return error;
@@ -233,10 +233,29 @@ static int open_ports(struct scsi_lu *lu, const char *file, char *reason)
         return 0;
     }
     eprintf("LUN %" PRIu64 ": the disk is in %s\n", lu->lun, unit->file);
-    for (number = 0; number < PORT_NUMBERS; number++)
+    for (number = 0; number < unit->table.numbers; number++)
         if (unit->table.last_use[number])
             log_number(lu, number, &unit->table.ports[number]);
     return 1;
+}
+
+/* A new table, without ports: each initiator of the disk is a number. */
+static void begin_ports(struct unit *unit)
+{
+    uint32_t initiators = 0;
+
+    mdl_initiators(&unit->disk, &initiators);
+    port_clear(&unit->table, (int)initiators);
+    memset(&unit->refused, 0, sizeof unit->refused);
+}
+
+/* Makes or opens the disk that is asked for, with its ports. Returns 0 if that fails, with a text of why. */
+static int open_asked(struct scsi_lu *lu, struct asked *asked, char *reason)
+{
+    if (!make_disk(lu, asked, reason))
+        return 0;
+    begin_ports(unit_of(lu));
+    return !asked->file || open_ports(lu, asked->file, reason);
 }
 
 static int open_disk(struct scsi_lu *lu, char *path, int *fd, uint64_t *size)
@@ -249,10 +268,8 @@ static int open_disk(struct scsi_lu *lu, char *path, int *fd, uint64_t *size)
         eprintf("no disk: %s is not blocks=N:pool=N[:profile=NAME][:seed=N][:file=PATH]\n", path);
         return -EINVAL;
     }
-    memset(&unit->table, 0, sizeof unit->table);
-    memset(&unit->refused, 0, sizeof unit->refused);
     unit->file = NULL;
-    if (!make_disk(lu, &asked, reason) || (asked.file && !open_ports(lu, asked.file, reason))) {
+    if (!open_asked(lu, &asked, reason)) {
         eprintf("no disk: %s\n", reason);
         return -EINVAL;
     }

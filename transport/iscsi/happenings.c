@@ -45,9 +45,9 @@ static void end_commands(struct scsi_lu *lu, const mdl_happening *happening)
     }
 }
 
-/* Tells the disk, and writes a line to tgtd's log while its debug messages are on. Returns 0 if the
- * disk refuses it. */
-static int happen(struct scsi_lu *lu, const mdl_happening *happening)
+/* Tells the disk, and writes a line to tgtd's log while its debug messages are on. Returns the disk's
+ * error. */
+static mdl_error happen(struct scsi_lu *lu, const mdl_happening *happening)
 {
     mdl_error error;
 
@@ -56,14 +56,14 @@ static int happen(struct scsi_lu *lu, const mdl_happening *happening)
     if (error) {
         eprintf("LUN %" PRIu64 ": no %s: error %d of mehdalung.h\n", lu->lun,
                 name_of(happening->kind), (int)error);
-        return 0;
+        return error;
     }
     end_commands(lu, happening);
     if (is_debug && happening->kind == MDL_NEXUS_LOSS)
         dprintf("TRACE initiator %u, %s\n", happening->initiator, name_of(happening->kind));
     else if (is_debug)
         dprintf("TRACE %s\n", name_of(happening->kind));
-    return 1;
+    return MDL_OK;
 }
 
 static void lose_nexus(struct scsi_lu *lu, int initiator)
@@ -74,28 +74,29 @@ static void lose_nexus(struct scsi_lu *lu, int initiator)
 }
 
 /* Bit i is set if the session of initiator i is among tgtd's. */
-static unsigned initiators_in_session(struct scsi_lu *lu)
+static uint64_t initiators_in_session(struct scsi_lu *lu)
 {
+    const struct unit *unit = unit_of(lu);
     const struct it_nexus *nexus;
-    unsigned found = 0;
+    uint64_t found = 0;
     int initiator;
 
     list_for_each_entry(nexus, &lu->tgt->it_nexus_list, nexus_siblings)
-        for (initiator = 0; initiator < PORT_NUMBERS; initiator++)
-            if (unit_of(lu)->sessions[initiator] == nexus->itn_id)
-                found |= 1u << initiator;
+        for (initiator = 0; initiator < unit->table.numbers; initiator++)
+            if (unit->sessions[initiator] == nexus->itn_id)
+                found |= UINT64_C(1) << initiator;
     return found;
 }
 
 void notice(struct scsi_lu *lu)
 {
-    uint64_t *sessions = unit_of(lu)->sessions;
-    unsigned present = initiators_in_session(lu);
+    struct unit *unit = unit_of(lu);
+    uint64_t present = initiators_in_session(lu);
     int initiator;
 
-    for (initiator = 0; initiator < PORT_NUMBERS; initiator++)
-        if (sessions[initiator] && !(present >> initiator & 1)) {
-            sessions[initiator] = 0;
+    for (initiator = 0; initiator < unit->table.numbers; initiator++)
+        if (unit->sessions[initiator] && !(present >> initiator & 1)) {
+            unit->sessions[initiator] = 0;
             lose_nexus(lu, initiator);
         }
 }
@@ -141,7 +142,7 @@ static int reset_target(const struct target *target)
     list_for_each_entry(lu, &target->device_list, device_siblings)
         if (lu->bst == own_store) {
             notice(lu);
-            is_done &= happen(lu, &reset);
+            is_done &= happen(lu, &reset) == MDL_OK;
         }
     return is_done;
 }
@@ -300,21 +301,22 @@ static tgtadm_err log_faults(struct scsi_lu *lu)
     return TGTADM_SUCCESS;
 }
 
-/* Does what words of a script's line ask for. */
+/* Does what words of a script's line ask for. An initiator that the disk does not have is a wrong word. */
 static tgtadm_err happen_by_words(struct scsi_lu *lu, const char *words)
 {
     mdl_happening happening;
-    int is_done;
+    mdl_error error;
 
     if (mdl_read_happening(words, &happening))
         return TGTADM_UNKNOWN_PARAM;
     if (happening.kind == MDL_TARGET_RESET)
-        is_done = reset_target(lu->tgt);
-    else
-        is_done = happen(lu, &happening);
-    if (is_done && happening.kind == MDL_GROW && happening.blocks * MDL_BLOCK_LENGTH > lu->size)
+        return reset_target(lu->tgt) ? TGTADM_SUCCESS : TGTADM_INVALID_REQUEST;
+    error = happen(lu, &happening);
+    if (error)
+        return error == MDL_NO_INITIATOR ? TGTADM_UNKNOWN_PARAM : TGTADM_INVALID_REQUEST;
+    if (happening.kind == MDL_GROW && happening.blocks * MDL_BLOCK_LENGTH > lu->size)
         lu->size = happening.blocks * MDL_BLOCK_LENGTH;
-    return is_done ? TGTADM_SUCCESS : TGTADM_INVALID_REQUEST;
+    return TGTADM_SUCCESS;
 }
 
 tgtadm_err update(struct scsi_lu *lu, char *params)

@@ -10,8 +10,9 @@
 #include <sys/stat.h>
 #include <unistd.h>
 
-/* The whole file: eight ports, and two lines of ours. */
-enum { MOST_TEXT = (PORT_NUMBERS + 1) * PORT_TEXT_LENGTH, MOST_PATH = PATH_MAX + 16 };
+/* The whole file: a line for each number, and two lines of ours. The numbers and our lines fit into the room
+ * of one more port. */
+enum { MOST_TEXT = (MOST_PORT_NUMBERS + 1) * PORT_TEXT_LENGTH, MOST_PATH = PATH_MAX + 16 };
 
 enum { ISID_DIGITS = 12, PRIVATE = 0600, ALL_PERMISSIONS = 07777 };
 
@@ -41,12 +42,12 @@ static int is_port(const char *text)
 /* Reads a line without its end. Returns 0 if it is none, or gives a number or a port twice. */
 static int read_line(struct port_table *table, const char *line)
 {
-    int number = line[0] - '0';
+    int number = port_read_number(table, &line);
     struct port port;
 
-    if (number < 0 || number >= PORT_NUMBERS || line[1] != ' ' || !is_port(line + 2))
+    if (number == NO_NUMBER || *line != ' ' || !is_port(line + 1))
         return 0;
-    strcpy(port.text, line + 2);
+    strcpy(port.text, line + 1);
     if (table->last_use[number] || port_number(table, &port) != NO_NUMBER)
         return 0;
     table->ports[number] = port;
@@ -106,7 +107,6 @@ int read_ports(struct port_table *table, const char *disk)
     char path[MOST_PATH];
     int error = path_beside(path, disk, PORTS_SUFFIX);
 
-    memset(table, 0, sizeof *table);
     if (!error)
         error = load(path, text);
     if (error)
@@ -119,7 +119,7 @@ static int next_used(const struct port_table *table, uint64_t use)
 {
     int number, next = NO_NUMBER;
 
-    for (number = 0; number < PORT_NUMBERS; number++)
+    for (number = 0; number < table->numbers; number++)
         if (table->last_use[number] > use
             && (next == NO_NUMBER || table->last_use[number] < table->last_use[next]))
             next = number;

@@ -6,10 +6,11 @@
  *     2 iqn.2026-11.org.example:initiator-7,i,0x804d44480007
  *     end
  *
- * A line has a number and the port that has it. The port that was used last when the file was written is
- * in the last line. The file is written whole, to FILE.ports.new, which then takes the place of the
- * other in one step. It has the permissions of the disk's file, and its owner if that is allowed. A
- * symbolic link in the place of either is not followed. The lock of the disk's file is for both. */
+ * A line has a number and the port that has it, so a base disk has up to 8 lines, and an extended disk up to
+ * 64. The port that was used last when the file was written is in the last line. The file is written whole,
+ * to FILE.ports.new, which then takes the place of the other in one step. It has the permissions of the
+ * disk's file, and its owner if that is allowed. A symbolic link in the place of either is not followed. The
+ * lock of the disk's file is for both. */
 #ifndef KEPT_PORTS_H
 #define KEPT_PORTS_H
 
@@ -18,8 +19,8 @@
 /* What follows the path of the disk's file. */
 #define PORTS_SUFFIX ".ports"
 
-/* Reads the table of a disk's file. Without a file of ports it is empty. Returns 0, or an errno.
- * EBADMSG means that the file has something else, or is damaged. */
+/* Reads the ports of a disk's file into a table without ports. Without a file of ports it stays so. Returns
+ * 0, or an errno. EBADMSG means that the file has something else, or is damaged. */
 int read_ports(struct port_table *table, const char *disk);
 
 /* Puts the table into the file of ports. When it returns, the table is there even after a crash. Returns

@@ -27,11 +27,11 @@ static int get_port(const struct target *target, uint64_t session, struct port *
 }
 
 /* Bit i is set if the port that has number i has a session. */
-static unsigned numbers_with_session(struct scsi_lu *lu)
+static uint64_t numbers_with_session(struct scsi_lu *lu)
 {
     struct it_nexus *nexus;
     struct port port;
-    unsigned found = 0;
+    uint64_t found = 0;
     int number;
 
     list_for_each_entry(nexus, &lu->tgt->it_nexus_list, nexus_siblings) {
@@ -39,12 +39,12 @@ static unsigned numbers_with_session(struct scsi_lu *lu)
         if (get_port(lu->tgt, nexus->itn_id, &port))
             number = port_number(&unit_of(lu)->table, &port);
         if (number != NO_NUMBER)
-            found |= 1u << number;
+            found |= UINT64_C(1) << number;
     }
     return found;
 }
 
-uint32_t registered_initiators(struct scsi_lu *lu)
+uint64_t registered_initiators(struct scsi_lu *lu)
 {
     return registered_mask(&unit_of(lu)->disk);
 }
@@ -94,7 +94,7 @@ static int take_number(struct scsi_lu *lu, const struct port *port)
     if (number == NO_NUMBER) {
         if (port_refuse(&unit->refused, port))
             eprintf("LUN %" PRIu64 ": no disk for %s: each of the %d initiators has a session or is "
-                    "registered\n", lu->lun, port->text, PORT_NUMBERS);
+                    "registered\n", lu->lun, port->text, next.numbers);
         return NO_NUMBER;
     }
     if (!keep_ports(lu, &next))
@@ -137,10 +137,10 @@ tgtadm_err log_ports(struct scsi_lu *lu)
 {
     static const char *const states[] = { "free", "session", "registered", "session, registered" };
     const struct port_table *table = &unit_of(lu)->table;
-    unsigned registered = registered_initiators(lu), present = numbers_with_session(lu);
+    uint64_t registered = registered_initiators(lu), present = numbers_with_session(lu);
     int number;
 
-    for (number = 0; number < PORT_NUMBERS; number++)
+    for (number = 0; number < table->numbers; number++)
         if (table->last_use[number])
             eprintf("PORT initiator %d is %s: %s\n", number, table->ports[number].text,
                     states[(registered >> number & 1) * 2 + (present >> number & 1)]);
@@ -180,7 +180,7 @@ static int unregister(struct scsi_lu *lu, int initiator)
 /* Returns why a number can't be given up, or null. */
 static const char *why_not_forgotten(struct scsi_lu *lu, int number, int with_registration)
 {
-    unsigned bit = 1u << number;
+    uint64_t bit = UINT64_C(1) << number;
 
     if (!unit_of(lu)->table.last_use[number])
         return "has no port";
@@ -220,11 +220,11 @@ static tgtadm_err forget_number(struct scsi_lu *lu, int number, int with_registr
 
 tgtadm_err forget_port(struct scsi_lu *lu, const char *words)
 {
-    int number = words[0] - '0';
+    int number = port_read_number(&unit_of(lu)->table, &words);
 
-    if (number < 0 || number >= PORT_NUMBERS)
+    if (number == NO_NUMBER)
         return TGTADM_UNKNOWN_PARAM;
-    if (strcmp(words + 1, " registered") == 0)
+    if (strcmp(words, " registered") == 0)
         return forget_number(lu, number, 1);
-    return words[1] ? TGTADM_UNKNOWN_PARAM : forget_number(lu, number, 0);
+    return *words ? TGTADM_UNKNOWN_PARAM : forget_number(lu, number, 0);
 }

@@ -19,7 +19,7 @@ int initiator_of(struct scsi_cmd *cmd);
 int finds_number(struct scsi_lu *lu, uint64_t session);
 
 /* Bit i is set if initiator i is registered. */
-uint32_t registered_initiators(struct scsi_lu *lu);
+uint64_t registered_initiators(struct scsi_lu *lu);
 
 /* Writes the port of a number to tgtd's log. */
 void log_number(const struct scsi_lu *lu, int number, const struct port *port);
@@ -28,8 +28,9 @@ void log_number(const struct scsi_lu *lu, int number, const struct port *port);
 tgtadm_err log_ports(struct scsi_lu *lu);
 
 /* Gives up a number whose port never comes back. The words are "N", or "N registered": only then a
- * registration is removed, as by REGISTER AND IGNORE EXISTING KEY of that port. A number whose port has a
- * session is not given up. If it is not, tgtd's log says why. */
+ * registration is removed, as by REGISTER AND IGNORE EXISTING KEY of that port. N is a number of the disk as
+ * `log_ports` writes it. A number whose port has a session is not given up. If it is not, tgtd's log says
+ * why. */
 tgtadm_err forget_port(struct scsi_lu *lu, const char *words);
 
 #endif

@@ -1,9 +1,10 @@
 /* See ports.h. */
 #include "ports.h"
 
+#include <stdlib.h>
 #include <string.h>
 
-enum { TRANSPORT_ID_HEADER = 4, ISID_SEPARATOR = 5, ISID_LENGTH = 6 };
+enum { TRANSPORT_ID_HEADER = 4, ISID_SEPARATOR = 5, ISID_LENGTH = 6, MOST_NUMBER_DIGITS = 2 };
 
 static char *put_hexadecimal(char *end, unsigned char byte)
 {
@@ -35,11 +36,31 @@ void port_read(struct port *port, const char *transport_id)
     *end = '\0';
 }
 
+void port_clear(struct port_table *table, int numbers)
+{
+    memset(table, 0, sizeof *table);
+    table->numbers = numbers;
+}
+
+int port_read_number(const struct port_table *table, const char **text)
+{
+    size_t length = strspn(*text, "0123456789");
+    int number;
+
+    if (length == 0 || length > MOST_NUMBER_DIGITS || (length > 1 && **text == '0'))
+        return NO_NUMBER;
+    number = atoi(*text);
+    if (number >= table->numbers)
+        return NO_NUMBER;
+    *text += length;
+    return number;
+}
+
 int port_number(const struct port_table *table, const struct port *port)
 {
     int number;
 
-    for (number = 0; number < PORT_NUMBERS; number++)
+    for (number = 0; number < table->numbers; number++)
         if (table->last_use[number] && strcmp(table->ports[number].text, port->text) == 0)
             return number;
     return NO_NUMBER;
@@ -50,11 +71,11 @@ void port_use(struct port_table *table, int number)
     table->last_use[number] = ++table->uses;
 }
 
-int port_take_number(struct port_table *table, const struct port *port, unsigned kept)
+int port_take_number(struct port_table *table, const struct port *port, uint64_t kept)
 {
     int number, least = NO_NUMBER;
 
-    for (number = 0; number < PORT_NUMBERS; number++)
+    for (number = 0; number < table->numbers; number++)
         if (!(kept >> number & 1)
             && (least == NO_NUMBER || table->last_use[number] < table->last_use[least]))
             least = number;

@@ -27,12 +27,12 @@ struct unit {
     char *file; /* the path of the disk's file, without symbolic links; null: the disk is in memory */
     struct port_table table;
     struct refused_ports refused;
-    uint64_t sessions[PORT_NUMBERS]; /* of the port that has the number; 0: none, or it was lost */
-    struct list_head held;           /* commands without a reply, by their field bs_list */
+    uint64_t sessions[MOST_PORT_NUMBERS]; /* of the port that has the number; 0: none, or it was lost */
+    struct list_head held;                /* commands without a reply, by their field bs_list */
     struct waiting waiting;
 };
 
-_Static_assert(PORT_NUMBERS == MDL_INITIATORS, "a number for each initiator");
+_Static_assert(MOST_PORT_NUMBERS == MDL_MOST_INITIATORS, "a number for each initiator");
 
 static inline struct unit *unit_of(struct scsi_lu *lu)
 {

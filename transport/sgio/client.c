@@ -78,7 +78,7 @@ static mdl_error execute_command(struct client *client, mdl_disk *disk, const st
     const struct request_header *request = &client->header;
     const uint8_t *cdb = client->request + REQUEST_HEADER_LENGTH;
     int preempts = watcher && is_preempt_and_abort(cdb, request->cdb_length);
-    uint32_t before = preempts ? registered_mask(disk) : 0;
+    uint64_t before = preempts ? registered_mask(disk) : 0;
     mdl_error error = mdl_execute(disk, request->initiator, cdb, request->cdb_length,
                                   cdb + request->cdb_length, request->data_out_length,
                                   client->reply + REPLY_HEADER_LENGTH, MDL_BUFFER_LENGTH, reply);
@@ -86,6 +86,14 @@ static mdl_error execute_command(struct client *client, mdl_disk *disk, const st
     if (preempts)
         watcher->preempted(watcher->context, before & ~registered_mask(disk));
     return error;
+}
+
+static mdl_error find_initiator(mdl_disk *disk, uint8_t initiator)
+{
+    uint32_t count = 0;
+    mdl_error error = mdl_initiators(disk, &count);
+
+    return error ? error : initiator < count ? MDL_OK : MDL_NO_INITIATOR;
 }
 
 /* Executes a whole request, and leaves its reply to be sent, if it has one. */
@@ -105,7 +113,9 @@ static void execute(struct client *client, mdl_disk *disk, const struct watcher 
     else if (request->kind == HAPPENING) {
         get_happening(client->request + REQUEST_HEADER_LENGTH, &happening);
         header.result = (uint8_t)let_happen(disk, &happening, watcher);
-    } else
+    } else if (request->kind == QUESTION)
+        header.result = (uint8_t)find_initiator(disk, request->initiator);
+    else
         header.result = (uint8_t)execute_command(client, disk, watcher, &reply);
     header.status = reply.status;
     header.tag = client->is_last ? 0 : request->tag;

@@ -19,7 +19,7 @@ struct client {
  * registrations by a client's PREEMPT AND ABORT. */
 struct watcher {
     void (*happened)(void *context, const mdl_happening *happening);
-    void (*preempted)(void *context, uint32_t initiators);
+    void (*preempted)(void *context, uint64_t initiators);
     void *context;
 };
 

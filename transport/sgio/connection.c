@@ -199,6 +199,15 @@ int exchange_power_cycle(int connection, struct reply_header *reply)
     return exchange_bytes(connection, request, sizeof request, -1, reply, NULL);
 }
 
+int exchange_question(int connection, uint8_t initiator, int timeout, struct reply_header *reply)
+{
+    const struct request_header header = { QUESTION, initiator, 0, 0, 0 };
+    uint8_t request[REQUEST_HEADER_LENGTH];
+
+    put_request_header(request, &header);
+    return exchange_bytes(connection, request, sizeof request, timeout, reply, NULL);
+}
+
 int exchange_happening(int connection, const mdl_happening *happening, int timeout,
                        struct reply_header *reply)
 {

@@ -33,6 +33,10 @@ int exchange_command(int connection, struct exchange *exchange);
 /* The same for a power cycle. `reply` is written. */
 int exchange_power_cycle(int connection, struct reply_header *reply);
 
+/* The same for the question whether the disk has an initiator, with a timeout in milliseconds, or -1. `reply`
+ * is written. */
+int exchange_question(int connection, uint8_t initiator, int timeout, struct reply_header *reply);
+
 /* The same for what happens to the disk, with a timeout in milliseconds, or -1. `reply` is written. */
 int exchange_happening(int connection, const mdl_happening *happening, int timeout,
                        struct reply_header *reply);

@@ -45,12 +45,16 @@ size_t get_request_header(const uint8_t *bytes, struct request_header *header)
     header->tag = bytes[2];
     header->cdb_length = bytes[3];
     header->data_out_length = get_number(bytes + 4);
-    if (header->kind == POWER_CYCLE || header->kind == HAPPENING)
+    switch (header->kind) {
+    case COMMAND:
+        return header->data_out_length > MOST_DATA_OUT
+                   ? 0 : (size_t)REQUEST_HEADER_LENGTH + header->cdb_length + header->data_out_length;
+    case POWER_CYCLE: case HAPPENING:
         return header->initiator || header->cdb_length || header->data_out_length != own_length
                    ? 0 : REQUEST_HEADER_LENGTH + own_length;
-    if (header->kind != COMMAND || header->data_out_length > MOST_DATA_OUT)
-        return 0;
-    return (size_t)REQUEST_HEADER_LENGTH + header->cdb_length + header->data_out_length;
+    case QUESTION: return header->cdb_length || header->data_out_length ? 0 : REQUEST_HEADER_LENGTH;
+    default: return 0;
+    }
 }
 
 static void put_long_number(uint8_t *bytes, uint64_t number)

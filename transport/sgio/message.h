@@ -5,9 +5,10 @@
  * one. Numbers are big-endian.
  *
  * A request has these bytes:
- *     - 0: KIND, 1 for a command, 2 for a power cycle and 3 for a happening. If it is 2, all other
- *       bytes are 0, except TAG. If it is 3, the bytes 1 and 3 are 0, and DATA-OUT LENGTH is 65.
- *     - 1: INITIATOR, 0 to 7.
+ *     - 0: KIND, 1 for a command, 2 for a power cycle, 3 for a happening and 4 for a question. If it is 2,
+ *       all other bytes are 0, except TAG. If it is 3, the bytes 1 and 3 are 0, and DATA-OUT LENGTH is 65.
+ *       If it is 4, all other bytes are 0, except INITIATOR and TAG.
+ *     - 1: INITIATOR. A base disk has initiators 0 to 7, and an extended disk 0 to 63.
  *     - 2: TAG, any byte. The reply has it, too.
  *     - 3: CDB LENGTH, 0 to 255.
  *     - 4 to 7: DATA-OUT LENGTH, 0 to 2,097,152.
@@ -36,6 +37,9 @@
  *           - 62: key.
  *           - 63: asc.
  *           - 64: ascq.
+ *
+ * The question is whether the disk has INITIATOR. If it does not, RESULT is MDL_NO_INITIATOR, as it is for a
+ * command. Otherwise RESULT is 0, and all other bytes of the reply are 0, except TAG.
  *
  * A reply has these bytes:
  *     - 0: RESULT, an mdl_error, or 255. It is 0 if the request was executed.
@@ -79,7 +83,7 @@ enum {
 /* Where TAG is in both headers. */
 enum { TAG_AT = 2 };
 
-enum request_kind { COMMAND = 1, POWER_CYCLE = 2, HAPPENING = 3 };
+enum request_kind { COMMAND = 1, POWER_CYCLE = 2, HAPPENING = 3, QUESTION = 4 };
 
 enum { RESULT_MALFORMED = 255 };
 

@@ -24,7 +24,7 @@ void note_happening(struct unit *unit, const mdl_happening *happening)
         end_held(unit, ANY_PORT, ANY_TAG, VIRTIO_SCSI_S_RESET);
         break;
     case MDL_NEXUS_LOSS:
-        end_held_of(unit, 1u << happening->initiator, VIRTIO_SCSI_S_RESET);
+        end_held_of(unit, UINT64_C(1) << happening->initiator, VIRTIO_SCSI_S_RESET);
         break;
     case MDL_GROW: note_growth(unit); break;
     default: break;

@@ -77,7 +77,7 @@ void end_held(struct unit *unit, const struct port *port, const uint64_t *tag, u
     answer_all_ended(unit);
 }
 
-void end_held_of(struct unit *unit, uint32_t initiators, uint8_t response)
+void end_held_of(struct unit *unit, uint64_t initiators, uint8_t response)
 {
     struct held *it;
 

@@ -16,7 +16,7 @@ int hold(struct unit *unit, struct port *port, struct queue *queue, uint16_t hea
 void end_held(struct unit *unit, const struct port *port, const uint64_t *tag, uint8_t response);
 
 /* Ends held commands of ports in a mask of initiators. */
-void end_held_of(struct unit *unit, uint32_t initiators, uint8_t response);
+void end_held_of(struct unit *unit, uint64_t initiators, uint8_t response);
 
 /* Ends held commands of one queue. */
 void end_held_in(struct unit *unit, const struct queue *queue, uint8_t response);

@@ -90,7 +90,7 @@ static enum fate execute(struct unit *unit, const struct port *port, const struc
                          struct answer *answer)
 {
     struct virtio_scsi_cmd_req request;
-    uint32_t before = 0;
+    uint64_t before = 0;
     enum fate fate;
     int preempts;
 

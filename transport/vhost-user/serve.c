@@ -3,12 +3,13 @@
  *     serve [--disk FILE] [--blocks N] [--pool N] [--profile NAME] [--seed N] [--vendor TEXT]
  *           [--product TEXT] [--revision TEXT] [--serial TEXT] [--local N] [--socket PATH] SOCKET ..
  *
- * Each SOCKET is an initiator of the disk, from 0 on, and serves one guest at a time. PATH is a socket for
- * `happen`, `power` and `join` of transport/sgio. The disk is in memory, or FILE keeps it. Blocks and
- * pool have to be given, unless FILE has a disk. It prints a line for each socket when it listens, and
- * ends with status 0 on SIGTERM, SIGINT or SIGHUP. A disk in memory is gone then, and one in a file is
- * all there. The sockets are gone. */
+ * Each SOCKET is an initiator of the disk, from 0 on, and serves one guest at a time. A base disk has at most
+ * 8 of them, and an extended disk 64. PATH is a socket for `happen`, `power` and `join` of transport/sgio.
+ * The disk is in memory, or FILE keeps it. Blocks and pool have to be given, unless FILE has a disk. It
+ * prints a line for each socket when it listens, and ends with status 0 on SIGTERM, SIGINT or SIGHUP. A disk
+ * in memory is gone then, and one in a file is all there. The sockets are gone. */
 #include <errno.h>
+#include <inttypes.h>
 #include <poll.h>
 #include <sched.h>
 #include <stdio.h>
@@ -36,10 +37,11 @@ static int fail(const char *what, const char *why)
     return 1;
 }
 
-/* Moves the sockets out of the words, which are pairs of an option and a value then. Returns null, or what is
- * wrong. */
+/* Moves the sockets out of the words, which are pairs of an option and a value then. It counts them all, but
+ * only MDL_MOST_INITIATORS have a port. Returns null, or what is wrong. */
 static const char *take_sockets(int *count, char **words, struct unit *unit)
 {
+    struct port *port;
     int at, kept = 1;
 
     for (at = 1; at < *count; at++)
@@ -47,14 +49,31 @@ static const char *take_sockets(int *count, char **words, struct unit *unit)
             words[kept++] = words[at];
             if (at + 1 < *count)
                 words[kept++] = words[++at];
-        } else if (unit->port_count == MDL_INITIATORS) {
-            return "the disk has no more than 8 initiators";
-        } else {
-            unit->ports[unit->port_count].initiator = unit->port_count;
-            unit->ports[unit->port_count++].path = words[at];
+        } else if (unit->port_count++ < MDL_MOST_INITIATORS) {
+            port = &unit->ports[unit->port_count - 1];
+            port->initiator = unit->port_count - 1;
+            port->path = words[at];
         }
     *count = kept;
     return unit->port_count > 0 ? NULL : "there is no socket";
+}
+
+/* Returns 1 if the disk has an initiator for each socket, and otherwise says how many it has. */
+static int has_initiators(const struct unit *unit, uint32_t initiators)
+{
+    char text[64];
+
+    if (unit->port_count <= initiators)
+        return 1;
+    snprintf(text, sizeof text, "the disk has no more than %" PRIu32 " initiators", initiators);
+    fail("SOCKET", text);
+    return 0;
+}
+
+/* The initiators of the disk that the options ask for. A file may have a disk that has fewer. */
+static uint32_t asked_initiators(const struct options *options)
+{
+    return options->profile == MDL_PROFILE_BASE ? MDL_INITIATORS : MDL_MOST_INITIATORS;
 }
 
 /* DPDK wants a folder, into which it puts nothing here. With its own choice two users would be in the way of
@@ -101,7 +120,7 @@ static void note(void *unit, const mdl_happening *happening)
 }
 
 /* A client of transport/sgio has taken registrations by PREEMPT AND ABORT. */
-static void end_preempted(void *unit, uint32_t initiators)
+static void end_preempted(void *unit, uint64_t initiators)
 {
     end_held_of(unit, initiators, VIRTIO_SCSI_S_ABORTED);
 }
@@ -201,15 +220,19 @@ int main(int count, char **words)
     struct options options;
     char reason[REASON_LENGTH];
     const char *word = "SOCKET", *fault = take_sockets(&count, words, &unit);
+    uint32_t initiators = 0;
     int status;
 
     if (!fault)
         fault = read_options(count, words, 0, &options, &word);
     if (fault)
         return fail(word, fault);
+    if (!has_initiators(&unit, asked_initiators(&options)))
+        return 1;
     if (!make_disk(&options, &unit.disk, reason))
         return fail("the disk", reason);
-    status = run(&unit, options.socket);
+    mdl_initiators(&unit.disk, &initiators);
+    status = has_initiators(&unit, initiators) ? run(&unit, options.socket) : 1;
     if (mdl_close(&unit.disk))
         status = fail(options.disk, "the file may lack a part of what was changed");
     return status;

@@ -58,7 +58,7 @@ enum { MOST_WAITING = 64 };
 
 struct unit {
     mdl_disk disk;
-    struct port ports[MDL_INITIATORS];
+    struct port ports[MDL_MOST_INITIATORS];
     unsigned port_count;
     struct held *held;
     struct waiting waiting[MOST_WAITING];

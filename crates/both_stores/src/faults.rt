@@ -7,7 +7,7 @@ use sg_wire::Extent;
 /// The next fault. It is gone after a few commands.
 pub fn next_fault(random: &mut Random) -> Option<Fault> {
     Some(Fault {
-        initiators: Initiators::of_mask(u64::from(random.byte()))?,
+        initiators: Initiators::of_mask(u64::from(random.byte())),
         code: next_code(random),
         blocks: next_blocks(random),
         skip: u16::from(random.byte() % 4),

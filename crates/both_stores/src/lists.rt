@@ -223,7 +223,7 @@ impl Disks {
     /// Arms a fault that meets no command of a list.
     fn arm_for_none(&mut self, fault: Fault) -> Option<()> {
         let others = Fault {
-            initiators: Initiators::of_mask(0xFC)?,
+            initiators: Initiators::of_mask(0xFC),
             ..fault
         };
         self.runs.happen(Happening::Arm(others));

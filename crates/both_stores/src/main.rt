@@ -51,7 +51,7 @@ fn next_happening(random: &mut Random) -> Option<Happening> {
         3 => Happening::Grow(BLOCKS + u64::from(random.byte())),
         4 => {
             let condition = UnitAttention::with_code(0x3F, 0x0E)?;
-            Happening::Establish(condition, Initiators::of_mask(u64::from(random.byte()))?)
+            Happening::Establish(condition, Initiators::of_mask(u64::from(random.byte())))
         }
         5 => Happening::DisarmAll,
         6 => Happening::Disarm(usize::from(random.byte() % 8)),

@@ -5,7 +5,7 @@ use std::marker::Model;
 /// Takes up to 1,024 bytes.
 #[derive(Drop)]
 pub struct Buffer {
-    bytes: [u8; 1024],
+    bytes: [u8; 4096],
     used: usize,
 }
 
@@ -16,7 +16,7 @@ impl Model for Buffer {
 
     ghost view = { λ b. take b.used b.bytes };
 
-    ghost invariant = { λ b. (b.used ≤ 1024) × (length b.bytes ≡ 1024) };
+    ghost invariant = { λ b. (b.used ≤ 4096) × (length b.bytes ≡ 4096) };
 }
 
 ghost use Rattle.std.specs.Prelude.{◌≡◌, [], length};
@@ -26,7 +26,7 @@ impl Buffer {
         ensures { result ≡ [] }
     {
         Buffer {
-            bytes: [0; 1024],
+            bytes: [0; 4096],
             used: 0,
         }
     }
@@ -44,7 +44,7 @@ impl Sink for Buffer {
 
     ghost contents = { λ b. b };
 
-    ghost room = { λ b. 1024 - length b };
+    ghost room = { λ b. 4096 - length b };
 
     fn push(&mut self, bytes: &[u8]) {
         let end = self.used + bytes.len();

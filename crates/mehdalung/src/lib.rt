@@ -14,7 +14,8 @@ ghost use Rattle.sg_wire.specs.SenseReading.{read_sense};
 ghost use Rattle.sg_embed.specs.Ends.{done_outcome, ends, executed_outcome};
 ghost use Rattle.sg_embed.specs.Executed.{HasUndergone, IsAnswered, IsForgotten, IsUnchanged};
 ghost use Rattle.sg_embed.specs.Executed.{disk_config, new_disk, registrants};
-ghost use Rattle.sg_embed.specs.Happening.{asked_happening};
+ghost use Rattle.sg_wire.specs.Initiator.{initiator_count};
+ghost use Rattle.sg_embed.specs.Happening.{asked_happening, asked_of};
 ghost use Rattle.sg_embed.specs.Outcome.{IsCodeUnlessOutOfMemory, execute_outcome, happen_outcome};
 ghost use Rattle.sg_embed.specs.Outcome.{forget_outcome, make_as_outcome, make_outcome};
 ghost use Rattle.sg_embed.specs.Outcome.{make_with_outcome, names_outcome, outcome_code};
@@ -22,6 +23,7 @@ ghost use Rattle.sg_embed.specs.Outcome.{outcome_of, plan_outcome};
 ghost use Rattle.sg_embed.specs.Planned.{IsPlanned};
 ghost use Rattle.sg_embed.specs.Profiles.{identity_with_profile};
 ghost use Rattle.sg_embed.specs.Records.{asked_identity, sense_record};
+ghost use Rattle.sg_embed.specs.Served.{initiators_of};
 ghost use Rattle.sg_embed.specs.Text.{IsDecoded, IsFaultsText, text_in, version_text};
 ghost use Rattle.sg_embed.specs.Words.{asked_by_words};
 
@@ -200,14 +202,14 @@ pub extern "C" fn mehdalung_power_cycle(disk: &mut Slot) -> u32
 #[unsafe(no_mangle)]
 pub extern "C" fn mehdalung_happen(disk: &mut Slot, happening: &HappeningRecord) -> u32
     ensures outcome { result ≡ outcome_code (ends
-        (happen_outcome disk.old.held (asked_happening happening.now)) done_outcome disk.new.held) }
-    ensures happened { happen_outcome disk.old.held (asked_happening happening.now) ≡ Outcome.Done
-        → IfOk (asked_happening happening.now)
+        (happen_outcome disk.old.held (asked_of disk.old.held happening.now)) done_outcome disk.new.held) }
+    ensures happened { happen_outcome disk.old.held (asked_of disk.old.held happening.now) ≡ Outcome.Done
+        → IfOk (asked_of disk.old.held happening.now)
         (λ asked. HasUndergone asked disk.old.held disk.new.held) }
-    ensures refused { happen_outcome disk.old.held (asked_happening happening.now) ≢ Outcome.Done
+    ensures refused { happen_outcome disk.old.held (asked_of disk.old.held happening.now) ≢ Outcome.Done
         → disk.new.held ≡ disk.old.held }
 {
-    match happening.read() {
+    match disk.asked(happening) {
         Ok(asked) => disk.happen(asked).code(),
         Err(outcome) => outcome.code(),
     }
@@ -218,7 +220,7 @@ pub extern "C" fn mehdalung_happen(disk: &mut Slot, happening: &HappeningRecord)
 #[unsafe(no_mangle)]
 pub extern "C" fn mehdalung_read_happening(text: &[u8], happening: &mut HappeningRecord) -> u32
     ensures outcome { result ≡ outcome_code (outcome_of (asked_by_words text.now)) }
-    ensures asked { result ≡ 0 → asked_happening happening.new ≡ asked_by_words text.now }
+    ensures asked { result ≡ 0 → asked_happening initiator_count happening.new ≡ asked_by_words text.now }
     ensures silent { result ≢ 0 → happening.new ≡ happening.old }
 {
     match read_happening(text) {
@@ -230,9 +232,26 @@ pub extern "C" fn mehdalung_read_happening(text: &[u8], happening: &mut Happenin
     }
 }
 
+/// The number of the disk's initiators. The count stays as it was if there is no disk.
+#[unsafe(no_mangle)]
+pub extern "C" fn mehdalung_initiators(disk: &mut Slot, count: &mut u32) -> u32
+    ensures count { MatchOption disk.old.held
+        ((result ≡ outcome_code Outcome.NoDisk) × (count.new ≡ count.old))
+        (λ held. (result ≡ 0) × (count.new ≡ initiators_of held.target)) }
+    ensures kept { disk.new.held ≡ disk.old.held }
+{
+    match disk.initiators() {
+        Some(initiators) => {
+            *count = u32::from(initiators);
+            Outcome::Done.code()
+        }
+        None => Outcome::NoDisk.code(),
+    }
+}
+
 /// A mask of the initiators that are registered. The mask stays as it was if there is no disk.
 #[unsafe(no_mangle)]
-pub extern "C" fn mehdalung_registered(disk: &mut Slot, mask: &mut u32) -> u32
+pub extern "C" fn mehdalung_registered(disk: &mut Slot, mask: &mut u64) -> u32
     ensures mask { MatchOption (registrants disk.old.held)
         ((result ≡ outcome_code Outcome.NoDisk) × (mask.new ≡ mask.old))
         (λ registered. (result ≡ 0) × (mask.new ≡ registered)) }

@@ -10,7 +10,7 @@ use Rattle.sg_wire.specs.Initiator.{initiator_count}
 use Rattle.sg_changes.specs.Change.{Persistent}
 use Rattle.sg_changes.specs.Format.{Format, number, number_below, pair, coded, optional, counted}
 
--- INITIATOR 1: its number, 0 to 7.
+-- INITIATOR 1: its number, 0 to 63.
 unfoldable pub initiator : Format ℕ
 initiator = number_below initiator_count
 
@@ -49,7 +49,7 @@ reservation =
     (λ (r : Reservation). Some (r.kind, r.holder))
     (pair reservation_type (optional initiator))
 
--- The number of registrations 1, 0 to 6. Each registration, and the reservation, if there is one.
+-- The number of registrations 1, 0 to 64. Each registration, and the reservation, if there is one.
 unfoldable pub persistent : Format Persistent
 persistent =
     coded (λ p. Some (record { registrations = p.0; reservation = p.1 }))

@@ -63,8 +63,8 @@ impl Change<'_> {
             Change::Unmap { .. } => 17,
             Change::Anchor { .. } => 13,
             Change::Pages(_) => 49,
-            Change::Reservations(_) => 61,
-            Change::Faults(_) => 601,
+            Change::Reservations(_) => 583,
+            Change::Faults(_) => 3289,
             Change::Grow { .. } => 9,
         }
     }

@@ -112,8 +112,8 @@ fn put_afterwards<S: Sink>(sink: &mut S, what: Afterwards)
 
 /// The initiators whose commands a fault meets.
 fn put_initiators<S: Sink>(sink: &mut S, who: &Initiators)
-    requires { 8 ≤ S.room sink.old }
-    ensures { Takes S.contents S.room (many initiator_count flag) 8 sink.old sink.new who.now }
+    requires { 64 ≤ S.room sink.old }
+    ensures { Takes S.contents S.room (many initiator_count flag) 64 sink.old sink.new who.now }
 {
     for is_member in who.members() {
         put_flag(sink, *is_member);
@@ -138,8 +138,8 @@ fn put_bad_blocks<S: Sink>(sink: &mut S, blocks: Option<BadBlocks>)
 
 #[tactic(auto, unfolding(crate::specs::FaultFormat::fault))]
 fn put_fault<S: Sink>(sink: &mut S, what: &Fault)
-    requires { 34 ≤ S.room sink.old }
-    ensures { Takes S.contents S.room fault 34 sink.old sink.new what.now }
+    requires { 90 ≤ S.room sink.old }
+    ensures { Takes S.contents S.room fault 90 sink.old sink.new what.now }
 {
     put_initiators(sink, &what.initiators);
     put_optional_u8(sink, what.code);
@@ -160,8 +160,8 @@ fn put_count<S: Sink>(sink: &mut S, left: Count)
 
 /// What is left of a fault for each initiator.
 fn put_counts<S: Sink>(sink: &mut S, counts: &[Count; Initiator::COUNT])
-    requires { 40 ≤ S.room sink.old }
-    ensures { Takes S.contents S.room (many initiator_count count) 40 sink.old sink.new counts.now }
+    requires { 320 ≤ S.room sink.old }
+    ensures { Takes S.contents S.room (many initiator_count count) 320 sink.old sink.new counts.now }
 {
     for count in counts {
         put_count(sink, *count);
@@ -170,8 +170,8 @@ fn put_counts<S: Sink>(sink: &mut S, counts: &[Count; Initiator::COUNT])
 
 #[tactic(auto, unfolding(crate::specs::FaultFormat::armed_fault))]
 fn put_armed_fault<S: Sink>(sink: &mut S, armed: &ArmedFault)
-    requires { 74 ≤ S.room sink.old }
-    ensures { Takes S.contents S.room armed_fault 74 sink.old sink.new armed.now }
+    requires { 410 ≤ S.room sink.old }
+    ensures { Takes S.contents S.room armed_fault 410 sink.old sink.new armed.now }
 {
     put_fault(sink, &armed.fault);
     put_counts(sink, &armed.counts);
@@ -179,8 +179,8 @@ fn put_armed_fault<S: Sink>(sink: &mut S, armed: &ArmedFault)
 
 /// What is armed under a number, if anything.
 fn put_slot<S: Sink>(sink: &mut S, slot: &Option<ArmedFault>)
-    requires { 75 ≤ S.room sink.old }
-    ensures { Takes S.contents S.room (optional armed_fault) 75 sink.old sink.new slot.now }
+    requires { 411 ≤ S.room sink.old }
+    ensures { Takes S.contents S.room (optional armed_fault) 411 sink.old sink.new slot.now }
 {
     match slot {
         Some(armed) => {
@@ -193,8 +193,8 @@ fn put_slot<S: Sink>(sink: &mut S, slot: &Option<ArmedFault>)
 
 #[tactic(auto, unfolding(crate::specs::FaultFormat::faults))]
 pub(crate) fn put_faults<S: Sink>(sink: &mut S, armed: &Faults)
-    requires { 600 ≤ S.room sink.old }
-    ensures { Takes S.contents S.room faults 600 sink.old sink.new armed.now }
+    requires { 3288 ≤ S.room sink.old }
+    ensures { Takes S.contents S.room faults 3288 sink.old sink.new armed.now }
 {
     for slot in armed.as_slice() {
         put_slot(sink, slot);

@@ -17,7 +17,7 @@ use sg_wire::Initiator;
 pub(crate) const ALL_TG_PT: u8 = 0x80;
 
 /// The most registrations that a disk has room for.
-const MAX_REGISTRATIONS: usize = 6;
+const MAX_REGISTRATIONS: usize = Initiator::COUNT;
 
 #[tactic(auto, unfolding(crate::specs::ReservationFormat::initiator))]
 fn initiator_at(bytes: &[u8]) -> Option<(Initiator, &[u8])>

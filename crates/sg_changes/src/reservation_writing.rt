@@ -46,7 +46,7 @@ fn put_registration<S: Sink>(sink: &mut S, one: Registration)
 
 /// Registrations, one after another.
 fn put_many_registrations<S: Sink>(sink: &mut S, registrations: &[Registration])
-    requires room { 54 ≤ S.room sink.old }
+    requires room { 576 ≤ S.room sink.old }
     requires at_most { length registrations.now ≤ max_registrations }
     ensures { Takes S.contents S.room (many (length registrations.now) registration)
         (length registrations.now * 9) sink.old sink.new registrations.now }
@@ -58,9 +58,9 @@ fn put_many_registrations<S: Sink>(sink: &mut S, registrations: &[Registration])
 
 /// Registrations after their number.
 fn put_registrations<S: Sink>(sink: &mut S, registrations: &[Registration])
-    requires room { 55 ≤ S.room sink.old }
+    requires room { 577 ≤ S.room sink.old }
     requires at_most { length registrations.now ≤ max_registrations }
-    ensures { Takes S.contents S.room (counted max_registrations registration) 55 sink.old sink.new
+    ensures { Takes S.contents S.room (counted max_registrations registration) 577 sink.old sink.new
         registrations.now }
 {
     put_u8(sink, registrations.len() as u8);
@@ -115,8 +115,8 @@ fn put_held_reservation<S: Sink>(sink: &mut S, held: Option<Reservation>)
 /// Registrations and reservation, if they persist through a power loss.
 #[tactic(auto, unfolding(crate::specs::ReservationFormat::persistent))]
 pub(crate) fn put_reservations<S: Sink>(sink: &mut S, state: &Reservations)
-    requires { 60 ≤ S.room sink.old }
-    ensures { Takes S.contents S.room reservations 60 sink.old sink.new (persistent_of state.now) }
+    requires { 582 ≤ S.room sink.old }
+    ensures { Takes S.contents S.room reservations 582 sink.old sink.new (persistent_of state.now) }
 {
     if state.persist_through_power_loss() {
         put_flag(sink, true);

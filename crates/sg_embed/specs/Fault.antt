@@ -1,6 +1,7 @@
 -- The fault that a record of C describes.
-use Rattle.std.specs.Prelude.{ℕ, ◌==◌, Bool, true, false, if◌then◌else◌, ok_or}
+use Rattle.std.specs.Prelude.{ℕ, ◌-◌, ◌^◌, ◌==◌, nat_le, Bool, true, false, if◌then◌else◌, ok_or}
 use Rattle.std.specs.Prelude.{List, [], ◌∷◌, slice_index_or, Option, Some, None, Result, Ok, Err}
+use Rattle.sg_wire.specs.Initiator.{initiator_count}
 use Rattle.sg_faults.specs.SenseCode.{sense_code_of}
 use Rattle.sg_faults.specs.declared.fault.BadBlocks.{BadBlocks}
 use Rattle.sg_faults.specs.declared.fault.Fault.{Fault}
@@ -48,9 +49,20 @@ asked_outcome r = slice_index_or (by_outcome r) r.outcome (Err UnknownFault)
 
 -- ---- Which commands it meets
 
+-- The mask with the bits of a number of initiators, from 0 on.
+abbrev pub mask_of_all : (count : ℕ) → ℕ
+mask_of_all count = 2 ^ count - 1
+
+-- The initiators of a mask, of a disk that has `count` of them. All 64 bits stand for all that it has. If
+-- another mask has the bit of one that it does not have, the mask is refused.
+abbrev pub own_initiators : (count mask : ℕ) → Option Members
+own_initiators count mask =
+    if mask == mask_of_all initiator_count then Some (members_of_mask (mask_of_all count))
+    else (if nat_le mask (mask_of_all count) then Some (members_of_mask mask) else None)
+
 -- The initiators of a mask that names one.
-abbrev pub named_initiators : (mask : ℕ) → Option Members
-named_initiators mask = if mask == 0 then None else members_of_mask mask
+abbrev pub named_initiators : (count mask : ℕ) → Option Members
+named_initiators count mask = if mask == 0 then None else own_initiators count mask
 
 -- A flag is 0 or 1.
 abbrev pub flag_of : (byte : ℕ) → Result Bool Outcome
@@ -103,6 +115,8 @@ fault_with r (Ok outcome) (Some initiators) (Ok code) (Ok blocks) = Ok (record {
   outcome = outcome;
 })
 
-abbrev pub asked_fault : FaultRecord → Result Fault Outcome
-asked_fault r =
-    fault_with r (asked_outcome r) (named_initiators r.initiators) (asked_code r) (asked_blocks r)
+-- The fault that a record asks for, of a disk with a number of initiators.
+abbrev pub asked_fault : (count : ℕ) → FaultRecord → Result Fault Outcome
+asked_fault count r =
+    fault_with r (asked_outcome r) (named_initiators count r.initiators) (asked_code r)
+    (asked_blocks r)

@@ -8,7 +8,6 @@ use Rattle.sg_kept.specs.declared.opening.OpenDiskError.{OpenDiskError}
 use Rattle.sg_kept.specs.declared.opening.OpenDiskError.TheVariants as open_fault
 use Rattle.sg_pages.specs.declared.identity.IdentityFault.{IdentityFault}
 use Rattle.sg_pages.specs.declared.identity.IdentityFault.TheVariants.{Text, Local}
-use Rattle.sg_wire.specs.Initiator.{initiator_count}
 use Rattle.sg_target.specs.Config.{ConfigFields, checked_config}
 use Rattle.sg_target.specs.DataInBound.{needed_buffer}
 use Rattle.sg_target.specs.declared.happening.Happening.{Happening}
@@ -24,7 +23,7 @@ use Rattle.sg_run.specs.declared.request.text_fault.TextFault.TheVariants as tex
 use Rattle.sg_pages.specs.Identity.{IdentityFields}
 use Rattle.sg_embed.specs.Executed.{disk_config}
 use Rattle.sg_embed.specs.Room.{has_room_for}
-use Rattle.sg_embed.specs.Served.{device_of, target_of}
+use Rattle.sg_embed.specs.Served.{device_of, initiators_of, target_of}
 use Rattle.sg_embed.specs.declared.kept.Kept.{Kept}
 use Rattle.sg_embed.specs.declared.outcome.Outcome.{Outcome}
 use Rattle.sg_embed.specs.declared.outcome.Outcome.TheVariants.{Done, NoDisk, DiskExists}
@@ -144,33 +143,28 @@ abbrev pub make_outcome : Option Kept → ConfigFields → Outcome
 make_outcome (Some disk) config = DiskExists
 make_outcome None config = checked_outcome (checked_config config)
 
-abbrev disk_outcome : Option Kept → Outcome
-disk_outcome (Some disk) = Done
-disk_outcome None = NoDisk
-
--- A buffer for data-in has the length that a command needs on a disk, if there is a disk.
-abbrev pub room_outcome : Option Kept → (initiator : ℕ) → (cdb data_out : List ℕ) → (room : ℕ) → Outcome
-room_outcome None initiator cdb data_out room = NoDisk
-room_outcome (Some disk) initiator cdb data_out room =
-    if nat_le (needed_buffer (target_of disk.target).state initiator cdb data_out) room then Done
-    else BufferTooShort
+-- A disk has an initiator with a number.
+abbrev pub has_initiator : Kept → (initiator : ℕ) → Bool
+has_initiator disk initiator = nat_lt initiator (initiators_of disk.target)
 
 -- The outcome of a command of an initiator, with a buffer for data-in of some length. Each is
 -- checked before anything is executed.
 abbrev pub execute_outcome : Option Kept → (initiator : ℕ) → (cdb data_out : List ℕ) → (room : ℕ) → Outcome
-execute_outcome held initiator cdb data_out room =
-    if not (nat_lt initiator initiator_count) then UnknownInitiator
-    else room_outcome held initiator cdb data_out room
+execute_outcome None initiator cdb data_out room = NoDisk
+execute_outcome (Some disk) initiator cdb data_out room =
+    if not (has_initiator disk initiator) then UnknownInitiator
+    else (if nat_le (needed_buffer (target_of disk.target).state initiator cdb data_out) room then Done
+    else BufferTooShort)
 
 -- The outcome of a call that needs a disk in a file.
 abbrev pub file_outcome : Option Kept → Outcome
 file_outcome None = NoDisk
 file_outcome (Some disk) = if is_some (device_of disk.target) then Done else NoFile
 
--- The outcome of forgetting an initiator's port. The initiator is checked first.
+-- The outcome of forgetting an initiator's port.
 abbrev pub forget_outcome : Option Kept → (initiator : ℕ) → Outcome
-forget_outcome held initiator =
-    if not (nat_lt initiator initiator_count) then UnknownInitiator else disk_outcome held
+forget_outcome None initiator = NoDisk
+forget_outcome (Some disk) initiator = if has_initiator disk initiator then Done else UnknownInitiator
 
 -- The outcome of what happens to a disk. What is asked for is checked first, and a free number for
 -- an armed fault last.

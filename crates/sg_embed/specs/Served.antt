@@ -1,6 +1,7 @@
 -- What serves a disk. In memory the base profile is served over runs, and the extended one over extents. A
 -- disk in a file is over extents in each profile.
 use Rattle.std.specs.Prelude.{◌≡◌, ℕ, Bool, false, true, List, Option, None, Some, Result, Ok}
+use Rattle.sg_wire.specs.Profile.{limits_of}
 use Rattle.sg_wire.specs.declared.profile.Profile.{Profile}
 use Rattle.sg_wire.specs.declared.profile.Profile.TheVariants.{Base, Extended}
 use Rattle.sg_block_map.specs.RunCost.{block_price, block_least}
@@ -13,6 +14,7 @@ use Rattle.sg_target.specs.Charge.{ChargesCommand, CostBounds, cost_bounds}
 use Rattle.sg_target.specs.Execution.{IsExecuted}
 use Rattle.sg_target.specs.Happenings.{Happens}
 use Rattle.sg_target.specs.Ports.{Forgets}
+use Rattle.sg_target.specs.State.{profile_of}
 use Rattle.sg_target.specs.Target.{TargetFields, disk_of}
 use Rattle.sg_target.specs.declared.happening.Happening.{Happening}
 use Rattle.sg_target.specs.declared.reply.Reply.{Reply}
@@ -27,6 +29,10 @@ abbrev pub target_of : Served → TargetFields
 target_of (Runs target) = target
 target_of (Extents target) = target
 target_of (InFile disk) = target_in disk
+
+-- The number of the initiators that send commands.
+abbrev pub initiators_of : Served → ℕ
+initiators_of served = (limits_of (profile_of (target_of served).state)).initiators
 
 -- A target of a profile, over the store that serves it in memory.
 abbrev pub served_in : Profile → TargetFields → Served

@@ -1,12 +1,13 @@
 // A fault that C arms.
-ghost use Rattle.std.specs.Prelude.{◌≡◌, ◌≢◌, ◌<◌, IfErr, IfSome, Ok, Some};
+ghost use Rattle.std.specs.Prelude.{◌≡◌, ◌≢◌, ◌<◌, ◌≤◌, IfErr, IfSome, Ok, Some};
 ghost use Rattle.sg_run.specs.WellFormed.{AreMembers, IsWellFormedFault};
 ghost use Rattle.sg_embed.specs.Fault.{asked_blocks, asked_code, asked_fault, asked_outcome};
 ghost use Rattle.sg_embed.specs.Fault.{asked_sense_code, asked_times, blocks_if, code_if, flag_of};
 ghost use Rattle.sg_embed.specs.Fault.{named_initiators};
+ghost use Rattle.sg_wire.specs.Initiator.{initiator_count};
 ghost use Rattle.sg_units.specs.Initiators.{no_initiators};
 
-use crate::mask::mask_of;
+use crate::mask::{mask_of, own_initiators};
 use crate::outcome::Outcome;
 use sg_faults::{
     Afterwards, AtMedium, BadBlocks, Fault, OnArrival, Outcome as FaultOutcome, SenseCode,
@@ -120,7 +121,7 @@ impl FaultRecord {
     /// A record that describes a fault.
     pub(crate) fn of(fault: &Fault) -> FaultRecord
         requires { IsWellFormedFault fault.now }
-        ensures { asked_fault result ≡ Ok fault.now }
+        ensures { asked_fault initiator_count result ≡ Ok fault.now }
     {
         let (has_code, code) = code_fields(fault.code);
         let (lba, count, healed_by_writes) = block_fields(fault.blocks);
@@ -137,19 +138,21 @@ impl FaultRecord {
         }
     }
 
-    /// The fault that it describes.
+    /// The fault that it describes, of a disk that has `count` initiators.
     ///
     /// # Errors
     /// The first of these that applies: [`Outcome::UnknownFault`] if nothing that a fault does has
     /// the number, [`Outcome::SenseKey`] if it reports a sense key above 15,
-    /// [`Outcome::UnknownInitiator`] if the mask is 0 or has a bit above 7, and
+    /// [`Outcome::UnknownInitiator`] if the mask is 0, or has the bit of an
+    /// initiator that the disk does not have, but not all bits, and
     /// [`Outcome::FaultFlag`] if a flag is not 0 or 1, or if no blocks are healed.
-    pub(crate) fn read(&self) -> Result<Fault, Outcome>
-        ensures value { result ≡ asked_fault self.now }
+    pub(crate) fn read(&self, count: u8) -> Result<Fault, Outcome>
+        requires { count ≤ initiator_count }
+        ensures value { result ≡ asked_fault count self.now }
         ensures refused { IfErr result (λ outcome. outcome ≢ Outcome.Done) }
     {
         let outcome = self.read_outcome()?;
-        let Some(initiators) = named_initiators(self.initiators) else {
+        let Some(initiators) = named_initiators(count, self.initiators) else {
             return Err(Outcome::UnknownInitiator);
         };
         let code = self.read_code()?;
@@ -232,13 +235,14 @@ impl FaultRecord {
 }
 
 /// The initiators of a mask that names one.
-fn named_initiators(mask: u64) -> Option<Initiators>
-    ensures { result ≡ named_initiators mask }
+fn named_initiators(count: u8, mask: u64) -> Option<Initiators>
+    requires { count ≤ initiator_count }
+    ensures { result ≡ named_initiators count mask }
 {
     if mask == 0 {
         None
     } else {
-        Initiators::of_mask(mask)
+        own_initiators(count, mask)
     }
 }
 
@@ -265,7 +269,7 @@ fn read_times(times: u16) -> Option<u16>
 fn mask_of_named(initiators: &Initiators) -> u64
     requires mask { AreMembers initiators.now }
     requires somebody { initiators.now ≢ no_initiators }
-    ensures { named_initiators result ≡ Some initiators.now }
+    ensures { named_initiators initiator_count result ≡ Some initiators.now }
 {
     mask_of(initiators)
 }

@@ -1,15 +1,15 @@
 // What happens to a disk, as C asks for it.
-ghost use Rattle.std.specs.Prelude.{◌≡◌, ◌≢◌, IfErr, Ok};
+ghost use Rattle.std.specs.Prelude.{◌≡◌, ◌≢◌, ◌≤◌, IfErr, Ok};
 ghost use Rattle.sg_run.specs.WellFormed.{AreMembers, IsWellFormed};
-ghost use Rattle.sg_embed.specs.Fault.{asked_fault};
+ghost use Rattle.sg_wire.specs.Initiator.{initiator_count};
 ghost use Rattle.sg_embed.specs.Happening.{arming, asked_happening, disarming, establishing, growing};
 ghost use Rattle.sg_embed.specs.Happening.{nexus_loss};
 
 use crate::fault::FaultRecord;
-use crate::mask::mask_of;
+use crate::mask::{mask_of, own_initiators};
 use crate::outcome::Outcome;
-use crate::slot::known_initiator;
-use sg_faults::MAX_FAULTS;
+use crate::served::initiator_below;
+use sg_faults::{Fault, MAX_FAULTS};
 use sg_store::MAX_CAPACITY;
 use sg_target::Happening;
 use sg_units::{Initiators, UnitAttention};
@@ -59,7 +59,7 @@ impl HappeningRecord {
     /// A record that describes a happening.
     pub(crate) fn of(happening: &Happening) -> HappeningRecord
         requires { IsWellFormed happening.now }
-        ensures { asked_happening result ≡ Ok happening.now }
+        ensures { asked_happening initiator_count result ≡ Ok happening.now }
     {
         match *happening {
             Happening::Power => HappeningRecord::of_kind(0),
@@ -91,7 +91,8 @@ impl HappeningRecord {
     /// A record of a condition that is established for some initiators.
     fn establishing(condition: UnitAttention, initiators: &Initiators) -> HappeningRecord
         requires { AreMembers initiators.now }
-        ensures { asked_happening result ≡ Ok (Happening.Establish condition initiators.now) }
+        ensures { asked_happening initiator_count result
+            ≡ Ok (Happening.Establish condition initiators.now) }
     {
         let (asc, ascq) = condition.code();
         HappeningRecord {
@@ -102,26 +103,27 @@ impl HappeningRecord {
         }
     }
 
-    /// The happening that it describes.
+    /// The happening that it describes, of a disk that has `count` initiators.
     ///
     /// # Errors
     /// [`Outcome::UnknownHappening`] if no kind has the number. For a kind that needs it:
     /// [`Outcome::UnknownCondition`] if no condition has the code, [`Outcome::UnknownInitiator`] if
-    /// an initiator is not 0 to 7, [`Outcome::BlockCount`] if the number of blocks is not 1 to 2^40,
+    /// the disk has no such initiator, [`Outcome::BlockCount`] if the number of blocks is not 1 to 2^40,
     /// [`Outcome::FaultNumber`] if the number of a fault is not 0 to 7, or the outcome of a refused
     /// fault.
-    pub fn read(&self) -> Result<Happening, Outcome>
-        ensures value { result ≡ asked_happening self.now }
+    pub fn read(&self, count: u8) -> Result<Happening, Outcome>
+        requires { count ≤ initiator_count }
+        ensures value { result ≡ asked_happening count self.now }
         ensures refused { IfErr result (λ outcome. outcome ≢ Outcome.Done) }
     {
         match self.kind {
             0 => Ok(Happening::Power),
             1 => Ok(Happening::LogicalUnitReset),
             2 => Ok(Happening::TargetReset),
-            3 => nexus_loss(self.initiator),
-            4 => establishing(self.asc, self.ascq, self.initiators),
+            3 => nexus_loss(count, self.initiator),
+            4 => { establishing(self.asc, self.ascq, own_initiators(count, self.initiators)) }
             5 => growing(self.blocks),
-            6 => arming(&self.fault),
+            6 => arming(self.fault.read(count)),
             7 => disarming(self.number),
             8 => Ok(Happening::DisarmAll),
             _ => Err(Outcome::UnknownHappening),
@@ -129,26 +131,27 @@ impl HappeningRecord {
     }
 }
 
-/// The loss of an initiator's I_T nexus.
-fn nexus_loss(initiator: u32) -> Result<Happening, Outcome>
-    ensures value { result ≡ nexus_loss initiator }
+/// The loss of an initiator's I_T nexus. The initiator is one of `count`.
+fn nexus_loss(count: u8, initiator: u32) -> Result<Happening, Outcome>
+    requires { count ≤ initiator_count }
+    ensures value { result ≡ nexus_loss count initiator }
     ensures refused { IfErr result (λ outcome. outcome ≢ Outcome.Done) }
 {
-    match known_initiator(initiator) {
+    match initiator_below(count, initiator) {
         Some(initiator) => Ok(Happening::NexusLoss(initiator)),
         None => Err(Outcome::UnknownInitiator),
     }
 }
 
-/// A unit attention condition that is established for the initiators of a mask.
-fn establishing(asc: u8, ascq: u8, initiators: u64) -> Result<Happening, Outcome>
+/// A unit attention condition that is established for some initiators.
+fn establishing(asc: u8, ascq: u8, initiators: Option<Initiators>) -> Result<Happening, Outcome>
     ensures value { result ≡ establishing asc ascq initiators }
     ensures refused { IfErr result (λ outcome. outcome ≢ Outcome.Done) }
 {
     let Some(condition) = UnitAttention::with_code(asc, ascq) else {
         return Err(Outcome::UnknownCondition);
     };
-    match Initiators::of_mask(initiators) {
+    match initiators {
         Some(initiators) => Ok(Happening::Establish(condition, initiators)),
         None => Err(Outcome::UnknownInitiator),
     }
@@ -167,11 +170,12 @@ fn growing(blocks: u64) -> Result<Happening, Outcome>
 }
 
 /// A fault that is armed.
-fn arming(fault: &FaultRecord) -> Result<Happening, Outcome>
-    ensures value { result ≡ arming (asked_fault fault.now) }
+fn arming(fault: Result<Fault, Outcome>) -> Result<Happening, Outcome>
+    requires { IfErr fault (λ outcome. outcome ≢ Outcome.Done) }
+    ensures value { result ≡ arming fault }
     ensures refused { IfErr result (λ outcome. outcome ≢ Outcome.Done) }
 {
-    match fault.read() {
+    match fault {
         Ok(fault) => Ok(Happening::Arm(fault)),
         Err(outcome) => Err(outcome),
     }

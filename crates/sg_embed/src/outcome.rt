@@ -26,7 +26,7 @@ pub enum Outcome {
     IdentityLocal = 6,
     /// Memory was refused.
     OutOfMemory = 7,
-    /// The initiator is not 0 to 7, or a fault names no initiator.
+    /// The disk has no such initiator, or a fault names none.
     UnknownInitiator = 8,
     /// The buffer for data-in or for data-out is too short.
     BufferTooShort = 9,

@@ -1,12 +1,15 @@
 // What serves a disk: a target in memory, over the store of the disk's profile, or a disk in a file.
-ghost use Rattle.std.specs.Prelude.{◌≡◌, ◌≤◌, false, true, is_some, length, nat_le, IfNone, IfOk, IfSome};
+ghost use Rattle.std.specs.Prelude.{◌≡◌, ◌<◌, ◌≤◌, false, true, is_some, length, nat_le, IfNone, IfOk};
+ghost use Rattle.std.specs.Prelude.{IfSome};
+ghost use Rattle.std.specs.Option.{SomeIff};
+ghost use Rattle.sg_wire.specs.Initiator.{initiator_count};
 ghost use Rattle.sg_units.specs.Registrations.{registered_mask};
 ghost use Rattle.sg_target.specs.DataInBound.{longest_data_in, needed_buffer};
 ghost use Rattle.sg_embed.specs.Ends.{done_outcome, executed_outcome};
 ghost use Rattle.sg_embed.specs.Executed.{new_target};
 ghost use Rattle.sg_embed.specs.Room.{has_free_number, has_room_for};
 ghost use Rattle.sg_embed.specs.Served.{Executes, Fails, Flushes, ForgetsPort, HandsOut, Undergoes};
-ghost use Rattle.sg_embed.specs.Served.{device_of, target_of};
+ghost use Rattle.sg_embed.specs.Served.{device_of, initiators_of, target_of};
 
 use crate::file_disk::FileDisk;
 use crate::outcome::Outcome;
@@ -40,6 +43,26 @@ impl Served {
         match config.identity().profile() {
             Profile::Base => Ok(Served::Runs(Target::new(alloc, config)?)),
             Profile::Extended => Ok(Served::Extents(Target::new(alloc, config)?)),
+        }
+    }
+
+    /// The disk's initiator with a number, if it has one.
+    #[inline(always)]
+    pub(crate) fn initiator(&self, number: u32) -> Option<Initiator>
+        ensures { SomeIff result (number < initiators_of self.now) number }
+    {
+        initiator_below(self.initiators(), number)
+    }
+
+    /// The number of the disk's initiators.
+    pub(crate) fn initiators(&self) -> u8
+        ensures value { result ≡ initiators_of self.now }
+        ensures at_most { result ≤ initiator_count }
+    {
+        match self {
+            Served::Runs(target) => target.initiators(),
+            Served::Extents(target) => target.initiators(),
+            Served::InFile(disk) => disk.target().initiators(),
         }
     }
 
@@ -113,7 +136,7 @@ impl Served {
     }
 
     /// A mask of the initiators that are registered.
-    pub(crate) fn registered_mask(&self) -> u8
+    pub(crate) fn registered_mask(&self) -> u64
         ensures { result ≡ registered_mask (target_of self.now).state.reservations.registrations }
     {
         match self {
@@ -201,6 +224,19 @@ impl Served {
             Served::Runs(_) | Served::Extents(_) => None,
             Served::InFile(disk) => Some(disk.device()),
         }
+    }
+}
+
+/// The initiator with a number, if it is one of `count`.
+#[inline(always)]
+pub(crate) fn initiator_below(count: u8, number: u32) -> Option<Initiator>
+    requires { count ≤ initiator_count }
+    ensures { SomeIff result (number < count) number }
+{
+    if number < u32::from(count) {
+        Initiator::new(number as u8)
+    } else {
+        None
     }
 }
 

@@ -6,6 +6,7 @@ ghost use Rattle.sg_embed.specs.contracts.kept.Kept.{the_row};
 ghost use Rattle.sg_embed.specs.declared.kept.Kept.{Kept};
 
 use crate::answer::{NO_TEXT, list_faults};
+use crate::happening::HappeningRecord;
 use crate::kept::Kept;
 use crate::outcome::Outcome;
 use crate::parts::Parts;
@@ -110,13 +111,16 @@ impl Drop for Slot {
 }
 
 impl Slot {
-    ghost use Rattle.std.specs.Prelude.{◌≢◌, ◌≡◌, false, true, length, Ok};
+    ghost use Rattle.std.specs.Prelude.{◌≢◌, ◌≡◌, ◌≤◌, false, true, length, Ok, IfErr, IfSome};
     ghost use Rattle.sg_embed.specs.Executed.{HasUndergone, IsAnswered, IsForgotten, IsUnchanged};
     ghost use Rattle.sg_embed.specs.Executed.{IsAnsweredUnflushed};
     ghost use Rattle.sg_embed.specs.Ends.{done_outcome, ends, executed_outcome};
     ghost use Rattle.sg_embed.specs.Executed.{disk_config, new_disk, registrants};
     ghost use Rattle.sg_embed.specs.Outcome.{IsUnlessOutOfMemory, execute_outcome, forget_outcome};
+    ghost use Rattle.sg_embed.specs.Happening.{asked_of};
     ghost use Rattle.sg_embed.specs.Outcome.{happen_outcome, make_outcome};
+    ghost use Rattle.sg_wire.specs.Initiator.{initiator_count};
+    ghost use Rattle.sg_embed.specs.Served.{initiators_of};
     ghost use Rattle.sg_embed.specs.Text.{IsFaultsText};
 
     /// Makes a disk as it is after power on, with `blocks` logical blocks. At most `pool` of them
@@ -147,7 +151,7 @@ impl Slot {
     /// Executes a command, and shows its reply. Data-in is the first bytes of the buffer, and those
     /// after it stay as they were.
     ///
-    /// The outcome is the first that applies of an initiator that is not 0 to 7, no disk, and a
+    /// The outcome is the first that applies of no disk, an initiator that the disk does not have, and a
     /// buffer that is shorter than the data-in that the command asks for. With these outcomes
     /// nothing is executed, and disk, buffer and reply are as they were. Otherwise it is `CallsWait` if calls
     /// on the disk's file wait after the command, or else `Done`.
@@ -226,11 +230,11 @@ impl Slot {
             (length data_in.old) ≢ Outcome.Done → IsUnchanged self.old.held self.new.held
             data_in.old data_in.new reply.old reply.new }
     {
-        let Some(initiator) = known_initiator(initiator) else {
-            return Outcome::UnknownInitiator;
-        };
         let Some(kept) = self.kept() else {
             return Outcome::NoDisk;
+        };
+        let Some(initiator) = kept.target.initiator(initiator) else {
+            return Outcome::UnknownInitiator;
         };
         let mut waits = false;
         let Some(done) = kept
@@ -244,6 +248,18 @@ impl Slot {
             return Outcome::FlushOwed;
         }
         kept.target.executed()
+    }
+
+    /// What a record asks of the disk. Without a disk it may name each initiator that a disk can have.
+    ///
+    /// # Errors
+    /// As those of [`HappeningRecord::read`].
+    pub fn asked(&mut self, record: &HappeningRecord) -> Result<Happening, Outcome>
+        ensures value { result ≡ asked_of self.old.held record.now }
+        ensures refused { IfErr result (λ outcome. outcome ≢ Outcome.Done) }
+        ensures kept { self.new.held ≡ self.old.held }
+    {
+        record.read(self.initiators().unwrap_or(Initiator::COUNT as u8))
     }
 
     /// Lets something happen to the disk, unless there is no disk, or no room for a fault. Then the
@@ -267,14 +283,24 @@ impl Slot {
         kept.target.done()
     }
 
+    /// The number of the disk's initiators, which are numbered from 0 on. None if there is no disk.
+    pub fn initiators(&mut self) -> Option<u8>
+        ensures value { result ≡ option_map (λ disk. initiators_of disk.target) self.old.held }
+        ensures at_most { IfSome result (λ count. count ≤ initiator_count) }
+        ensures kept { self.new.held ≡ self.old.held }
+    {
+        let kept = self.kept()?;
+        Some(kept.target.initiators())
+    }
+
     /// A mask of the initiators that are registered: bit i is set if initiator i is. None if there
     /// is no disk.
-    pub fn registrants(&mut self) -> Option<u32>
+    pub fn registrants(&mut self) -> Option<u64>
         ensures value { result ≡ registrants self.old.held }
         ensures kept { self.new.held ≡ self.old.held }
     {
         let kept = self.kept()?;
-        Some(u32::from(kept.target.registered_mask()))
+        Some(kept.target.registered_mask())
     }
 
     /// Writes the text of the armed faults to the beginning of a buffer, as
@@ -291,9 +317,9 @@ impl Slot {
         }
     }
 
-    /// Clears the unit attentions that are pending for an initiator whose port is gone, unless the
-    /// initiator is not 0 to 7, or there is no disk. Then the disk stays as it was. Otherwise the
-    /// outcome is as that of [`happen`](Slot::happen).
+    /// Clears the unit attentions that are pending for an initiator whose port is gone, unless there is no
+    /// disk, or the disk does not have the initiator. Then the disk stays as it was. Otherwise the outcome
+    /// is as that of [`happen`](Slot::happen).
     pub fn forget(&mut self, initiator: u32) -> Outcome
         ensures outcome { result
             ≡ ends (forget_outcome self.old.held initiator) done_outcome self.new.held }
@@ -302,11 +328,11 @@ impl Slot {
         ensures refused { forget_outcome self.old.held initiator ≢ Outcome.Done
             → self.new.held ≡ self.old.held }
     {
-        let Some(gone) = known_initiator(initiator) else {
-            return Outcome::UnknownInitiator;
-        };
         let Some(kept) = self.kept() else {
             return Outcome::NoDisk;
+        };
+        let Some(gone) = kept.target.initiator(initiator) else {
+            return Outcome::UnknownInitiator;
         };
         kept.target.forget(gone);
         kept.target.done()
@@ -319,20 +345,5 @@ impl Slot {
         ensures { self.new.held ≡ Some kept.value }
     {
         forget(replace(self, Slot::of(kept)));
-    }
-}
-
-ghost use Rattle.std.specs.Prelude.{◌<◌};
-ghost use Rattle.std.specs.Option.{SomeIff};
-ghost use Rattle.sg_wire.specs.Initiator.{initiator_count};
-
-/// The initiator with a number, if it has one.
-pub(crate) fn known_initiator(number: u32) -> Option<Initiator>
-    ensures { SomeIff result (number < initiator_count) number }
-{
-    if (number as usize) < Initiator::COUNT {
-        Initiator::new(number as u8)
-    } else {
-        None
     }
 }

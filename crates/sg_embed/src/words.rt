@@ -1,5 +1,6 @@
 // What the words of a script ask for, as a record of C.
 ghost use Rattle.std.specs.Prelude.{◌≡◌, ◌≢◌, IfErr, IfOk};
+ghost use Rattle.sg_wire.specs.Initiator.{initiator_count};
 ghost use Rattle.sg_embed.specs.Happening.{asked_happening};
 ghost use Rattle.sg_embed.specs.Outcome.{outcome_of};
 ghost use Rattle.sg_embed.specs.Words.{asked_by_words};
@@ -14,7 +15,7 @@ use crate::outcome::Outcome;
 /// The outcome of the first that applies of [`HappeningFault`](sg_run::HappeningFault).
 pub fn read_happening(text: &[u8]) -> Result<HappeningRecord, Outcome>
     ensures outcome { outcome_of result ≡ outcome_of (asked_by_words text.now) }
-    ensures asked { IfOk result (λ made. asked_happening made ≡ asked_by_words text.now) }
+    ensures asked { IfOk result (λ made. asked_happening initiator_count made ≡ asked_by_words text.now) }
     ensures refused { IfErr result (λ outcome. outcome ≢ Outcome.Done) }
 {
     match sg_run::read_happening(text) {

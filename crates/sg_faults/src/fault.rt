@@ -66,6 +66,21 @@ impl Fault {
         }
     }
 
+    /// What there is of it at first for the initiator with a number, below [`Initiator::COUNT`]. Nothing
+    /// if the fault does not name the initiator.
+    pub fn first_count(&self, number: usize) -> Count
+        requires { number < initiator_count }
+        ensures { result ≡ first_count self.now number }
+    {
+        match Initiator::new(number as u8) {
+            Some(initiator) if self.initiators.contains(initiator) => Count {
+                skip: self.skip,
+                times: self.times,
+            },
+            _ => Count::SPENT,
+        }
+    }
+
     /// A command is one that it meets.
     fn meets(&self, command: &SeenCommand<'_>) -> bool
         ensures { result ≡ meets command.now self.now }
@@ -153,7 +168,7 @@ impl ArmedFault {
     {
         let mut counts = [Count::SPENT; Initiator::COUNT];
         for number in 0..Initiator::COUNT {
-            counts[number] = first_count(&fault, number as u8);
+            counts[number] = fault.first_count(number);
         }
         ArmedFault { fault, counts }
     }
@@ -207,19 +222,5 @@ impl ArmedFault {
         ensures { result ≡ first_bad command.now self.now.fault }
     {
         command.first_in(self.fault.blocks.as_ref()?.extent)
-    }
-}
-
-/// What there is of a fault for the initiator with a number, at first.
-fn first_count(fault: &Fault, number: u8) -> Count
-    requires { number < initiator_count }
-    ensures { result ≡ first_count fault.now number }
-{
-    match Initiator::new(number) {
-        Some(initiator) if fault.initiators.contains(initiator) => Count {
-            skip: fault.skip,
-            times: fault.times,
-        },
-        _ => Count::SPENT,
     }
 }

@@ -107,20 +107,22 @@ without-equal p q i condition k e = by-case (cases_eq i k)
 pub raised-equal : (p q : Pending) (conditions : Conditions)
     → StayEqual p q (raised_for_each p conditions) (raised_for_each q conditions)
 unfolding raised_for_each
-raised-equal p q conditions k e = by-case (cases_lt k 8)
+raised-equal p q conditions k e = by-case (cases_lt k initiator_count)
   where
-    by-case : (k < 8) ⊎ (8 ≤ k)
-        → get_or (map (queue_after p conditions) (range_with_len 0 8)) k []
-        ≡ get_or (map (queue_after q conditions) (range_with_len 0 8)) k []
+    by-case : (k < initiator_count) ⊎ (initiator_count ≤ k)
+        → get_or (map (queue_after p conditions) (range_with_len 0 initiator_count)) k []
+        ≡ get_or (map (queue_after q conditions) (range_with_len 0 initiator_count)) k []
     by-case (inl less) =
-        get_or-map-range_with_len (queue_after p conditions) 0 8 k k [] less (omega arith)
+        get_or-map-range_with_len (queue_after p conditions) 0 initiator_count k k [] less (omega arith)
         ∙ (ap (λ (queue : List UnitAttention). with_optional queue (get_or conditions k None)) e
-        ∙ sym (get_or-map-range_with_len (queue_after q conditions) 0 8 k k [] less (omega arith)))
+        ∙ sym (get_or-map-range_with_len (queue_after q conditions) 0 initiator_count k k [] less
+        (omega arith)))
     by-case (inr past) =
-        let first = length-map-range_with_len (queue_after p conditions) 0 8 in
-        let second = length-map-range_with_len (queue_after q conditions) 0 8 in
-        get_or_past (map (queue_after p conditions) (range_with_len 0 8)) k [] (omega arith)
-        ∙ sym (get_or_past (map (queue_after q conditions) (range_with_len 0 8)) k [] (omega arith))
+        let first = length-map-range_with_len (queue_after p conditions) 0 initiator_count in
+        let second = length-map-range_with_len (queue_after q conditions) 0 initiator_count in
+        get_or_past (map (queue_after p conditions) (range_with_len 0 initiator_count)) k [] (omega arith)
+        ∙ sym (get_or_past (map (queue_after q conditions) (range_with_len 0 initiator_count)) k []
+        (omega arith))
 
 pub raised_one-equal : (p q : Pending) (j : ℕ) (condition : UnitAttention) (k : ℕ)
     → length p ≡ initiator_count → length q ≡ initiator_count

@@ -7,6 +7,7 @@ use Rattle.std.specs.List.{range_with_len}
 use Rattle.std.proofs.lemmas.Bool.{and_right, cases_lt, eq-eqb, eqb-true, false≢true, ne_eqb}
 use Rattle.std.proofs.lemmas.List.{get_or-set_other, get_or_past}
 use Rattle.std.proofs.lemmas.List.FromFn.{get_or-map-range_with_len, length-map-range_with_len}
+use Rattle.sg_wire.specs.Initiator.{initiator_count}
 use Rattle.sg_units.specs.Attentions.{Pending, pending_for, remaining, with_optional}
 use Rattle.sg_units.specs.Attentions.{without_condition, without_oldest}
 use Rattle.sg_units.specs.Laws.{IsRefused, OthersAreRefused, is_exclusive_access}
@@ -177,37 +178,39 @@ cleared [] i = refl
 cleared (queue ∷ rest) zero = refl
 cleared (queue ∷ rest) (suc i) = cleared rest i
 
-queue-if : (pending : Pending) (conditions : Conditions) (i : ℕ) → length pending ≡ 8
-    → get_or conditions i None ≡ None → (i < 8) ⊎ (8 ≤ i)
-    → get_or (map (queue_after pending conditions) (range_with_len 0 8)) i [] ≡ pending_for pending i
-queue-if pending conditions i eight none (inl less) =
-    get_or-map-range_with_len (queue_after pending conditions) 0 8 i i [] less (omega arith)
+queue-if : (pending : Pending) (conditions : Conditions) (i : ℕ) → length pending ≡ initiator_count
+    → get_or conditions i None ≡ None → (i < initiator_count) ⊎ (initiator_count ≤ i)
+    → get_or (map (queue_after pending conditions) (range_with_len 0 initiator_count)) i []
+    ≡ pending_for pending i
+queue-if pending conditions i length_is none (inl less) =
+    get_or-map-range_with_len (queue_after pending conditions) 0 initiator_count i i [] less (omega arith)
     ∙ ap (with_optional (pending_for pending i)) none
-queue-if pending conditions i eight none (inr past) =
-    let size = length-map-range_with_len (queue_after pending conditions) 0 8 in
-    get_or_past (map (queue_after pending conditions) (range_with_len 0 8)) i [] (omega arith)
+queue-if pending conditions i length_is none (inr past) =
+    let size = length-map-range_with_len (queue_after pending conditions) 0 initiator_count in
+    get_or_past (map (queue_after pending conditions) (range_with_len 0 initiator_count)) i [] (omega arith)
     ∙ sym (get_or_past pending i [] (omega arith))
 
 -- what is raised for others leaves the queue of an initiator
-pub raised-others : (pending : Pending) (conditions : Conditions) (i : ℕ) → length pending ≡ 8
+pub raised-others : (pending : Pending) (conditions : Conditions) (i : ℕ) → length pending ≡ initiator_count
     → get_or conditions i None ≡ None
     → pending_for (raised_for_each pending conditions) i ≡ pending_for pending i
 unfolding raised_for_each
-raised-others pending conditions i eight none =
-    queue-if pending conditions i eight none (cases_lt i 8)
+raised-others pending conditions i length_is none =
+    queue-if pending conditions i length_is none (cases_lt i initiator_count)
 
--- a condition for each of the eight initiators, none for one of them
+-- a condition for each initiator, none for one of them
 pub raised-none : (f : ℕ → Option UnitAttention) (i : ℕ) → f i ≡ None
-    → get_or (map f (range_with_len 0 8)) i None ≡ None
-raised-none f i h = none-if f i h (cases_lt i 8)
+    → get_or (map f (range_with_len 0 initiator_count)) i None ≡ None
+raised-none f i h = none-if f i h (cases_lt i initiator_count)
   where
-    none-if : (f : ℕ → Option UnitAttention) (i : ℕ) → f i ≡ None → (i < 8) ⊎ (8 ≤ i)
-        → get_or (map f (range_with_len 0 8)) i None ≡ None
+    none-if : (f : ℕ → Option UnitAttention) (i : ℕ) → f i ≡ None
+        → (i < initiator_count) ⊎ (initiator_count ≤ i)
+        → get_or (map f (range_with_len 0 initiator_count)) i None ≡ None
     none-if f i h (inl less) =
-        get_or-map-range_with_len f 0 8 i i None less (omega arith) ∙ h
+        get_or-map-range_with_len f 0 initiator_count i i None less (omega arith) ∙ h
     none-if f i h (inr past) =
-        let size = length-map-range_with_len f 0 8 in
-        get_or_past (map f (range_with_len 0 8)) i None (omega arith)
+        let size = length-map-range_with_len f 0 initiator_count in
+        get_or_past (map f (range_with_len 0 initiator_count)) i None (omega arith)
 
 -- ---- Views
 

@@ -28,6 +28,7 @@ mod RegistrationLemmas
 mod OutsiderLemmas
 mod NewcomerLemmas
 mod RegisteringLemmas
+mod RoomLemmas
 mod TogetherLemmas
 mod HandOverLemmas
 mod OldKeyLemmas

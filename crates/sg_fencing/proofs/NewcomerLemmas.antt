@@ -73,7 +73,7 @@ module _ (rules : Rules) (state : ReservationState) (j : ℕ)
   abbrev pub AddsIf : ReservationChange → Type 0
   AddsIf change = is_registered change.registrations j ≡ true → Adds state j list change
 
-  register-adds : list.spec_i_pt ≡ false → FirstIs (EffectIs AddsIf) (register_cases state j list)
+  register-adds : list.spec_i_pt ≡ false → FirstIs (EffectIs AddsIf) (register_cases rules state j list)
   unfolding register_cases
   register-adds alone =
       case_or (EffectIs AddsIf) _ _

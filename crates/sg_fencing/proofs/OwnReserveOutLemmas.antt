@@ -4,7 +4,7 @@ use Rattle.std.proofs.Common.{◌≡◌, ◌==◌, ℕ, Bool, true, false, not, 
 use Rattle.std.proofs.Common.{List}
 use Rattle.std.proofs.Common.{length, Option, Some, None, Ok, Err, refl, sym, ap, ◌∙◌}
 use Rattle.std.proofs.Common.{arith}
-use Rattle.std.specs.Prelude.{if◌then◌else◌, is_some}
+use Rattle.std.specs.Prelude.{if◌then◌else◌, is_some, nat_le}
 use Rattle.std.proofs.lemmas.Bool.{and_from, eq-eqb, false≢true, not-false, not-true, or_left}
 use Rattle.std.proofs.lemmas.Bool.{or_parts}
 use Rattle.std.proofs.lemmas.Bool.Decides.{nat_tests}
@@ -19,7 +19,7 @@ use Rattle.sg_units.specs.Access.{allowed, allows, standing_of}
 use Rattle.sg_units.specs.Laws.{OneKeyEach}
 use Rattle.sg_units.specs.UnsupportedFlags.{has_unsupported_flag}
 use Rattle.sg_units.specs.Registrations.{is_of, is_registered, is_registered_under, is_under}
-use Rattle.sg_units.specs.Registrations.{key_of, max_registrations}
+use Rattle.sg_units.specs.Registrations.{key_of, room_for_registrations}
 use Rattle.sg_units.specs.Registrations.{without_initiator, without_key}
 use Rattle.sg_units.specs.Reservations.{IsConsistent, has_type, is_holder, taken, while_held}
 use Rattle.sg_units.specs.ReservationType.{type_of}
@@ -141,7 +141,7 @@ module _ (rules : Rules) (all : List Registration) (kind : ReservationType) (bef
       ap (λ b. if b then held else None) gone
 
   register_leaves : (list : OutList) → key_of all i ≡ Some k
-      → FirstIs (Leaves state i (register_left list.service_action_key)) (register_cases state i list)
+      → FirstIs (Leaves state i (register_left list.service_action_key)) (register_cases rules state i list)
   unfolding register_cases
   register_leaves list key =
       let sark = list.service_action_key in
@@ -151,7 +151,7 @@ module _ (rules : Rules) (all : List Registration) (kind : ReservationType) (bef
       let is = here key in
       case_or (Leaves state i v) _ _ (λ h. absurd (not_known known (sark == 0) is h))
       (λ _. case_or (Leaves state i v) _ _
-      (λ h. absurd (not_known known (length all == max_registrations) is h))
+      (λ h. absurd (not_known known (nat_le (room_for_registrations rules) (length all)) is h))
       (λ _. case_or (Leaves state i v) _ _ (λ h. absurd (not_true known is h))
       (λ _. case_or (Leaves state i v) _ _
       (λ other. at state i v (Some sark, held) _ (ap (λ b. register_or b sark) (not-true _ other))

@@ -136,7 +136,7 @@ module _ (rules : Rules) (state : ReservationState) (j : ℕ) where
   acts sark = is_registered state.registrations j || not (sark == 0)
 
   register-sets : (list : OutList) → acts list.service_action_key ≡ true
-      → FirstIs (EffectIs (Sets list.aptpl)) (register_cases state j list)
+      → FirstIs (EffectIs (Sets list.aptpl)) (register_cases rules state j list)
   unfolding register_cases
   register-sets list h =
       let S = Sets list.aptpl in
@@ -171,7 +171,7 @@ module _ (rules : Rules) (state : ReservationState) (j : ℕ) where
       (λ _. last_case (EffectIs S) _ _ refl (effective S _ refl))))))))
 
   register-leaves : (list : OutList) → acts list.service_action_key ≡ false
-      → FirstIs (EffectIs Leaves) (register_cases state j list)
+      → FirstIs (EffectIs Leaves) (register_cases rules state j list)
   unfolding register_cases
   register-leaves list h =
       let known = is_registered state.registrations j in
@@ -193,7 +193,7 @@ module _ (rules : Rules) (state : ReservationState) (j : ℕ) where
       absurd (false≢true (sym h ∙ ap (λ b. b || not (list.service_action_key == 0)) known))
 
   by-register : (P : ReservationChange → Type 0) (action : OutAction) (scope_type : ℕ) (list : OutList)
-      → is_registering action ≡ true → FirstIs (EffectIs P) (register_cases state j list)
+      → is_registering action ≡ true → FirstIs (EffectIs P) (register_cases rules state j list)
       → FirstIs (EffectIs P) (register_together_cases state j list)
       → (is_registered state.registrations j ≡ true → FirstIs (EffectIs P) (move_cases state j list))
       → EffectIs P (outcome rules state j action scope_type list)
@@ -275,7 +275,7 @@ module _ (state : State) (j : ℕ) where
         (following : (o : Outcome) → EffectIs P o
         → After (step_outcome state j (when_sound (result_map_both (λ change. change) out_refusal o)
         (changing_reservations state j))))
-        (cases : FirstIs (EffectIs P) (register_cases state.reservations j list))
+        (cases : FirstIs (EffectIs P) (register_cases (rules_for state) state.reservations j list))
         (together : FirstIs (EffectIs P) (register_together_cases state.reservations j list))
         (moving : is_registrant state j ≡ true
         → FirstIs (EffectIs P) (move_cases state.reservations j list)) where

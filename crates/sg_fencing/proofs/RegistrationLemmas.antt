@@ -103,7 +103,7 @@ module _ (rules : Rules) (state : ReservationState) (j : ℕ)
   not-own key h = false≢true (sym (not-under state.registrations j key unknown) ∙ h)
 
   abbrev Registering : Type 0
-  Registering = FirstIs (EffectIs P) (register_cases state j list)
+  Registering = FirstIs (EffectIs P) (register_cases rules state j list)
 
   abbrev Together : Type 0
   Together = FirstIs (EffectIs P) (register_together_cases state j list)
@@ -151,7 +151,7 @@ module _ (rules : Rules) (state : ReservationState) (i j : ℕ) (other : (j == i
         (is_registered change.registrations i) change.for_remaining change.for_removed remaining removed;
   })
 
-  register-leaves : (list : OutList) → FirstIs (EffectIs Leaves) (register_cases state j list)
+  register-leaves : (list : OutList) → FirstIs (EffectIs Leaves) (register_cases rules state j list)
   unfolding register_cases
   register-leaves list =
       case_or (EffectIs Leaves) _ _ (λ _. left _ refl refl refl refl)
@@ -205,7 +205,7 @@ module _ (rules : Rules) (state : ReservationState) (j : ℕ)
   abbrev pub IsIdle : ReservationChange → Type 0
   IsIdle change = is_registered change.registrations j ≡ false → state_after state (Ok change) ≡ state
 
-  register-idle : (list : OutList) → FirstIs (EffectIs IsIdle) (register_cases state j list)
+  register-idle : (list : OutList) → FirstIs (EffectIs IsIdle) (register_cases rules state j list)
   unfolding register_cases
   register-idle list =
       case_or (EffectIs IsIdle) _ _ (λ _. effective IsIdle _ (λ _. refl))
@@ -249,7 +249,7 @@ module _ (rules : Rules) (state : ReservationState) (i j : ℕ)
   stays change h = effective IsUnknown change h
 
   registering-other : (list : OutList) → asks_for rules j i list ≡ false
-      → FirstIs (EffectIs IsUnknown) (register_cases state j list)
+      → FirstIs (EffectIs IsUnknown) (register_cases rules state j list)
   unfolding register_cases
   registering-other list spared =
       let all = state.registrations in

@@ -122,7 +122,7 @@ module _ (rules : Rules) (all : List Registration) (kind : ReservationType) (bef
   P = IsLeftIfHolder all (held_by kind i) i j
 
   register_leaves : (list : OutList) → is_registered all i ≡ true → (j == i) ≡ false
-      → FirstIs (EffectIs P) (register_cases (alone_in all kind i before) j list)
+      → FirstIs (EffectIs P) (register_cases rules (alone_in all kind i before) j list)
   unfolding register_cases
   register_leaves list here other =
       let held = held_by kind i in
@@ -237,7 +237,7 @@ module _ (rules : Rules) (all : List Registration) (kind : ReservationType) (bef
   H = IsHeld (held_by kind i) i
 
   register_holds : (list : OutList) → is_registered all i ≡ true → (j == i) ≡ false
-      → FirstIs (EffectIs H) (register_cases (alone_in all kind i before) j list)
+      → FirstIs (EffectIs H) (register_cases rules (alone_in all kind i before) j list)
   unfolding register_cases
   register_holds list here other =
       let held = held_by kind i in

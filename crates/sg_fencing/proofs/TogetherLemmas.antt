@@ -79,7 +79,7 @@ module _ (rules : Rules) (state : ReservationState) (i j : ℕ) (other : (j == i
   by-key rest e =
       is_registered-key_of rest i ∙ (ap is_some e ∙ (sym (is_registered-key_of all i) ∙ unknown))
 
-  register-joins : (list : OutList) → FirstIs (EffectIs JoinsIf) (register_cases state j list)
+  register-joins : (list : OutList) → FirstIs (EffectIs JoinsIf) (register_cases rules state j list)
   unfolding register_cases
   register-joins list =
       let own = registration_by list j in

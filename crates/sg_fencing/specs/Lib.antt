@@ -8,3 +8,4 @@ pub mod Group
 pub mod PowerCycles
 pub mod WithFaults
 pub mod Stopping
+pub mod Room

@@ -19,7 +19,7 @@ longest_operation = 1048589
 
 -- The room that a command needs at most: its operation's, and that of a table of faults.
 abbrev pub longest_changes : ℕ
-longest_changes = 1049190
+longest_changes = 1051878
 
 -- A batch has room for the changes of one command.
 abbrev pub HasRoom : BatchValue → Type 0

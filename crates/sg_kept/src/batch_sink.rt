@@ -37,7 +37,7 @@ impl Sink for BatchSink {
 }
 
 /// The room that the changes of a command need at most, in bytes.
-const LONGEST_CHANGES: usize = 1_049_190;
+const LONGEST_CHANGES: usize = 1_051_878;
 
 impl BatchSink {
     /// Returns `true` if there is room for the changes of a command.

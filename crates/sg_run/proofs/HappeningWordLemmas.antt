@@ -2,6 +2,7 @@
 use Rattle.std.proofs.Common.{◌≡◌, ◌≤◌, ◌<◌, ℕ, ◌-◌, List, [], ◌∷◌, length, map, take, drop}
 use Rattle.std.proofs.Common.{slice_index_or, Bor, Some, refl, arith}
 use Rattle.std.proofs.lemmas.List.{take_all}
+use Rattle.sg_wire.specs.declared.profile.Profile.TheVariants.{Extended}
 use Rattle.sg_run.specs.HappeningVerbs.{and_initiator, initiators_of}
 use Rattle.sg_run.specs.InitiatorWord.{initiator_of}
 use Rattle.sg_units.specs.Initiators.{no_initiators}
@@ -19,7 +20,7 @@ nobody (w ∷ ws) few = absurd (omega arith)
 
 pub initiator_first : (words : Words) (d : Bor (List ℕ)) → 1 ≤ length words
     → initiators_of (texts words) ≡ and_initiator
-    (initiator_of (slice_index_or words 0 d).now)
+    (initiator_of Extended (slice_index_or words 0 d).now)
     (initiators_of (texts (take (length words - 1) (drop 1 words))))
 unfolding initiators_of
 initiator_first [] d some = absurd (omega arith)

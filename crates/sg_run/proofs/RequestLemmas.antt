@@ -34,7 +34,7 @@ after-tests : (profile : Profile) (text verb : List ℕ) (operands : List (List 
     → (slice_index verb 0 == 0x23) ≡ false → list_all is_allowed text ≡ true
     → length (verb ∷ operands) ≤ word_limit
     → by_words profile text (verb ∷ operands)
-    ≡ by_first_word profile (initiator_of verb) verb operands
+    ≡ by_first_word profile (initiator_of profile verb) verb operands
 after-tests profile text verb operands no_comment allowed few =
     rw (no_comment, allowed, few-words (length (verb ∷ operands)) few) refl
 
@@ -50,7 +50,7 @@ by-first_words : (profile : Profile) (text verb : List ℕ) (operands all : List
     → (slice_index verb 0 == 0x23) ≡ false → list_all is_allowed text ≡ true
     → length all ≤ word_limit
     → (operands ≡ take 5 (drop 1 all))
-    × (by_words profile text all ≡ by_first_word profile (initiator_of verb) verb (drop 1 all))
+    × (by_words profile text all ≡ by_first_word profile (initiator_of profile verb) verb (drop 1 all))
 by-first_words profile text verb operands [] first no_comment allowed few = cc
 by-first_words profile text verb operands (v ∷ os) first no_comment allowed few =
     let same_verb : verb ≡ v = cc in
@@ -60,7 +60,7 @@ by-first_words profile text verb operands (v ∷ os) first no_comment allowed fe
 
 -- a verb, which is no initiator
 request-by_verb : (profile : Profile) (text verb : List ℕ) (operands : List (List ℕ))
-    → HasFirstWords text verb operands → initiator_of verb ≡ None
+    → HasFirstWords text verb operands → initiator_of profile verb ≡ None
     → text_request profile text ≡ by_verb profile verb (drop 1 (words text))
 unfolding text_request
 request-by_verb profile text verb operands w none =
@@ -71,7 +71,7 @@ request-by_verb profile text verb operands w none =
 
 -- which lets nothing happen
 pub request-by_short_verb : (profile : Profile) (text verb : List ℕ) (operands : List (List ℕ))
-    → HasFirstWords text verb operands → initiator_of verb ≡ None
+    → HasFirstWords text verb operands → initiator_of profile verb ≡ None
     → verb_named (verbs_of profile) verb ≡ None
     → by_short_verb profile verb operands ≡ text_request profile text
 request-by_short_verb profile text verb operands w none short =
@@ -84,7 +84,7 @@ request-by_short_verb profile text verb operands w none short =
 
 -- or lets something happen
 pub request-by_happening : (profile : Profile) (text verb : List ℕ) (operands : List (List ℕ))
-    (lets_happen : HappeningVerb) → HasFirstWords text verb operands → initiator_of verb ≡ None
+    (lets_happen : HappeningVerb) → HasFirstWords text verb operands → initiator_of profile verb ≡ None
     → verb_named (verbs_of profile) verb ≡ Some lets_happen
     → happening_request (happening_of lets_happen (drop 1 (words text))) ≡ text_request profile text
 request-by_happening profile text verb operands lets_happen w none named =
@@ -94,7 +94,7 @@ request-by_happening profile text verb operands lets_happen w none named =
 
 -- an initiator
 pub request-by_tool : (profile : Profile) (text verb : List ℕ) (operands : List (List ℕ)) (initiator : ℕ)
-    → HasFirstWords text verb operands → initiator_of verb ≡ Some initiator
+    → HasFirstWords text verb operands → initiator_of profile verb ≡ Some initiator
     → (operands ≡ take 5 (tool_words text))
     × (tool_line profile initiator (tool_words text) ≡ text_request profile text)
 unfolding text_request

@@ -25,6 +25,7 @@ use Rattle.sg_run.specs.HappeningText.{asked_by, by_verb_words, happening_of_tex
 use Rattle.sg_run.specs.HappeningVerbs.{and_initiator, attention_of, condition_named, condition_words}
 use Rattle.sg_run.specs.HappeningVerbs.{establishing, grow_of, growing, initiators_of, nexus_of}
 use Rattle.sg_run.specs.HappeningVerbs.{power_of, reset_of}
+use Rattle.sg_wire.specs.Initiator.{initiator_count}
 use Rattle.sg_wire.specs.declared.profile.Profile.TheVariants.{Extended}
 use Rattle.sg_run.specs.InitiatorWord.{initiator_of}
 use Rattle.sg_run.specs.Limits.{word_limit}
@@ -54,16 +55,6 @@ mapped P Q f goes (Some a) has = goes a has
 
 -- ---- Words
 
-digit-below : (digit : ℕ) (test : Bool) → (nat_le 0x30 digit && nat_le digit 0x37) ≡ test
-    → IfSome (if test then Some (digit - 0x30) else None) (λ i. i < 8)
-digit-below digit true is = grind (arith, nat_tests)
-digit-below digit false is = tt
-
-initiator-below : (word : List ℕ) → IfSome (initiator_of word) (λ i. i < 8)
-initiator-below [] = tt
-initiator-below (digit ∷ []) = digit-below digit (nat_le 0x30 digit && nat_le digit 0x37) refl
-initiator-below (digit ∷ more ∷ word) = tt
-
 limited : (n limit : ℕ) (test : Bool) → nat_le n limit ≡ test
     → IfSome (if test then Some n else None) (λ m. m ≤ limit)
 limited n limit true is = grind (arith, nat_tests)
@@ -72,6 +63,15 @@ limited n limit false is = tt
 within-limit : (limit : ℕ) (number : Option ℕ) → IfSome (at_most limit number) (λ n. n ≤ limit)
 within-limit limit None = tt
 within-limit limit (Some n) = limited n limit (nat_le n limit) refl
+
+below-count : (number : Option ℕ) → IfSome number (λ n. n ≤ initiator_count - 1)
+    → IfSome number (λ n. n < initiator_count)
+below-count None has = tt
+below-count (Some n) has = omega (arith, has)
+
+initiator-below : (word : List ℕ) → IfSome (initiator_of Extended word) (λ i. i < initiator_count)
+initiator-below word = below-count (number_up_to (initiator_count - 1) word)
+    (within-limit (initiator_count - 1) (number_of word))
 
 at-least : (low n : ℕ) (test : Bool) → nat_le low n ≡ test
     → IfSome (if test then Some n else None) (λ m. low ≤ m)
@@ -99,10 +99,10 @@ with-mask : (members : Members) (initiator : ℕ) → AreMembers members
     → AreMembers (with_member members initiator)
 with-mask members initiator has = length-set members initiator true ∙ has
 
-nobody-else : (initiator : ℕ) → initiator < 8 → is_member no_initiators initiator ≡ false
-nobody-else initiator below = get_or-replicate 8 initiator false false below
+nobody-else : (initiator : ℕ) → initiator < initiator_count → is_member no_initiators initiator ≡ false
+nobody-else initiator below = get_or-replicate initiator_count initiator false false below
 
-with-somebody : (members : Members) (initiator : ℕ) → initiator < 8 → AreMembers members
+with-somebody : (members : Members) (initiator : ℕ) → initiator < initiator_count → AreMembers members
     → with_member members initiator ≢ no_initiators
 with-somebody members initiator below has same =
     let there : is_member (with_member members initiator) initiator ≡ true =
@@ -123,7 +123,7 @@ one-more (Some initiator) (Some others) has = with-mask others initiator has
 all-masked : (words : List (List ℕ)) → IfSome (initiators_of words) AreMembers
 unfolding initiators_of
 all-masked [] = refl
-all-masked (word ∷ words) = one-more (initiator_of word) (initiators_of words) (all-masked words)
+all-masked (word ∷ words) = one-more (initiator_of Extended word) (initiators_of words) (all-masked words)
 
 -- ---- The options of a fault
 
@@ -133,7 +133,7 @@ record HasFields (options : FaultOptions) : Type 0 where
   times : IfSome options.times (λ n. 0 < n)
 
 abbrev HasOperand : FaultOption → Type 0
-HasOperand (option.To initiator) = initiator < 8
+HasOperand (option.To initiator) = initiator < initiator_count
 HasOperand (option.Blocks extent) = 0 < extent.count
 HasOperand (option.Times n) = 0 < n
 HasOperand other = Unit
@@ -151,7 +151,7 @@ others-masked : (others : Option Members) → IfSome others IsNamed
 others-masked None has = refl
 others-masked (Some members) has = has.0
 
-named-with : (others : Option Members) (initiator : ℕ) → initiator < 8 → IfSome others IsNamed
+named-with : (others : Option Members) (initiator : ℕ) → initiator < initiator_count → IfSome others IsNamed
     → IsNamed (with_member (unwrap_or others no_initiators) initiator)
 named-with others initiator below has =
     let masked = others-masked others has in (
@@ -244,9 +244,9 @@ of-code name operand =
 of-operand : (name operand : List ℕ) → IfSome (operand_option name operand) HasOperand
 of-operand name operand =
     either HasOperand (bytes_eq name (codes "to"))
-    (option_map (λ i. option.To i) (initiator_of operand)) (code_option name operand)
-    (mapped (λ i. i < 8) HasOperand (λ i. option.To i) (λ i below. below) (initiator_of operand)
-    (initiator-below operand))
+    (option_map (λ i. option.To i) (initiator_of Extended operand)) (code_option name operand)
+    (mapped (λ i. i < initiator_count) HasOperand (λ i. option.To i) (λ i below. below)
+    (initiator_of Extended operand) (initiator-below operand))
     (of-code name operand)
 
 of-extent : (lba count : Option ℕ) → IfSome count (λ n. 0 < n)
@@ -326,8 +326,8 @@ of-reset (word ∷ next ∷ words) = tt
 of-nexus : (operands : List (List ℕ)) → IfSome (nexus_of operands) IsWellFormed
 of-nexus [] = tt
 of-nexus (word ∷ []) =
-    mapped (λ i. i < 8) IsWellFormed (λ i. happening.NexusLoss i) (λ i below. below) (initiator_of word)
-    (initiator-below word)
+    mapped (λ i. i < initiator_count) IsWellFormed (λ i. happening.NexusLoss i) (λ i below. below)
+    (initiator_of Extended word) (initiator-below word)
 of-nexus (word ∷ next ∷ words) = tt
 
 in-range : (blocks : ℕ) (test : Bool) → is_between 1 blocks max_capacity ≡ test

@@ -3,6 +3,7 @@ use Rattle.std.specs.Prelude.{ℕ, ◌-◌, ◌^◌, List, [], ◌∷◌, codes,
 use Rattle.std.specs.Prelude.{if◌then◌else◌, Option, Some, None, option_and_then, option_map, unwrap_or}
 use Rattle.std.specs.Str.{bytes_eq}
 use Rattle.sg_wire.specs.declared.extent.Extent.{Extent}
+use Rattle.sg_wire.specs.declared.profile.Profile.TheVariants.{Extended}
 use Rattle.sg_tools.specs.Number.{number_of, number_up_to}
 use Rattle.sg_units.specs.Initiators.{no_initiators, with_member}
 use Rattle.sg_run.specs.InitiatorWord.{initiator_of}
@@ -58,7 +59,7 @@ blocks_option lba count = option_map (λ extent. Blocks extent) (extent_of lba c
 -- and with one operand.
 abbrev pub operand_option : (name operand : List ℕ) → Option FaultOption
 operand_option name operand =
-    if bytes_eq name (codes "to") then option_map (λ i. To i) (initiator_of operand)
+    if bytes_eq name (codes "to") then option_map (λ i. To i) (initiator_of Extended operand)
     else (if bytes_eq name (codes "code") then option_map (λ code. Code code) (operation_code_of operand)
     else (if bytes_eq name (codes "skip") then option_map (λ n. Skip n) (number_up_to most_commands operand)
     else (if bytes_eq name (codes "times")

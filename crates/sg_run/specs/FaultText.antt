@@ -1,13 +1,14 @@
 -- The text of the verb `faults`: the armed faults in the words that arm them, and what is left of them
 -- (docs/SCRIPT.md).
-use Rattle.std.specs.Prelude.{ℕ, ◌/◌, ◌%◌, List, [], ◌∷◌, ◌++◌, length, codes, decimal, Bool, ◌||◌, not}
+use Rattle.std.specs.Prelude.{ℕ, ◌/◌, ◌%◌, List, [], ◌∷◌, ◌++◌, length, codes, decimal, Bool}
 use Rattle.std.specs.Prelude.{◌==◌, ◌&&◌, if◌then◌else◌, Option, Some, None, is_some, slice_index}
 use Rattle.std.specs.Prelude.{slice_index_or}
 use Rattle.std.specs.List.{flat_map, list_all, range_with_len}
+use Rattle.std.specs.Option.{option_eq}
 use Rattle.hex.specs.Hex.{upper_digits}
 use Rattle.sg_wire.specs.Initiator.{initiator_count}
 use Rattle.sg_units.specs.Initiators.{Members, is_member}
-use Rattle.sg_faults.specs.Arming.{count_for}
+use Rattle.sg_faults.specs.Arming.{count_for, first_count}
 use Rattle.sg_faults.specs.Faults.{Faults}
 use Rattle.sg_faults.specs.SenseCode.{key_code}
 use Rattle.sg_faults.specs.declared.sense_code.SenseCode.{SenseCode}
@@ -99,23 +100,24 @@ fault_text fault =
 
 -- ---- What is left
 
--- Something is counted.
-abbrev pub is_counted : Count → Bool
-is_counted count = not (count.skip == 0) || is_some count.times
+abbrev pub is_same : (count other : Count) → Bool
+is_same count other = count.skip == other.skip && option_eq (λ m n. m == n) count.times other.times
+
+-- Without `times` there is always a number of commands that still pass.
+abbrev pub skip_left_text : Count → List ℕ
+skip_left_text count =
+    if is_some count.times then skip_text count.skip else codes " skip " ++ decimal count.skip
 
 abbrev pub count_text : (initiator : ℕ) → Count → List ℕ
 count_text initiator count =
-    (codes "    to " ++ decimal initiator) ++ (codes ":" ++ (skip_text count.skip
+    (codes "    to " ++ decimal initiator) ++ (codes ":" ++ (skip_left_text count
     ++ (times_text count.times ++ codes "\n")))
 
--- What is left for an initiator that the fault names, if something is counted.
-abbrev pub is_left : ArmedFault → (initiator : ℕ) → Bool
-is_left armed initiator =
-    is_member armed.fault.initiators initiator && is_counted (count_for armed initiator)
-
+-- What is left for an initiator, unless it is what the fault began with.
 abbrev pub left_text : ArmedFault → (initiator : ℕ) → List ℕ
 left_text armed initiator =
-    if is_left armed initiator then count_text initiator (count_for armed initiator) else []
+    let left = count_for armed initiator in
+    if is_same left (first_count armed.fault initiator) then [] else count_text initiator left
 
 -- ---- The faults
 

@@ -1,9 +1,11 @@
--- The verbs for what happens to a disk, except `fault` and `heal` (docs/SCRIPT.md).
+-- The verbs for what happens to a disk, except `fault` and `heal` (docs/SCRIPT.md). All of them but
+-- `power`, which names no initiator, are verbs of an extended disk.
 use Rattle.std.specs.Prelude.{ℕ, List, [], ◌∷◌, codes, Option, Some, None, if◌then◌else◌}
 use Rattle.std.specs.Prelude.{option_and_then}
 use Rattle.std.specs.Option.{option_map}
 use Rattle.std.specs.Str.{bytes_eq}
 use Rattle.sg_store.specs.Disk.{max_capacity}
+use Rattle.sg_wire.specs.declared.profile.Profile.TheVariants.{Extended}
 use Rattle.sg_tools.specs.Number.{number_of}
 use Rattle.sg_units.specs.Initiators.{Members, all_initiators, no_initiators, with_member}
 use Rattle.sg_units.specs.declared.unit_attention.UnitAttention.{UnitAttention}
@@ -42,7 +44,7 @@ reset_of operands = None
 
 -- The verb `nexus`: an initiator loses its I_T nexus.
 abbrev pub nexus_of : List (List ℕ) → Option Happening
-nexus_of (initiator ∷ []) = option_map (λ i. NexusLoss i) (initiator_of initiator)
+nexus_of (initiator ∷ []) = option_map (λ i. NexusLoss i) (initiator_of Extended initiator)
 nexus_of operands = None
 
 -- The disk grows to a number of blocks, if a disk can have this number.
@@ -94,7 +96,7 @@ and_initiator initiator others = None
 -- The initiators that words name. Their order does not matter.
 unfoldable pub initiators_of : List (List ℕ) → Option Members
 initiators_of [] = Some no_initiators
-initiators_of (word ∷ words) = and_initiator (initiator_of word) (initiators_of words)
+initiators_of (word ∷ words) = and_initiator (initiator_of Extended word) (initiators_of words)
 
 abbrev pub establishing : Option UnitAttention → Option Members → Option Happening
 establishing (Some condition) (Some initiators) = Some (Establish condition initiators)

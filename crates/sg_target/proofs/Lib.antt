@@ -23,6 +23,7 @@ mod WrittenBlocksLemmas
 mod EmptyingLemmas
 mod JoiningLemmas
 pub mod NeedLemmas
+mod PortLemmas
 pub mod Space
 mod FoundLemmas
 -- The cost of ranges.

@@ -32,10 +32,10 @@ profile_of state = state.identity.profile
 abbrev pub resources_of : State → MappingResources
 resources_of state = record { blocks = state.disk.pool; used = len state.disk.contents }
 
--- No table of the disk is past its limit. No more addresses are used than the pool has blocks. Each
--- of the eight initiators has a queue of at most sixteen pending conditions, all distinct. At most
--- six initiators are registered, none twice and none under the key 0. A reservation has the holders
--- of its type. Each used address is below the capacity, and data is blocks of 512 bytes.
+-- No table of the disk is past its limit. No more addresses are used than the pool has blocks. Each of
+-- the 64 initiators has a queue of at most sixteen pending conditions, all distinct. No initiator is
+-- registered twice, or under the key 0. A reservation has the holders of its type. Each used address is
+-- below the capacity, and data is blocks of 512 bytes.
 pub record IsWithinLimits (state : State) : Type 0 where
   pub used : len state.disk.contents ≤ state.disk.pool
   pub pending : ArePending state.attentions

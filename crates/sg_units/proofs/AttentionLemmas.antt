@@ -1,15 +1,16 @@
 -- The queues of unit attention conditions.
 use Rattle.std.proofs.Common.{◌≡◌, ◌<◌, ◌≤◌, ◌+◌, ◌⊎◌, inl, inr, ◌==◌, ℕ, zero, suc, Bool, ◌||◌}
 use Rattle.std.proofs.Common.{true, false, not, cond, List, [], ◌∷◌, ◌++◌, length, map, drop, get_or}
-use Rattle.std.proofs.Common.{set, Option, Some, None, refl, sym, ap, ◌∙◌, subst, arith}
+use Rattle.std.proofs.Common.{set, Option, Some, None, refl, sym, ap, ◌∙◌, subst, arith, replicate}
 use Rattle.std.specs.Prelude.{if◌then◌else◌, filter, is_some}
-use Rattle.std.specs.List.{list_any}
+use Rattle.std.specs.List.{list_any, range_with_len}
 use Rattle.std.proofs.lemmas.Bool.{cases_lt, false≢true, or_parts, or_right}
 use Rattle.std.proofs.lemmas.List.Folds.{list_any-append}
 use Rattle.std.proofs.lemmas.List.{get_or-set_other, get_or-set_same, length-set, map-set}
 use Rattle.std.proofs.lemmas.List.FromFn.{fill_by_all}
 use Rattle.std.proofs.lemmas.Bool.Decides.{nat_tests}
 use Rattle.arrayvec.specs.ArrayVec.{ArrayVec}
+use Rattle.sg_wire.specs.Initiator.{initiator_count}
 use Rattle.sg_units.specs.Attentions.{AreDistinct, ArePending, AreQueues, IsNotAmong, IsQueue}
 use Rattle.sg_units.specs.Attentions.{Pending, covers, is_condition, is_covered, is_higher, is_pending}
 use Rattle.sg_units.specs.Attentions.{pending_for, raised}
@@ -251,11 +252,16 @@ one-queue = record { limit = omega arith; distinct = (tt, tt); reset_first = ref
 pub no-queue : IsQueue []
 no-queue = record { limit = omega arith; distinct = tt; reset_first = refl }
 
+same-queues : (n : ℕ) (queue : List UnitAttention) → IsQueue queue → AreQueues (replicate n queue)
+same-queues zero queue q = tt
+same-queues (suc n) queue q = (q, same-queues n queue q)
+
 -- after power on
 pub ArePending-power_on : ArePending power_on_pending
-ArePending-power_on =
-    let q = one-queue in
-    record { one_for_each = refl; queues = (q, (q, (q, (q, (q, (q, (q, (q, tt)))))))) }
+ArePending-power_on = record {
+  one_for_each = refl;
+  queues = same-queues initiator_count (PowerOn ∷ []) one-queue;
+}
 
 queues-set : (pending : Pending) (i : ℕ) (queue : List UnitAttention) → AreQueues pending
     → IsQueue queue → AreQueues (set pending i queue)
@@ -316,6 +322,11 @@ ArePending-raised_one pending i condition h =
     (IsQueue-with_optional (pending_for pending i) (Some condition)
     (IsQueue-pending_for pending i h.queues))
 
+made-queues : (queue : ℕ → List UnitAttention) → ((i : ℕ) → IsQueue (queue i)) → (is : List ℕ)
+    → AreQueues (map queue is)
+made-queues queue q [] = tt
+made-queues queue q (i ∷ is) = (q i, made-queues queue q is)
+
 -- one condition is put to each queue, if there is one
 pub ArePending-raised : (pending : Pending) (conditions : Conditions) → ArePending pending
     → ArePending (raised_for_each pending conditions)
@@ -324,7 +335,7 @@ ArePending-raised pending conditions h =
     let q : (i : ℕ) → IsQueue (queue_after pending conditions i) =
     λ i. IsQueue-with_optional (pending_for pending i) (get_or conditions i None)
     (IsQueue-pending_for pending i h.queues) in
-    record { one_for_each = refl; queues = (q 0, (q 1, (q 2, (q 3, (q 4, (q 5, (q 6, (q 7, tt)))))))) }
+    record { one_for_each = refl; queues = made-queues _ q (range_with_len 0 initiator_count) }
 
 pub ArePending-replaced : (queues : List (ArrayVec UnitAttention)) (i : ℕ)
     (d new : ArrayVec UnitAttention) → i < length queues → ArePending (map items_of queues)
@@ -385,8 +396,9 @@ RaisedBelow-more initial conditions pending n h r =
     }
 
 pub RaisedBelow-all : (initial : Pending) (conditions : Conditions) (pending : Pending) (n : ℕ)
-    → 8 ≤ n → length pending ≡ 8 → RaisedBelow initial conditions pending n
+    → initiator_count ≤ n → length pending ≡ initiator_count → RaisedBelow initial conditions pending n
     → pending ≡ raised_for_each initial conditions
 unfolding raised_for_each
-RaisedBelow-all initial conditions pending n h eight r =
-    fill_by_all (queue_after initial conditions) pending 8 [] eight (λ k l. r.below k (omega arith))
+RaisedBelow-all initial conditions pending n h size r =
+    fill_by_all (queue_after initial conditions) pending initiator_count [] size
+    (λ k l. r.below k (omega arith))

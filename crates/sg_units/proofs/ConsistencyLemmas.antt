@@ -2,7 +2,7 @@
 use Rattle.std.proofs.Common.{◌≡◌, ◌≤◌, ◌+◌, ◌==◌, ℕ, Bool, true, false, cond, ◌&&◌, ◌||◌}
 use Rattle.std.proofs.Common.{List, [], ◌∷◌, length, filter, Option, Some, None, refl}
 use Rattle.std.proofs.Common.{ap, ◌∙◌, arith}
-use Rattle.std.specs.Prelude.{if◌then◌else◌}
+use Rattle.std.specs.Prelude.{if◌then◌else◌, nat_le}
 use Rattle.std.specs.List.{fold, list_any}
 use Rattle.std.proofs.lemmas.Bool.{cond_both, false≢true, or_left, or_parts}
 use Rattle.std.proofs.lemmas.Bool.Decides.{nat_tests}
@@ -14,12 +14,13 @@ use Rattle.sg_units.specs.ReserveOut.{registration_by}
 use Rattle.sg_units.specs.Registrations.{has_key, is_of, is_registered, is_registered_under}
 use Rattle.sg_units.specs.Registrations.{is_under}
 use Rattle.sg_units.specs.Registrations.{max_registrations, registrations_of, with_registration}
-use Rattle.sg_units.specs.Registrations.{with_replaced}
+use Rattle.sg_units.specs.Registrations.{room_for_registrations, with_replaced}
 use Rattle.sg_units.specs.ReservationType.{is_all_registrants}
 use Rattle.sg_units.specs.Reservations.{AreConsistent, has_holder, holds}
 use Rattle.sg_units.specs.Reservations.{is_held_if_any, names_holder, names_holder_if_any, taken}
 use Rattle.sg_units.specs.Reservations.{while_held}
 use Rattle.sg_wire.specs.declared.out_list.OutList.{OutList}
+use Rattle.sg_wire.specs.declared.profile.Rules.{Rules}
 use Rattle.sg_units.specs.declared.registrations.Registration.{Registration}
 use Rattle.sg_units.specs.declared.reservation.Reservation.{Reservation}
 use Rattle.sg_units.specs.declared.types.ReservationType.{ReservationType}
@@ -232,7 +233,7 @@ pub consistent-filter : (p : Registration → Bool) (rs : List Registration)
 consistent-filter p rs held new h k n = record {
   one_each = λ i. omega (arith, h.one_each i, registrations_of-filter p rs i);
   no_zero_key = has_key-filter p rs 0 h.no_zero_key;
-  at_most_six = omega (arith, h.at_most_six, length-filter-le p rs);
+  within_room = omega (arith, h.within_room, length-filter-le p rs);
   held = k;
   holder = n;
 }
@@ -242,14 +243,17 @@ pub consistent-replaced : (rs : List Registration) (held : Option Reservation) (
 consistent-replaced rs held new e h = record {
   one_each = λ j. omega (arith, h.one_each j, registrations_of-replaced rs new j);
   no_zero_key = has_key-replaced rs new e h.no_zero_key;
-  at_most_six = omega (arith, h.at_most_six, length-replaced rs new);
+  within_room = omega (arith, h.within_room, length-replaced rs new);
   held = held-replaced held rs new h.held;
   holder = h.holder;
 }
 
-six : (rs : List Registration) → (length rs == max_registrations) ≡ false
-    → length rs ≤ max_registrations → length rs + 1 ≤ max_registrations
-six rs e h = grind (arith, nat_tests)
+room : (rules : Rules) (rs : List Registration) → nat_le (room_for_registrations rules) (length rs) ≡ false
+    → length rs + 1 ≤ max_registrations
+room rules rs e =
+    cond_both rules.has_room_for_all_registrations max_registrations 6
+    (λ most. nat_le most (length rs) ≡ false → length rs + 1 ≤ max_registrations)
+    (λ _ few. grind (arith, nat_tests)) (λ _ few. grind (arith, nat_tests)) e
 
 -- all but the room for one registration more
 pub record IsNearlyConsistent (rs : List Registration) (reservation : Option Reservation) : Type 0 where
@@ -282,18 +286,19 @@ pub consistent-within : (rs : List Registration) (held : Option Reservation) →
 consistent-within rs held h room = record {
   one_each = h.one_each;
   no_zero_key = h.no_zero_key;
-  at_most_six = room;
+  within_room = room;
   held = h.held;
   holder = h.holder;
 }
 
-pub consistent-push : (rs : List Registration) (held : Option Reservation) (new : Registration)
-    → is_registered rs new.initiator ≡ false → (length rs == max_registrations) ≡ false
-    → is_under 0 new ≡ false → AreConsistent rs held → AreConsistent (with_registration rs new) held
-consistent-push rs held new unknown room e h =
+pub consistent-push : (rules : Rules) (rs : List Registration) (held : Option Reservation)
+    (new : Registration) → is_registered rs new.initiator ≡ false
+    → nat_le (room_for_registrations rules) (length rs) ≡ false → is_under 0 new ≡ false
+    → AreConsistent rs held → AreConsistent (with_registration rs new) held
+consistent-push rules rs held new unknown few e h =
     consistent-within (with_registration rs new) held
     (nearly-push rs held new unknown e (nearly rs held h))
-    (omega (arith, length-append rs (new ∷ []), six rs room h.at_most_six))
+    (omega (arith, length-append rs (new ∷ []), room rules rs few))
 
 -- others are registered together with the caller
 nearly-too : (held : Option Reservation) (list : OutList) (rs : List Registration) (named : Option ℕ)
@@ -318,7 +323,7 @@ consistent-held rs held new h k n =
     record {
       one_each = h.one_each;
       no_zero_key = h.no_zero_key;
-      at_most_six = h.at_most_six;
+      within_room = h.within_room;
       held = k;
       holder = n;
     }
@@ -327,7 +332,7 @@ pub consistent-none : AreConsistent [] None
 consistent-none = record {
   one_each = λ i. omega arith;
   no_zero_key = refl;
-  at_most_six = omega arith;
+  within_room = omega arith;
   held = refl;
   holder = refl;
 }

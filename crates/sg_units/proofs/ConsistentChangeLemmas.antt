@@ -39,10 +39,10 @@ use Rattle.sg_units.proofs.ConsistencyLemmas.{is_registered-under, named-taken, 
 use Rattle.sg_units.proofs.ConsistencyLemmas.{nearly-each}
 use Rattle.sg_units.proofs.MoveLemmas.{nearly-moved, registered-moved}
 
-consistent-register : (state : ReservationState) (i : ℕ) (list : OutList) → IsConsistent state
-    → FirstIs (EffectIs IsConsistentChange) (register_cases state i list)
+consistent-register : (rules : Rules) (state : ReservationState) (i : ℕ) (list : OutList) → IsConsistent state
+    → FirstIs (EffectIs IsConsistentChange) (register_cases rules state i list)
 unfolding register_cases
-consistent-register state i list h =
+consistent-register rules state i list h =
     let all = state.registrations in
     let held = state.reservation in
     let own = registration_by list i in
@@ -51,7 +51,7 @@ consistent-register state i list h =
     (λ zero. case_or (EffectIs IsConsistentChange) _ _ (λ _. refused IsConsistentChange _)
     (λ full. case_or (EffectIs IsConsistentChange) _ _
     (λ new. effective IsConsistentChange _
-    (consistent-push all held own (not-true _ new) (and_false _ _ new full) (and_false _ _ new zero) h))
+    (consistent-push rules all held own (not-true _ new) (and_false _ _ new full) (and_false _ _ new zero) h))
     (λ _. case_or (EffectIs IsConsistentChange) _ _
     (λ other. effective IsConsistentChange _ (consistent-replaced all held own (not-true _ other) h))
     (λ _. last_case (EffectIs IsConsistentChange) _ _ refl
@@ -172,7 +172,7 @@ consistent-action : (rules : Rules) (state : ReservationState) (i : ℕ) (action
     → EffectIs IsConsistentChange (action_outcome rules state i action type list)
 consistent-action rules state i Register type list a h =
     choice (EffectIs IsConsistentChange) list.spec_i_pt _ _
-    (λ _. (consistent-together state i list h).first) (λ _. (consistent-register state i list h).first)
+    (λ _. (consistent-together state i list h).first) (λ _. (consistent-register rules state i list h).first)
 consistent-action rules state i Reserve type list a h =
     let here = is_registered-under state.registrations i list.reservation_key a in
     typed IsConsistentChange type _ (λ type. (consistent-reserve state i type here h).first)
@@ -187,7 +187,7 @@ consistent-action rules state i PreemptAndAbort type list a h =
     let here = is_registered-under state.registrations i list.reservation_key a in
     (consistent-preempt rules state i type list.service_action_key here h).first
 consistent-action rules state i RegisterAndIgnoreExistingKey type list a h =
-    (consistent-register state i list h).first
+    (consistent-register rules state i list h).first
 consistent-action rules state i RegisterAndMove type list a h = (consistent-move state i list h).first
 
 pub consistent-outcome : (rules : Rules) (state : ReservationState) (i : ℕ) (action : OutAction)

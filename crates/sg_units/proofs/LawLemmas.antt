@@ -302,10 +302,10 @@ counts : (state : ReservationState) (change : ReservationChange)
 counts state change is =
     effective (Counted state) change (λ e. absurd (false≢true (sym e ∙ is)))
 
-counted-register : (state : ReservationState) (i : ℕ) (list : OutList)
-    → FirstIs (EffectIs (Counted state)) (register_cases state i list)
+counted-register : (rules : Rules) (state : ReservationState) (i : ℕ) (list : OutList)
+    → FirstIs (EffectIs (Counted state)) (register_cases rules state i list)
 unfolding register_cases
-counted-register state i list =
+counted-register rules state i list =
     let P = Counted state in
     case_or (EffectIs P) _ _ (λ _. stays state _ _)
     (λ _. case_or (EffectIs P) _ _ (λ _. refused P _)
@@ -373,7 +373,7 @@ counted-action : (rules : Rules) (state : ReservationState) (i : ℕ) (action : 
     → EffectIs (Counted state) (action_outcome rules state i action type list)
 counted-action rules state i Register type list =
     choice (EffectIs (Counted state)) list.spec_i_pt _ _ (λ _. (counted-together state i list).first)
-    (λ _. (counted-register state i list).first)
+    (λ _. (counted-register rules state i list).first)
 counted-action rules state i Reserve type list =
     typed (Counted state) type _ (λ type. (counted-reserve state i type).first)
 counted-action rules state i Release type list =
@@ -384,7 +384,7 @@ counted-action rules state i Preempt type list =
 counted-action rules state i PreemptAndAbort type list =
     (counted-preempt rules state i type list.service_action_key).first
 counted-action rules state i RegisterAndIgnoreExistingKey type list =
-    (counted-register state i list).first
+    (counted-register rules state i list).first
 counted-action rules state i RegisterAndMove type list = (counted-move state i list).first
 
 counted-outcome : (rules : Rules) (state : ReservationState) (i : ℕ) (action : OutAction)

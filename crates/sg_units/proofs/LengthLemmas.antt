@@ -3,6 +3,7 @@ use Rattle.std.proofs.Common.{◌≡◌, ◌≤◌, ◌*◌, List, [], ◌∷◌
 use Rattle.std.proofs.Common.{length-append, lit≤}
 use Rattle.std.specs.List.{flat_map}
 use Rattle.sg_units.specs.FullStatus.{full_status_data, full_status_descriptor, longest_reserve_in}
+use Rattle.sg_units.specs.Registrations.{max_registrations}
 use Rattle.sg_units.specs.ReserveIn.{key_bytes, keys_data, reservation_data, reservation_data_of}
 use Rattle.sg_units.specs.declared.registrations.Registration.{Registration}
 use Rattle.sg_units.specs.declared.reservation.Reservation.{Reservation}
@@ -34,11 +35,12 @@ module _ (reservation : Option Reservation) where
       )
 
 module _ (state : ReservationState) where
-  pub keys-within : length state.registrations ≤ 6 → length (keys_data state) ≤ longest_reserve_in
+  pub keys-within : length state.registrations ≤ max_registrations
+      → length (keys_data state) ≤ longest_reserve_in
   unfolding keys_data
   keys-within h = omega (arith, h, length-keys state.registrations)
 
-  pub full-within : length state.registrations ≤ 6
+  pub full-within : length state.registrations ≤ max_registrations
       → length (full_status_data state) ≤ longest_reserve_in
   unfolding full_status_data
   full-within h = omega (arith, h, length-descriptors state.reservation state.registrations)

@@ -48,7 +48,7 @@ module _ (all : List Registration) where
 pub consistent-passes : (rs : List Registration) (r : Option Reservation) → AreConsistent rs r
     → are_consistent rs r ≡ true
 consistent-passes rs r is =
-    both (leb (length rs) max_registrations) _ (le-leb (length rs) max_registrations is.at_most_six)
+    both (leb (length rs) max_registrations) _ (le-leb (length rs) max_registrations is.within_room)
     (both (each_once rs) _ (each rs is.one_each rs)
     (both (not (has_key rs 0)) _ (ap not is.no_zero_key)
     (both (is_held_if_any r rs) (names_holder_if_any r) is.held is.holder)))
@@ -63,7 +63,7 @@ consistent-shown rs r is =
     record {
       one_each = at-most rs b.0;
       no_zero_key = not-true (has_key rs 0) c.0;
-      at_most_six = leb-true (length rs) max_registrations a.0;
+      within_room = leb-true (length rs) max_registrations a.0;
       held = d.0;
       holder = d.1;
     }

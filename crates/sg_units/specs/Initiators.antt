@@ -1,6 +1,6 @@
 -- Sets of initiators.
-use Rattle.std.specs.Prelude.{ℕ, ◌/◌, ◌%◌, ◌^◌, ◌==◌, Bool, true, false, nat_lt, if◌then◌else◌}
-use Rattle.std.specs.Prelude.{List, map, replicate, slice_index_or, slice_set, Option, Some, None}
+use Rattle.std.specs.Prelude.{ℕ, ◌/◌, ◌%◌, ◌^◌, ◌==◌, Bool, true, false}
+use Rattle.std.specs.Prelude.{List, map, replicate, slice_index_or, slice_set}
 use Rattle.std.specs.List.{range_with_len}
 use Rattle.sg_wire.specs.Initiator.{initiator_count}
 
@@ -17,17 +17,12 @@ no_initiators = replicate initiator_count false
 abbrev pub all_initiators : Members
 all_initiators = replicate initiator_count true
 
--- The initiators of a mask. Initiator i has bit i, and no other bit is set.
+-- The initiators of a mask. Initiator i has bit i.
 abbrev pub is_in_mask : (mask initiator : ℕ) → Bool
 is_in_mask mask initiator = mask / 2 ^ initiator % 2 == 1
 
-unfoldable pub named_in_mask : (mask : ℕ) → Members
-named_in_mask mask = map (is_in_mask mask) (range_with_len 0 initiator_count)
-
-abbrev pub members_of_mask : (mask : ℕ) → Option Members
-members_of_mask mask =
-    if nat_lt mask (2 ^ initiator_count)
-    then Some (named_in_mask mask) else None
+unfoldable pub members_of_mask : (mask : ℕ) → Members
+members_of_mask mask = map (is_in_mask mask) (range_with_len 0 initiator_count)
 
 abbrev pub with_member : Members → (initiator : ℕ) → Members
 with_member members initiator = slice_set members initiator true

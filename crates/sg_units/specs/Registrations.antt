@@ -2,11 +2,17 @@
 use Rattle.std.specs.Prelude.{ℕ, ◌^◌, ◌==◌, Bool, not, ◌&&◌, ◌||◌, if◌then◌else◌, bit_or}
 use Rattle.std.specs.Prelude.{List, [], ◌∷◌, ◌++◌, map, filter, find, count_by, Option, option_map}
 use Rattle.std.specs.List.{fold, list_any}
+use Rattle.sg_wire.specs.Initiator.{initiator_count}
+use Rattle.sg_wire.specs.declared.profile.Rules.{Rules}
 use Rattle.sg_units.specs.declared.registrations.Registration.{Registration}
 
--- The number of registrations that there is room for.
+-- The most registrations on a disk of any profile: one of each initiator.
 abbrev pub max_registrations : ℕ
-max_registrations = 6
+max_registrations = initiator_count
+
+-- The number of registrations that there is room for on a disk with these rules.
+abbrev pub room_for_registrations : Rules → ℕ
+room_for_registrations rules = if rules.has_room_for_all_registrations then max_registrations else 6
 
 abbrev pub registration : (initiator key : ℕ) → (all_tg_pt : Bool) → Registration
 registration initiator key all_tg_pt =

@@ -71,7 +71,7 @@ names_holder_if_any (Some reservation) =
 pub record AreConsistent (registrations : List Registration) (reservation : Option Reservation) : Type 0 where
   pub one_each : (initiator : ℕ) → registrations_of registrations initiator ≤ 1
   pub no_zero_key : has_key registrations 0 ≡ false
-  pub at_most_six : length registrations ≤ max_registrations
+  pub within_room : length registrations ≤ max_registrations
   pub held : is_held_if_any reservation registrations ≡ true
   pub holder : names_holder_if_any reservation ≡ true
 

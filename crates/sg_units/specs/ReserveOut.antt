@@ -1,5 +1,5 @@
 -- PERSISTENT RESERVE OUT (SPC-4, 5.13).
-use Rattle.std.specs.Prelude.{ℕ, ◌+◌, ◌%◌, ◌^◌, ◌==◌, nat_lt, Bool, true, false, not, ◌&&◌, ◌||◌}
+use Rattle.std.specs.Prelude.{ℕ, ◌+◌, ◌%◌, ◌^◌, ◌==◌, nat_le, nat_lt, Bool, true, false, not, ◌&&◌, ◌||◌}
 use Rattle.std.specs.Prelude.{if◌then◌else◌, List, [], ◌∷◌, length, map, Result, Ok, Err}
 use Rattle.std.specs.Prelude.{Option, Some, None, is_some, is_none, unwrap_or}
 use Rattle.std.specs.List.{fold, range_with_len}
@@ -13,8 +13,8 @@ use Rattle.sg_wire.specs.TargetPort.{relative_target_port}
 use Rattle.sg_wire.specs.TransportId.{transport_id_length}
 use Rattle.sg_units.specs.Raised.{Conditions}
 use Rattle.sg_units.specs.Registrations.{has_key, is_registered, is_registered_under, max_registrations}
-use Rattle.sg_units.specs.Registrations.{registration, with_registration, with_replaced}
-use Rattle.sg_units.specs.Registrations.{without_initiator}
+use Rattle.sg_units.specs.Registrations.{registration, room_for_registrations, with_registration}
+use Rattle.sg_units.specs.Registrations.{with_replaced, without_initiator}
 use Rattle.sg_units.specs.Registrations.{without_key, without_key_of_others, without_others}
 use Rattle.sg_units.specs.Reservations.{AreConsistent, has_holder, has_type, is_holder, taken}
 use Rattle.sg_units.specs.Reservations.{while_held}
@@ -114,8 +114,8 @@ registration_by list initiator = registration initiator list.service_action_key 
 -- an initiator that is not registered sends key 0, then nothing changes, PRGENERATION and APTPL
 -- included.
 -- Choice (SPC-4, 6.16.3): a new key may leave ALL_TG_PT as it was.
-unfoldable pub register_cases : ReservationState → (caller : ℕ) → OutList → List Case
-register_cases state caller list =
+unfoldable pub register_cases : Rules → ReservationState → (caller : ℕ) → OutList → List Case
+register_cases rules state caller list =
     let all = state.registrations in
     let held = state.reservation in
     let known = is_registered all caller in
@@ -123,7 +123,7 @@ register_cases state caller list =
     let own = registration_by list caller in
     let sark = list.service_action_key in
     when (not known && sark == 0) (Ok (unchanged state))
-    ∷ when (not known && length all == max_registrations) (Err NoRoom)
+    ∷ when (not known && nat_le (room_for_registrations rules) (length all)) (Err NoRoom)
     ∷ when (not known) (Ok (registering state (with_registration all own) list.aptpl))
     ∷ when (not (sark == 0)) (Ok (registering state (with_replaced all own) list.aptpl))
     ∷ otherwise (Ok (record (registering state rest list.aptpl) {
@@ -152,7 +152,7 @@ first_unknown at (None ∷ others) = Some at
 first_unknown at (Some initiator ∷ others) = first_unknown (at + transport_id_length) others
 
 -- REGISTER with SPEC_I_PT, which registers other initiators together with its own (SPC-4, 5.13,
--- registering). All of them are registered, or none is.
+-- registering). All of them are registered, or none is. Only an extended disk has it.
 unfoldable pub register_together_cases : ReservationState → (caller : ℕ) → OutList → List Case
 register_together_cases state caller list =
     let all = state.registrations in
@@ -310,7 +310,7 @@ abbrev pub action_outcome : Rules → ReservationState → (caller : ℕ) → Ou
     → Option ReservationType → OutList → Outcome
 action_outcome rules state i Register type list =
     if list.spec_i_pt then first_case (register_together_cases state i list)
-    else first_case (register_cases state i list)
+    else first_case (register_cases rules state i list)
 action_outcome rules state i Reserve type list =
     with_type type (λ type. first_case (reserve_cases state i type))
 action_outcome rules state i Release type list = release_outcome rules state i type
@@ -320,7 +320,7 @@ action_outcome rules state i Preempt type list =
 action_outcome rules state i PreemptAndAbort type list =
     first_case (preempt_cases rules state i type list.service_action_key)
 action_outcome rules state i RegisterAndIgnoreExistingKey type list =
-    first_case (register_cases state i list)
+    first_case (register_cases rules state i list)
 action_outcome rules state i RegisterAndMove type list = first_case (move_cases state i list)
 
 -- The RESERVATION KEY has to be the caller's. To register for the first time it has to be 0, and

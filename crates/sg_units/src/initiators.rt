@@ -2,7 +2,7 @@
 use sg_wire::Initiator;
 use std::marker::Model;
 
-/// A set of the initiators that the disk serves.
+/// A set of the initiators that a disk serves.
 #[derive(Clone, Copy)]
 pub struct Initiators {
     members: [bool; Initiator::COUNT],
@@ -33,7 +33,7 @@ impl Initiators {
         }
     }
 
-    /// Every initiator.
+    /// Every initiator that a disk of any profile serves.
     pub fn all() -> Initiators
         ensures { result ≡ all_initiators }
     {
@@ -57,19 +57,16 @@ impl Initiators {
         &self.members
     }
 
-    /// The initiators of a mask, in which bit i stands for initiator i. None if another bit is set.
-    #[tactic(auto, unfolding(crate::specs::Initiators::named_in_mask))]
-    pub fn of_mask(mask: u64) -> Option<Initiators>
+    /// The initiators of a mask, in which bit i stands for initiator i.
+    #[tactic(auto, unfolding(crate::specs::Initiators::members_of_mask))]
+    pub fn of_mask(mask: u64) -> Initiators
         ensures { result ≡ members_of_mask mask }
     {
-        if mask >> Initiator::COUNT != 0 {
-            return None;
-        }
         let mut members = [false; Initiator::COUNT];
         for number in 0..Initiator::COUNT {
             members[number] = is_in_mask(mask, number);
         }
-        Some(Initiators { members })
+        Initiators { members }
     }
 
     /// These initiators, and another one.

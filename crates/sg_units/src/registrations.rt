@@ -1,16 +1,16 @@
 // The registrants and their keys, in the order of registration.
-ghost use Rattle.std.specs.Prelude.{◌≡◌, ◌<◌, ◌≤◌, ◌^◌, ◌==◌, [], length, nat_le};
+ghost use Rattle.std.specs.Prelude.{◌≡◌, ◌<◌, ◌≤◌, ◌^◌, ◌==◌, [], length, nat_le, nat_lt};
 ghost use Rattle.std.specs.Prelude.{Some, None, if◌then◌else◌};
 ghost use Rattle.sg_units.specs.Registrations.{has_key, is_of, is_registered, is_registered_under};
 ghost use Rattle.sg_units.specs.Registrations.{key_of, max_registrations, registered_mask};
-ghost use Rattle.sg_units.specs.Registrations.{registrations_of};
+ghost use Rattle.sg_units.specs.Registrations.{registrations_of, room_for_registrations};
 ghost use Rattle.sg_units.specs.Restored.{each_once};
 ghost use Rattle.sg_units.specs.Registrations.{with_registration, with_replaced};
 ghost use Rattle.sg_units.specs.Registrations.{without_initiator, without_key};
 ghost use Rattle.sg_units.specs.Registrations.{without_key_of_others, without_others};
 
 use arrayvec::ArrayVec;
-use sg_wire::Initiator;
+use sg_wire::{Initiator, Rules};
 use std::marker::Model;
 
 /// An initiator that is registered, a registrant, and its reservation key (SPC-4, 5.13).
@@ -32,8 +32,11 @@ impl Registration {
     }
 }
 
-/// The most registrations that there is room for.
-pub(crate) const MAX_REGISTRATIONS: usize = 6;
+/// The most registrations on a disk of any profile: one of each initiator.
+pub(crate) const MAX_REGISTRATIONS: usize = Initiator::COUNT;
+
+/// The number of registrations that there is room for on a disk of the base profile.
+const BASE_ROOM: usize = 6;
 
 /// The registrations, in the order in which they were made.
 #[derive(Drop)]
@@ -61,16 +64,29 @@ impl Registrations {
 
     pub(crate) fn as_slice(&self) -> &[Registration]
         ensures value { result.now ≡ self.now }
-        ensures at_most_six { length self.now ≤ max_registrations }
+        ensures at_most { length self.now ≤ max_registrations }
     {
         self.items.as_slice()
     }
 
     pub(crate) fn is_full(&self) -> bool
         ensures value { result ≡ (length self.now == max_registrations) }
-        ensures at_most_six { length self.now ≤ max_registrations }
+        ensures at_most { length self.now ≤ max_registrations }
     {
         self.items.is_full()
+    }
+
+    /// Returns `true` if there is room for a new registration on a disk with these rules.
+    pub(crate) fn has_room(&self, rules: Rules) -> bool
+        ensures value { result ≡ nat_lt (length self.now) (room_for_registrations rules) }
+        ensures at_most { room_for_registrations rules ≤ max_registrations }
+    {
+        let room = if rules.has_room_for_all_registrations {
+            MAX_REGISTRATIONS
+        } else {
+            BASE_ROOM
+        };
+        self.items.len() < room
     }
 
     /// Returns `true` if an initiator is registered.
@@ -102,7 +118,7 @@ impl Registrations {
     }
 
     /// A mask of the registrants.
-    pub(crate) fn mask(&self) -> u8
+    pub(crate) fn mask(&self) -> u64
         ensures { result ≡ registered_mask self.now }
     {
         self.items
@@ -225,7 +241,7 @@ impl Registrations {
 
 /// The bit of an initiator in a mask.
 #[tactic(auto, using(std::proofs::lemmas::Nat::one_shl))]
-fn bit_of(initiator: Initiator) -> u8
+fn bit_of(initiator: Initiator) -> u64
     ensures { result ≡ 2 ^ initiator }
 {
     1 << initiator.number()

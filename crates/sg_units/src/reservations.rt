@@ -207,7 +207,7 @@ impl Reservations {
     }
 
     /// A mask of the registrants: bit i is set if initiator i is registered.
-    pub fn registered_mask(&self) -> u8
+    pub fn registered_mask(&self) -> u64
         ensures { result ≡ registered_mask self.now.registrations }
     {
         self.state.registrations.mask()

@@ -1,6 +1,6 @@
--- The initiators that the disk serves.
+-- The initiators that a disk serves.
 use Rattle.std.specs.Prelude.{ℕ}
 
--- The number of initiators. They are numbered from 0 on.
+-- The most initiators that a disk of any profile serves. They are numbered from 0 on.
 abbrev pub initiator_count : ℕ
-initiator_count = 8
+initiator_count = 64

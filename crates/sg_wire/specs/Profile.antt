@@ -1,5 +1,6 @@
 -- The profiles of a disk: which commands a disk has, and its limits that depend on that.
 use Rattle.std.specs.Prelude.{ℕ, Bool, true, false}
+use Rattle.sg_wire.specs.Initiator.{initiator_count}
 use Rattle.sg_wire.specs.declared.profile.Limits.{Limits}
 use Rattle.sg_wire.specs.declared.profile.Rules.{Rules}
 use Rattle.sg_wire.specs.declared.profile.Profile.{Profile}
@@ -16,7 +17,8 @@ is_in Extended Extended = true
 -- The most that a READ or a WRITE moves, the most that a WRITE SAME writes, the most that a COMPARE AND
 -- WRITE compares and the most that a WRITE ATOMIC writes. The last two are 0 on a base disk, which does
 -- not have these commands. The page Block Limits reports all four (SBC-3, vital product data
--- parameters). Then the most that can be mapped or anchored at once (SBC-3, 4.7).
+-- parameters). Then the most that can be mapped or anchored at once (SBC-3, 4.7), and the number of the
+-- initiators, which is no number of blocks.
 abbrev pub base_limits : Limits
 base_limits = record {
   transfer_length = 256;
@@ -24,6 +26,7 @@ base_limits = record {
   compare_and_write_length = 0;
   atomic_transfer_length = 0;
   pool = 65536;
+  initiators = 8;
 }
 
 -- A disk of the extended profile moves more at once, and can have a larger pool. Its WRITE SAME writes
@@ -36,6 +39,7 @@ extended_limits = record {
   compare_and_write_length = 255;
   atomic_transfer_length = 2048;
   pool = 4294967295;
+  initiators = initiator_count;
 }
 
 abbrev pub limits_of : Profile → Limits
@@ -62,6 +66,7 @@ maximum_transfer_length = extended_limits.transfer_length
 -- Departure (SPC-4, 4.5.2.4.2): on a base disk, MODE SELECT points into a field of several bytes.
 -- Choice (SPC-4, 6.15.4): a base disk does not say which commands a reservation allows.
 -- Choice (SPC-4, 6.15.4): a base disk supports neither SPEC_I_PT nor ALL_TG_PT.
+-- Choice (SPC-4, 5.13, registering): a base disk has room for six registrations only.
 abbrev pub rules_of : Profile → Rules
 rules_of Base = record {
   zero_reaches_last = false;
@@ -77,6 +82,7 @@ rules_of Base = record {
   points_at_fields = false;
   specifies_ports = false;
   allow_commands = 0;
+  has_room_for_all_registrations = false;
 }
 rules_of Extended = record {
   zero_reaches_last = true;
@@ -92,4 +98,5 @@ rules_of Extended = record {
   points_at_fields = true;
   specifies_ports = true;
   allow_commands = 3;
+  has_room_for_all_registrations = true;
 }

@@ -2,6 +2,8 @@
 ghost use Rattle.std.specs.Prelude.{◌≡◌, ◌≤◌};
 ghost use Rattle.sg_wire.specs.Profile.{is_in, limits_of, maximum_transfer_length, rules_of};
 
+use crate::initiator::Initiator;
+
 /// A profile: which commands a disk has (docs/PROFILE.md). It is chosen when the disk is made.
 #[derive(Clone, Copy, Debug, PartialEq, Eq)]
 pub enum Profile {
@@ -32,6 +34,8 @@ pub struct Limits {
     /// The most blocks that the pool can have. So at most so many addresses can be mapped or
     /// anchored at once (SBC-3, 4.7).
     pub pool: u32,
+    /// The number of initiators that send commands. They are numbered from 0 on.
+    pub initiators: u8,
 }
 
 const BASE_LIMITS: Limits = Limits {
@@ -40,6 +44,7 @@ const BASE_LIMITS: Limits = Limits {
     compare_and_write_length: 0,
     atomic_transfer_length: 0,
     pool: 65_536,
+    initiators: 8,
 };
 
 const EXTENDED_LIMITS: Limits = Limits {
@@ -48,6 +53,7 @@ const EXTENDED_LIMITS: Limits = Limits {
     compare_and_write_length: u8::MAX,
     atomic_transfer_length: MAXIMUM_TRANSFER_LENGTH,
     pool: u32::MAX,
+    initiators: Initiator::COUNT as u8,
 };
 
 /// What a disk does otherwise in one profile than in another. The extended profile follows the
@@ -85,6 +91,8 @@ pub struct Rules {
     pub specifies_ports: bool,
     /// ALLOW COMMANDS of REPORT CAPABILITIES (SPC-4, 6.15.4).
     pub allow_commands: u8,
+    /// There is room for a registration of each initiator, and not for six only (SPC-4, 5.13, registering).
+    pub has_room_for_all_registrations: bool,
 }
 
 const BASE_RULES: Rules = Rules {
@@ -101,6 +109,7 @@ const BASE_RULES: Rules = Rules {
     points_at_fields: false,
     specifies_ports: false,
     allow_commands: 0,
+    has_room_for_all_registrations: false,
 };
 
 const EXTENDED_RULES: Rules = Rules {
@@ -117,6 +126,7 @@ const EXTENDED_RULES: Rules = Rules {
     points_at_fields: true,
     specifies_ports: true,
     allow_commands: 3,
+    has_room_for_all_registrations: true,
 };
 
 impl Profile {

@@ -3,9 +3,9 @@
 import os
 import tempfile
 
-from mehdalung import (BUSY, CHECK_CONDITION, GOOD, NO_REPLY, Disk, Error, FaultOutcome,
-                       HappeningRecord, Kind, Profile, Refused, decode, identity,
-                       identity_of_seed, read_happening, version)
+from mehdalung import (BUSY, CHECK_CONDITION, GOOD, INITIATORS, MOST_INITIATORS, NO_REPLY, Disk,
+                       Error, FaultOutcome, HappeningRecord, Kind, Profile, Refused, decode,
+                       identity, identity_of_seed, read_happening, version)
 
 TEST_UNIT_READY = bytes(6)
 INQUIRY = bytes.fromhex("120000002400")
@@ -38,7 +38,10 @@ with Disk(64, 4, identity("ACME", "DISK", "0200", "00000042", 42)) as disk:
     assert inquiry.text().startswith("  00000000  ")
     assert decode(Kind.INQUIRY, inquiry.data_in) == disk.tool(7, "sg_inq").text() != ""
     assert refusal(inquiry.fields) == Error.UNREADABLE
-    assert refusal(disk.execute, 8, TEST_UNIT_READY) == Error.NO_INITIATOR
+    assert disk.initiators == INITIATORS == 8 and disk.initiator(7).number == 7
+    for number in 8, 63, 64, 256:
+        assert refusal(disk.execute, number, TEST_UNIT_READY) == Error.NO_INITIATOR
+        assert refusal(disk.initiator, number) == Error.NO_INITIATOR
     for initiator in -1, 1 << 32:
         assert refusal(disk.execute, initiator, TEST_UNIT_READY) is ValueError
     assert refusal(disk.tool, 0, "sg_foo") == Error.UNKNOWN_TOOL
@@ -51,6 +54,7 @@ with Disk(64, 4, identity("ACME", "DISK", "0200", "00000042", 42)) as disk:
     assert disk.execute(2, TEST_UNIT_READY).status == GOOD
     assert refusal(disk.forget, 8) == Error.NO_INITIATOR
     disk.close()
+    assert refusal(lambda: disk.initiators) == Error.NO_DISK
     assert refusal(disk.registered) == Error.NO_DISK
     assert refusal(disk.reset) == Error.NO_DISK
     assert refusal(disk.power_cycle) == Error.NO_DISK
@@ -58,14 +62,14 @@ with Disk(64, 4, identity("ACME", "DISK", "0200", "00000042", 42)) as disk:
 
 def codes(disk):
     """The codes that TEST UNIT READY of each initiator reports, or None if the disk is ready."""
-    replies = [disk.execute(initiator, TEST_UNIT_READY) for initiator in range(8)]
+    replies = [disk.execute(initiator, TEST_UNIT_READY) for initiator in range(disk.initiators)]
     fields = [reply.fields() if reply.sense else None for reply in replies]
     return [it and (it.key, it.asc, it.ascq) for it in fields]
 
 
-def only(initiators, asc, ascq):
-    """The codes if only these initiators have a condition pending."""
-    return [(6, asc, ascq) if it in initiators else None for it in range(8)]
+def only(initiators, asc, ascq, count=8):
+    """The codes if only these initiators, of `count`, have a condition pending."""
+    return [(6, asc, ascq) if it in initiators else None for it in range(count)]
 
 
 NONE = only((), 0, 0)
@@ -76,6 +80,8 @@ with Disk(64, 4) as disk:
             (lambda: disk.lose_nexus(5), 0x29, 0x07, [5]),
             (lambda: disk.attention(0x3F, 0x0E), 0x3F, 0x0E, range(8)),
             (lambda: disk.attention(0x28, 0x00, [2, 7, 2]), 0x28, 0x00, [2, 7]),
+            (lambda: disk.attention(0x28, 0x00, range(8)), 0x28, 0x00, range(8)),
+            (lambda: disk.attention(0x28, 0x00, range(64)), 0x28, 0x00, range(8)),
             (lambda: disk.attention(0x28, 0x00, []), 0x28, 0x00, []),
             (lambda: disk.grow(128), 0x2A, 0x09, range(8)),
             (lambda: disk.happen(HappeningRecord()), 0x29, 0x00, range(8))):
@@ -83,6 +89,8 @@ with Disk(64, 4) as disk:
         assert codes(disk) == only(initiators, asc, ascq) and codes(disk) == NONE
     assert disk.execute(0, READ_CAPACITY).data_in == bytes([0, 0, 0, 127, 0, 0, 2, 0])
     for call, why in (((disk.lose_nexus, 8), Error.NO_INITIATOR),
+                      ((disk.lose_nexus, 63), Error.NO_INITIATOR),
+                      ((disk.lose_nexus, 64), Error.NO_INITIATOR),
                       ((disk.lose_nexus, -1), ValueError),
                       ((disk.grow, 0), Error.BLOCKS), ((disk.grow, (1 << 40) + 1), Error.BLOCKS),
                       ((disk.grow, 1 << 64), ValueError),
@@ -90,7 +98,10 @@ with Disk(64, 4) as disk:
                       ((disk.attention, 0x29, 0x101), ValueError),
                       ((disk.attention, 0x129, 0x01), ValueError),
                       ((disk.attention, 0x29, 0x00, [0, 8]), Error.NO_INITIATOR),
-                      ((disk.attention, 0x29, 0x00, [64]), ValueError),
+                      ((disk.attention, 0x29, 0x00, [63]), Error.NO_INITIATOR),
+                      ((disk.attention, 0x29, 0x00, range(63)), Error.NO_INITIATOR),
+                      ((disk.attention, 0x29, 0x00, [0, 64]), ValueError),
+                      ((disk.attention, 0x29, 0x00, [-1]), ValueError),
                       ((disk.happen, HappeningRecord(kind=9)), Error.UNKNOWN_HAPPENING)):
         assert refusal(*call) == why
     assert codes(disk) == NONE
@@ -126,6 +137,9 @@ with Disk(64, 4) as disk:
                       ((disk.arm, 4, None, None, 0, 0, False, 0, 0, 16), Error.SENSE_KEY),
                       ((disk.arm, 0, []), Error.NO_INITIATOR),
                       ((disk.arm, 0, [8]), Error.NO_INITIATOR),
+                      ((disk.arm, 0, [8, 6, 63], 0x12), Error.NO_INITIATOR),
+                      ((disk.arm, 0, range(1, 64)), Error.NO_INITIATOR),
+                      ((disk.arm, 0, [64]), ValueError),
                       ((disk.arm, 0, [0], 256), ValueError),
                       ((disk.arm, 0, [0], None, 0, 0, True), Error.FAULT_FLAG),
                       ((disk.arm, 0, [0], None, 0, 0, False, 1 << 16), ValueError),
@@ -145,11 +159,60 @@ with Disk(64, 4) as disk:
     assert disk.execute(2, READ_FIVE).status == GOOD
     assert read_happening("grow 0x80").blocks == 128
     for words, why in (("faults", Error.UNKNOWN_VERB), ("", Error.UNKNOWN_VERB),
-                       ("nexus 8", Error.USAGE), ("reset\n", Error.BAD_BYTE),
+                       ("nexus 64", Error.USAGE), ("nexus 8", Error.NO_INITIATOR),
+                       ("fault arrival busy to 63 to 6", Error.NO_INITIATOR),
+                       ("attention 28h/00h 0 8", Error.NO_INITIATOR),
+                       ("reset\n", Error.BAD_BYTE),
                        ("reset\0", ValueError),
                        ("nexus " * 65, Error.TOO_MANY_WORDS)):
         assert refusal(disk.happen, words) == why
     assert codes(disk) == NONE
+    disk.arm(FaultOutcome.ARRIVAL_BUSY, times=1)
+    assert disk.execute(7, TEST_UNIT_READY).status == BUSY
+    assert disk.faults() == ("  0: arrival busy times 1 to 0 to 1 to 2 to 3 to 4 to 5 to 6 to 7\n"
+                             "    to 7: times 0\n")
+    assert [disk.execute(it, TEST_UNIT_READY).status for it in range(7)] == [BUSY] * 7
+    assert disk.faults() == "" and codes(disk) == NONE
+for profile in Profile.EXTENDED, Profile.EXTENDED_CUT, Profile.EXTENDED_512E:
+    with Disk(64, 4, profile=profile) as disk:
+        assert disk.initiators == MOST_INITIATORS == 64 and disk.initiator(63).number == 63
+        assert codes(disk) == only(range(64), 0x29, 0x00, 64) and codes(disk) == only((), 0, 0, 64)
+        for happen, asc, ascq, initiators in (
+                (disk.reset, 0x29, 0x03, range(64)), (lambda: disk.lose_nexus(63), 0x29, 0x07, [63]),
+                (lambda: disk.attention(0x3F, 0x0E), 0x3F, 0x0E, range(64)),
+                (lambda: disk.attention(0x28, 0x00, [8, 63]), 0x28, 0x00, [8, 63]),
+                (lambda: disk.happen("attention 2Ah/09h 0x3F 7"), 0x2A, 0x09, [7, 63])):
+            happen()
+            assert codes(disk) == only(initiators, asc, ascq, 64)
+        assert read_happening("attention 2Ah/09h").initiators == (1 << 64) - 1
+        for initiator in 63, 8:
+            assert disk.tool(initiator, "sg_persist -o -G -S 2").status == GOOD
+        assert disk.registered() == {8, 63}
+        disk.power_cycle()
+        disk.forget(63)
+        assert codes(disk) == only(range(63), 0x29, 0x00, 64)
+        disk.arm(FaultOutcome.ARRIVAL_BUSY, [63, 0], code=0, times=1)
+        assert [disk.execute(63, TEST_UNIT_READY).status for _ in range(2)] == [BUSY, GOOD]
+        assert disk.execute(62, TEST_UNIT_READY).status == GOOD
+        assert disk.faults() == ("  0: arrival busy code 00h times 1 to 0 to 63\n"
+                                 "    to 63: times 0\n")
+        assert disk.execute(0, TEST_UNIT_READY).status == BUSY and disk.faults() == ""
+        disk.arm(FaultOutcome.ARRIVAL_BUSY, times=1)
+        assert disk.execute(0, TEST_UNIT_READY).status == BUSY
+        assert disk.faults() == "  0: arrival busy times 1\n    to 0: times 0\n"
+        assert [disk.execute(it, TEST_UNIT_READY).status for it in range(1, 64)] == [BUSY] * 63
+        assert disk.faults() == ""
+        disk.arm(FaultOutcome.ARRIVAL_BUSY, [8], skip=1)
+        assert [disk.execute(8, TEST_UNIT_READY).status for _ in range(2)] == [GOOD, BUSY]
+        assert disk.faults() == "  0: arrival busy skip 1 to 8\n    to 8: skip 0\n"
+        disk.disarm_all()
+        for call, why in (((disk.execute, 64, TEST_UNIT_READY), Error.NO_INITIATOR),
+                          ((disk.initiator, 64), Error.NO_INITIATOR),
+                          ((disk.forget, 64), Error.NO_INITIATOR),
+                          ((disk.forget, 256 + 63), Error.NO_INITIATOR),
+                          ((disk.lose_nexus, 64), Error.NO_INITIATOR)):
+            assert refusal(*call) == why
+        assert codes(disk) == only((), 0, 0, 64)
 slot = Disk(64, 4).slot
 assert slot.target is None
 for blocks, pool, why in ((0, 4, Error.BLOCKS), (64, 65_537, Error.POOL), (-1, 4, ValueError),
@@ -188,7 +251,7 @@ with tempfile.TemporaryDirectory() as folder:
     one, two, three = (bytes([byte]) * 512 for byte in (1, 2, 3))
     assert refusal(Disk.open, path) == Error.UNKNOWN_PROFILE
     with Disk.open(path, 64, 4, profile=Profile.EXTENDED) as disk:
-        assert codes(disk) == only(range(8), 0x29, 0x00)
+        assert codes(disk) == only(range(64), 0x29, 0x00, 64)
         assert disk.execute(0, WRITE_ONE, one).status == GOOD
         assert refusal(Disk.open, path) == Error.FILE_BUSY
     with Disk.open(path) as disk:
@@ -205,7 +268,7 @@ with tempfile.TemporaryDirectory() as folder:
     with Disk.open(path, pool=4, profile=Profile.EXTENDED) as disk:
         assert block_of(disk) == three
     with Disk.open(path) as disk:
-        assert codes(disk) == only(range(8), 0x29, 0x00)
+        assert disk.initiators == 64 and codes(disk) == only(range(64), 0x29, 0x00, 64)
         for cdb, block, waits in ((WRITE_ONE, one, False), (WRITE_THROUGH, two, True),
                                   (WRITE_ONE, three, False)):
             reply = disk.execute(0, cdb, block, flush=False)

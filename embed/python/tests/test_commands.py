@@ -312,14 +312,20 @@ def test_whole_blocks_and_given_ones(initiator: Initiator) -> None:
     assert len(initiator.read6(0, 256).check().data_in) == 256 * 512
 
 
+@pytest.mark.parametrize("profile, count", [(Profile.BASE, 8), (Profile.EXTENDED, 64)])
+def test_a_profile_has_its_initiators(profile: Profile, count: int) -> None:
+    with Disk(64, 4, profile=profile) as disk:
+        assert disk.initiators == count
+        assert [disk.initiator(it).number for it in range(count)] == list(range(count))
+        with pytest.raises(Refused) as caught:
+            disk.initiator(count)
+        assert caught.value.error == Error.NO_INITIATOR
+
+
 def test_initiators_are_numbers_of_the_disk(scsi_disk: Disk) -> None:
-    assert [scsi_disk.initiator(it).number for it in range(8)] == list(range(8))
-    with pytest.raises(Refused) as caught:
-        scsi_disk.initiator(8)
-    assert caught.value.error == Error.NO_INITIATOR
     with pytest.raises(ValueError):
         scsi_disk.initiator(-1)
-    first, last = scsi_disk.initiator(0), scsi_disk.initiator(7)
+    first, last = scsi_disk.initiator(0), scsi_disk.initiator(63)
     assert first.disk is scsi_disk and not first.test_unit_ready().is_good and first.test_unit_ready().is_good
     assert last.test_unit_ready().asc == 0x29 and last.tool("sg_turs").is_good
     assert last.execute(bytes(6), flush=False).waits is False

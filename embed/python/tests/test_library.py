@@ -10,7 +10,7 @@ from typing import Dict, Optional
 import pytest
 
 import mehdalung
-from mehdalung import _library
+from mehdalung import _cdb, _library
 
 SOURCE = Path(mehdalung.__file__).resolve().parent
 PROJECT = Path(__file__).resolve().parents[1]
@@ -89,3 +89,12 @@ def test_the_names_of_the_module_are_still_here() -> None:
     assert all(hasattr(mehdalung, it) for it in of_own_use.split())
     assert all(hasattr(mehdalung, it) for it in mehdalung.__all__)
     assert len(mehdalung.__all__) == len(set(mehdalung.__all__))
+
+
+def test_the_numbers_of_the_header() -> None:
+    header = (PROJECT.parent / "mehdalung.h").read_text(encoding="utf-8")
+    names = "BLOCK_LENGTH INITIATORS MOST_INITIATORS BUFFER_LENGTH DATA_OUT_LENGTH ANY_PROFILE"
+    of_package = {"BLOCK_LENGTH": _cdb.BLOCK_LENGTH, **vars(mehdalung)}
+    for name in names.split():
+        number = re.search(rf"(?m)^#define MDL_{name} (\w+?)u?$", header)
+        assert number and of_package[name] == int(number[1], 0), name

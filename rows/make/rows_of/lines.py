@@ -26,10 +26,10 @@ def test_unit_ready(initiator):
     return raw(initiator, "000000000000")
 
 
-# Most scripts begin with this. Afterwards no unit attention is pending. Either the condition of
-# power on is returned as data, or it is reported.
-POWER_ON_TAKEN = [request_sense(initiator) for initiator in INITIATORS]
-POWER_ON_REPORTED = [test_unit_ready(initiator) for initiator in INITIATORS]
+# Most scripts begin with this. Afterwards no unit attention is pending for an initiator that a disk of
+# each profile has. Either the condition of power on is returned as data, or it is reported.
+POWER_ON_TAKEN = [request_sense(initiator) for initiator in INITIATORS["base"]]
+POWER_ON_REPORTED = [test_unit_ready(initiator) for initiator in INITIATORS["base"]]
 
 
 def mode_sense_6(page, length=0xFF, pc=0, dbd=0, subpage=0):

@@ -41,7 +41,7 @@ def each_value(code):
         if was_read:
             session.send(mode_select_6(bytes(4) + default))
     session.send(mode_sense_6(ALL_PAGES, dbd=1))
-    for other in INITIATORS[1:]:
+    for other in INITIATORS["base"][1:]:
         session.send(*2 * [test_unit_ready(other)])
     return session.lines
 

@@ -2,7 +2,7 @@
 
 from itertools import cycle, product
 
-from reservations import SPEC_I_PT, UNREG, transport_id
+from reservations import INITIATORS, SPEC_I_PT, UNREG, transport_id
 from rows_of import row
 from rows_of.lines import POWER_ON_TAKEN, raw, test_unit_ready
 from rows_of.tour import (
@@ -255,23 +255,23 @@ def each_bit_of_a_transport_id():
             other = bytearray(transport_id(named))
             other[bit // 8] ^= 0x80 >> bit % 8
             yield register_together(6, A, bytes(other))
-            if bytes(other) in map(transport_id, range(8)):
+            if bytes(other) in map(transport_id, INITIATORS["extended"]):
                 yield from (reserve_in(6, 3), reserve_out(6, "CLEAR", A))
     yield reserve_in(6, 3)
 
 
 @row("persistent-reserve-out/each-length-of-a-list-with-spec-i-pt", profile="extended")
 def each_length_of_a_list_with_spec_i_pt():
-    """Only a list of whole TransportIDs is accepted, with up to eight of them (SPC-4, 6.16.3)
+    """Only a list of whole TransportIDs is accepted, with up to 64 of them (SPC-4, 6.16.3)
 
-    TRANSPORTID PARAMETER DATA LENGTH is right first. Then it is that of three TransportIDs, whatever
-    PARAMETER LIST LENGTH is.
+    First TRANSPORTID PARAMETER DATA LENGTH is right, in lists of up to nine TransportIDs, and of 62 to 65.
+    Then it is that of three TransportIDs, whatever PARAMETER LIST LENGTH is.
     """
-    names = b"".join(map(transport_id, (4, 2, 7, 2, 1, 4, 4, 0, 3, 5)))
+    names = b"".join(map(transport_id, (4, 2, 7, 2, 1, 4, 4, 0, 3, 5, *range(8, 64))))
     yield from POWER_ON_TAKEN
-    for length in range(len(names)):
+    for length in (*range(10 * 24), *range(62 * 24, 66 * 24)):
         yield register_together(6, B, names[:length])
-        if length % 24 == 0 and length <= 8 * 24:
+        if length % 24 == 0 and length <= 64 * 24:
             yield from (reserve_in(6, 3), reserve_out(6, "CLEAR", B))
     for listed in range(28 + 3 * 24 + 1):
         yield register_together(6, C, names[:3 * 24], listed)
@@ -298,16 +298,16 @@ def move(caller, data, listed=None):
 def register_and_move():
     """Each initiator moves the reservation to each kind of initiator, under each type (SPC-4, 5.13)
 
-    1 is a registrant, 3 is one that shares its key, and 5 is not registered. 0 is the holder, unless
+    1 is a registrant, 3 is one that shares its key, and 63 is not registered. 0 is the holder, unless
     each registrant is.
     """
-    tour = Tour(REGISTRANTS, range(6), "extended")
+    tour = Tour(REGISTRANTS, (*range(5), 63), "extended")
     for held_type in SECTIONS:
         tour.section(held_type)
         for caller, keys in KEYS.items():
             for key in keys[1:]:
-                tour.attempt(move(caller, list_of_move(key, F, transport_id(5))))
-            for named, action_key, flags in product((1, 3, 5, 0), (A, C, F, 0), (0, UNREG)):
+                tour.attempt(move(caller, list_of_move(key, F, transport_id(63))))
+            for named, action_key, flags in product((1, 3, 63, 0), (A, C, F, 0), (0, UNREG)):
                 data = list_of_move(keys[0], action_key, transport_id(named), flags)
                 tour.attempt(move(caller, data))
     return tour.lines
@@ -335,7 +335,7 @@ def each_length_of_a_list_of_register_and_move():
 def each_bit_of_a_list_of_register_and_move():
     """Each bit of a list is turned: a fault, another key or initiator, a flag, or ignored (SPC-4, 6.16.4)"""
     data = list_of_move(A, B, transport_id(4))
-    tour = Tour([(6, A)], range(8), "extended")
+    tour = Tour([(6, A)], (*range(8), 12, 20, 36), "extended")
     tour.hold(0x1)
     for bit in range(8 * len(data)):
         other = bytearray(data)

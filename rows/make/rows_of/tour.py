@@ -5,7 +5,7 @@ state up again before the next command.
 """
 
 from layouts import SERVICE_ACTIONS
-from rows_of.lines import INITIATORS, POWER_ON_TAKEN, raw, request_sense, test_unit_ready
+from rows_of.lines import raw, request_sense, test_unit_ready
 from rows_of.session import Session
 
 A, B, C = 0xA1B2C3D4E5F60718, 0x0123456789ABCDEF, 0x8000000000000001
@@ -41,7 +41,7 @@ class Tour(Session):
         super().__init__(profile)
         self.registrants, self.watched = registrants, watched
         self.is_set_up = self.is_observed = True
-        self.send(*POWER_ON_TAKEN)
+        self.take_attentions()
 
     def state(self):
         held = self.device.reservations
@@ -73,7 +73,7 @@ class Tour(Session):
         self.is_set_up = True
 
     def take_attentions(self):
-        for initiator in INITIATORS:
+        for initiator in self.device.initiators:
             while self.device.attentions[initiator]:
                 self.send(request_sense(initiator))
 

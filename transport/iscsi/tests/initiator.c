@@ -1,5 +1,5 @@
 /* Sends commands to a target, from lines, and prints each reply as sgrun does.
- *     initiator [--eight] [--bytes] [--quick] [--target COMMAND] URL [SCRIPT]
+ *     initiator [--eight | --sixty-four] [--bytes] [--quick] [--target COMMAND] URL [SCRIPT]
  *
  *     raw I CDB [DATA]            sends a CDB of at most 16 bytes, and data-out, in hexadecimal.
  *     fill I LBA COUNT BYTE       sends WRITE(16) of equal blocks. Numbers are 17, 0x11 or 11h.
@@ -21,11 +21,12 @@
  *                                 `fault` and `heal`.
  *     # ..                        is a comment.
  *
- * I is an initiator port, 0 to 9. It logs in with its first line, and again with the first line
- * after `drop` or `logout`. It is the same port then: its name and its ISID follow from I. With
- * --eight, ports 0 to 7 log in at the beginning and send an INQUIRY each, in this order. With
- * --bytes, sense data is also printed as bytes, and so is data-in that came with it. With --quick, `raw`
- * and `fill` print a line if the reply, with a login before it, took more than a second.
+ * I is an initiator port, 0 to 65, in the form of the other numbers. It logs in with its first line, and
+ * again with the first line after `drop` or `logout`. It is the same port then: its name and its ISID follow
+ * from I. With --eight, ports 0 to 7 log in at the beginning and send an INQUIRY each, in this order. With
+ * --sixty-four, ports 0 to 63 do. So port I is initiator I of a new disk. With --bytes, sense data is also
+ * printed as bytes, and so is data-in that came with it. With --quick, `raw` and `fill` print a line if the
+ * reply, with a login before it, took more than a second.
  *
  * A command without a reply is NO REPLY: the target has replied to a later NOP-Out, twice. `raw`
  * and `fill` then send ABORT TASK for it.
@@ -42,8 +43,7 @@
 #include "session.h"
 
 enum {
-    PORTS = 10,
-    EIGHT = 8,
+    PORTS = MDL_MOST_INITIATORS + 2,
     MOST_LINE = 4 * 1024 * 1024,
     MOST_WORDS = 64,
     MOST_SENT = 16,
@@ -160,11 +160,25 @@ static void execute(unsigned port, const struct request *request)
     session_forget(sessions[port], command);
 }
 
+/* Reads a number, as in a script: 17, 0x11 or 11h. Returns 0 if it is none. */
+static int read_number(const char *word, uint64_t *it)
+{
+    size_t length = word ? strlen(word) : 0;
+    int has_suffix = length > 0 && (word[length - 1] | 0x20) == 'h';
+    int is_hexadecimal = has_suffix || (length > 1 && (word[1] | 0x20) == 'x');
+    char *end = NULL;
+
+    *it = length > 0 && word[0] != '-' ? strtoull(word, &end, is_hexadecimal ? 16 : 10) : 0;
+    return end && end != word && !*(end + has_suffix);
+}
+
 static unsigned port_of(const char *word)
 {
-    if (!word || word[0] < '0' || word[0] >= '0' + PORTS || word[1])
+    uint64_t it;
+
+    if (!read_number(word, &it) || it >= PORTS)
         fail("initiator");
-    return (unsigned)(word[0] - '0');
+    return (unsigned)it;
 }
 
 static int digit(char it)
@@ -260,16 +274,11 @@ static void wait_for(unsigned port)
     }
 }
 
-/* As in a script: 17, 0x11 or 11h. */
 static uint64_t number(const char *word)
 {
-    size_t length = word ? strlen(word) : 0;
-    int has_suffix = length > 0 && (word[length - 1] | 0x20) == 'h';
-    int is_hexadecimal = has_suffix || (length > 1 && (word[1] | 0x20) == 'x');
-    char *end = NULL;
-    uint64_t it = length > 0 ? strtoull(word, &end, is_hexadecimal ? 16 : 10) : 0;
+    uint64_t it;
 
-    if (!end || end == word || *(end + has_suffix))
+    if (!read_number(word, &it))
         fail("number");
     return it;
 }
@@ -429,14 +438,14 @@ static void run_line(char *text)
 }
 
 /* INQUIRY does not report or clear a unit attention (SPC-4, 6.6.1). */
-static void log_in_eight(void)
+static void log_in_first(unsigned count)
 {
     static const uint8_t inquiry[6] = { 0x12 };
     struct request request = request_of(inquiry, sizeof inquiry);
     static struct answer answer;
     unsigned port;
 
-    for (port = 0; port < EIGHT; port++) {
+    for (port = 0; port < count; port++) {
         log_in(port);
         session_execute(sessions[port], &request, &answer);
         if (answer.status != MDL_GOOD)
@@ -447,14 +456,16 @@ static void log_in_eight(void)
 int main(int count, char **words)
 {
     static char text[MOST_LINE];
-    int eight = 0, at = 1;
-    unsigned port;
+    unsigned first = 0, port;
+    int at = 1;
     FILE *script;
 
     setvbuf(stdout, NULL, _IOLBF, 0);
     for (; at < count && strncmp(words[at], "--", 2) == 0; at++)
         if (strcmp(words[at], "--eight") == 0)
-            eight = 1;
+            first = MDL_INITIATORS;
+        else if (strcmp(words[at], "--sixty-four") == 0)
+            first = MDL_MOST_INITIATORS;
         else if (strcmp(words[at], "--bytes") == 0)
             prints_bytes = 1;
         else if (strcmp(words[at], "--quick") == 0)
@@ -467,8 +478,7 @@ int main(int count, char **words)
     script = url && words[at + 1] ? fopen(words[at + 1], "r") : stdin;
     if (!url || !script)
         fail("usage");
-    if (eight)
-        log_in_eight();
+    log_in_first(first);
     while (fgets(text, sizeof text, script)) {
         line++;
         run_line(text);

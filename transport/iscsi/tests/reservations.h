@@ -34,7 +34,7 @@ void note_answer(struct event *event, const struct answer *answer);
 /* Writes a line of the history. */
 void write_event(FILE *out, unsigned initiator, const struct event *event);
 
-/* Registers, ignoring an existing key, and clears all. Returns 0 where six others are registered. */
+/* Registers, ignoring an existing key, and clears all. Returns 0 if a base disk has six others registered. */
 int clear_reservations(struct session *session);
 
 #endif

@@ -18,6 +18,8 @@
  * kernel's. */
 enum { SG_MAJOR = 21, NODE_MINOR = 0xFFFFF };
 
+enum { MOST_NUMBER_DIGITS = 2 };
+
 static const char *variable(const char *name, const char *otherwise)
 {
     const char *value = getenv(name);
@@ -38,28 +40,42 @@ int is_node(int descriptor)
     return server && is_connected_to(descriptor, server);
 }
 
+/* The number is decimal, without a sign and without a needless zero. */
 int initiator_of_process(void)
 {
     const char *text = variable("MDL_INITIATOR", "0");
-    int is_one = text[0] >= '0' && text[0] < '0' + (int)MDL_INITIATORS && text[1] == '\0';
+    size_t length = strspn(text, "0123456789");
+    int number;
 
-    return is_one ? text[0] - '0' : -1;
+    if (text[length] || length == 0 || length > MOST_NUMBER_DIGITS || (length > 1 && text[0] == '0'))
+        return -1;
+    number = atoi(text);
+    return number < (int)MDL_MOST_INITIATORS ? number : -1;
+}
+
+/* Returns 0 or an errno, if a descriptor is no connection, or if the disk does not have the initiator. */
+static int refusal(int descriptor, int initiator)
+{
+    if (descriptor < 0)
+        return errno == EMFILE || errno == ENFILE ? errno : ENXIO;
+    return is_node(descriptor) ? -find_initiator(descriptor, initiator) : ENXIO;
 }
 
 int open_node(int flags)
 {
-    int descriptor;
+    int initiator = initiator_of_process(), descriptor, error;
 
-    if (initiator_of_process() < 0) {
+    if (initiator < 0) {
         errno = EINVAL;
         return -1;
     }
     descriptor = connect_to(variable("MDL_SOCKET", ""), flags & O_CLOEXEC ? SOCK_CLOEXEC : 0);
-    if (descriptor >= 0 && is_node(descriptor))
+    error = refusal(descriptor, initiator);
+    if (!error)
         return descriptor;
     if (descriptor >= 0)
         close(descriptor);
-    errno = errno == EMFILE || errno == ENFILE ? errno : ENXIO;
+    errno = error;
     return -1;
 }
 

@@ -3,7 +3,8 @@
  *
  *     MDL_PATH        the path, compared as a text. By default it is /dev/mehdalung.
  *     MDL_SOCKET      the server's socket, by the text of its --socket.
- *     MDL_INITIATOR   the initiator that this process is, 0 to 7. By default it is 0.
+ *     MDL_INITIATOR   the initiator that this process is. A base disk has 0 to 7, and an extended disk 0 to
+ *                     63. By default it is 0.
  *
  * A descriptor of the node is a connection to the server. The object remembers nothing about it. It
  * asks the system each time, so duplicates and inherited descriptors work, too. */
@@ -26,11 +27,15 @@ int is_node_path(const char *path);
 int is_node(int descriptor);
 
 /* Opens the node, with open's flags. Returns -1 with errno as for an sg node: ENXIO if no server
- * listens, EINVAL if MDL_INITIATOR is no initiator. */
+ * listens, EINVAL if MDL_INITIATOR is no initiator of the disk. */
 int open_node(int flags);
 
-/* The initiator of this process, or -1. */
+/* The initiator of this process, or -1 if no disk has it. */
 int initiator_of_process(void);
+
+/* Returns 0 if the disk at a descriptor has an initiator, and otherwise a negative errno: EINVAL, or ENXIO if
+ * the server does not answer. */
+int find_initiator(int descriptor, int initiator);
 
 /* Writes the result of stat for the node: a character device of the sg driver. */
 void put_node_status(struct stat *status);

@@ -169,6 +169,8 @@ static int execute(int descriptor, sg_io_hdr_t *header, uint8_t initiator)
         put_timed_out(header);
         return 0;
     }
+    if (!error && exchange.reply.result == MDL_NO_INITIATOR)
+        return EINVAL;
     if (error || exchange.reply.result != MDL_OK)
         return ENODEV;
     put_reply(header, &exchange.reply);
@@ -188,6 +190,22 @@ int execute_sg_io(int descriptor, sg_io_hdr_t *header)
     error = execute(descriptor, header, (uint8_t)initiator);
     pthread_mutex_unlock(&exchanges);
     return -error;
+}
+
+/* Each disk has the initiators of a base disk. */
+int find_initiator(int descriptor, int initiator)
+{
+    struct reply_header reply;
+    int error;
+
+    if (initiator < (int)MDL_INITIATORS)
+        return 0;
+    pthread_mutex_lock(&exchanges);
+    error = exchange_question(descriptor, (uint8_t)initiator, DEFAULT_TIMEOUT, &reply);
+    pthread_mutex_unlock(&exchanges);
+    if (error)
+        return -ENXIO;
+    return reply.result == MDL_OK ? 0 : -EINVAL;
 }
 
 /* The happening that a reset asks for, or -1. The disk is the only logical unit of its target, bus and

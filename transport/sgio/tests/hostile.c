@@ -1,8 +1,9 @@
 /* Not proved. Sends random commands and broken messages.
  *     hostile messages SEED COUNT   sends them to the server's socket, MDL_SOCKET.
  *     hostile node SEED COUNT       sends them by SG_IO, to the path of $disk, under LD_PRELOAD.
- * It checks the form of each reply. After all of them each initiator's TEST UNIT READY has to be
- * answered. If a reply is not as it should be, it prints a line and has status 1. */
+ * The disk is a base disk, which has initiators 0 to 7. The program checks the form of each reply. After all
+ * of them each initiator's TEST UNIT READY has to be answered. If a reply is not as it should be, it prints a
+ * line and has status 1. */
 #include <errno.h>
 #include <fcntl.h>
 #include <scsi/sg.h>
@@ -170,7 +171,7 @@ static void send_one(uint64_t *seed, int connection)
 
     send_bytes(connection, request, length);
     receive_reply(connection, &reply);
-    WANT((reply.result == MDL_NO_INITIATOR) == (request[1] > 7));
+    WANT((reply.result == MDL_NO_INITIATOR) == (request[1] >= MDL_INITIATORS));
     WANT(reply.tag == request[TAG_AT]);
     WANT(reply.result <= MDL_NO_INITIATOR);
     look_at(&reply);
@@ -327,13 +328,17 @@ static void send_longest(void)
     close(connection);
 }
 
-/* At the end, after unit attentions, of which there are 16, each initiator is ready. */
+/* At the end, after unit attentions, of which there are 16, each initiator is ready. No other is there. */
 static void ask_all(void)
 {
     struct reply_header reply;
     int connection = open_connection(), at;
     uint8_t initiator;
 
+    for (at = 0; at <= UINT8_MAX; at++) {
+        WANT(exchange_question(connection, (uint8_t)at, TIMEOUT, &reply) == 0 && reply.status == 0);
+        WANT(reply.result == (at < (int)MDL_INITIATORS ? MDL_OK : MDL_NO_INITIATOR));
+    }
     for (initiator = 0; initiator < MDL_INITIATORS; initiator++) {
         for (at = 0; at < 17; at++)
             execute(connection, initiator, test_unit_ready, 6, &reply);

@@ -72,7 +72,7 @@ static void expect_ready(int descriptor)
 }
 
 /* Starts a server at MDL_SOCKET, and returns when it listens. */
-static pid_t start_server(void)
+static pid_t start_server(const char *profile)
 {
     int ends[2];
     char line[256];
@@ -84,7 +84,7 @@ static pid_t start_server(void)
     if (server == 0) {
         dup2(ends[1], 1);
         execlp("server", "server", "--socket", getenv("MDL_SOCKET"), "--blocks", "64", "--pool", "8",
-               (char *)NULL);
+               "--profile", profile, (char *)NULL);
         exit(15);
     }
     close(ends[1]);
@@ -371,22 +371,61 @@ static void misses_the_server(pid_t server)
     WANT(open(path, O_RDWR) < 0 && errno == ENXIO);
 }
 
+/* Texts that name no initiator of the disk, and then null. The node is open. */
+static void refuses_initiators(const char *const *texts)
+{
+    sg_io_hdr_t header = header_of(test_unit_ready, 6, SG_DXFER_NONE, 0);
+    const char *own = getenv("MDL_INITIATOR");
+    char kept[3];
+
+    WANT(own && strlen(own) < sizeof kept);
+    strcpy(kept, own);
+    for (; *texts; texts++) {
+        WANT(setenv("MDL_INITIATOR", *texts, 1) == 0 && open(path, O_RDWR) < 0 && errno == EINVAL);
+        WANT(ioctl(node, SG_IO, &header) < 0 && errno == EINVAL);
+    }
+    WANT(setenv("MDL_INITIATOR", kept, 1) == 0);
+    expect_ready(node);
+}
+
+/* Opens the node as an initiator of a new disk, for which a unit attention is pending. */
+static void opens(const char *initiator)
+{
+    WANT(setenv("MDL_INITIATOR", initiator, 1) == 0);
+    node = open(path, O_RDWR | O_NONBLOCK);
+    WANT(node >= 0);
+    expect_attention(0x00);
+}
+
+/* An extended disk has 64 initiators. Each resets the disk for all. */
+static void has_64_initiators(void)
+{
+    static const char *const none[] = { "64", "99", "063", "0x3f", "100", "-1", "+1", " 1", "1 ", NULL };
+    const pid_t server = start_server("extended");
+    const int device = SG_SCSI_RESET_DEVICE;
+
+    opens("8");
+    WANT(close(node) == 0);
+    opens("63");
+    refuses_initiators(none);
+    WANT(ioctl(node, SG_SCSI_RESET, &device) == 0);
+    expect_attention(0x03);
+    WANT(setenv("MDL_INITIATOR", "8", 1) == 0);
+    expect_attention(0x03);
+    WANT(close(node) == 0 && kill(server, SIGTERM) == 0 && waitpid(server, NULL, 0) == server);
+}
+
 int main(void)
 {
-    sg_io_hdr_t header;
+    static const char *const none[] = { "8", "63", "64", "07", NULL };
     pid_t server;
 
     path = getenv("disk");
     WANT(path && getenv("MDL_SOCKET"));
     alarm(LONGEST);
-    server = start_server();
-    WANT(setenv("MDL_INITIATOR", "8", 1) == 0 && open(path, O_RDWR) < 0 && errno == EINVAL);
-    WANT(setenv("MDL_INITIATOR", "7", 1) == 0);
-    node = open(path, O_RDWR | O_NONBLOCK);
-    WANT(node >= 0);
-    header = header_of(test_unit_ready, 6, SG_DXFER_NONE, 0);
-    WANT(ioctl(node, SG_IO, &header) == 0 && header.status == 2 && sense[2] == 6 && sense[12] == 0x29);
-    expect_ready(node);
+    server = start_server("base");
+    opens("7");
+    refuses_initiators(none);
     looks_as_a_node();
     opens_others();
     duplicates();
@@ -399,5 +438,6 @@ int main(void)
     resets();
     serves_threads();
     misses_the_server(server);
+    has_64_initiators();
     return 0;
 }

@@ -105,6 +105,12 @@ void put_random_command(uint64_t *seed, uint32_t most_data_out, struct random_co
     }
 }
 
+/* Whether a base disk has the initiators of a mask. All bits stand for all that it has. */
+static int has_initiators(uint64_t mask)
+{
+    return mask == UINT64_MAX || !(mask >> MDL_INITIATORS);
+}
+
 /* The result of mdl_happen for a fault, if a number is free. */
 static mdl_error result_of_fault(const mdl_fault *it)
 {
@@ -120,7 +126,7 @@ static mdl_error result_of_fault(const mdl_fault *it)
         if (it->outcome > MDL_AFTER_SHORT_DATA_IN)
             return MDL_UNKNOWN_FAULT;
     }
-    if (it->initiators == 0 || it->initiators >> MDL_INITIATORS)
+    if (it->initiators == 0 || !has_initiators(it->initiators))
         return MDL_NO_INITIATOR;
     if (it->has_code > 1 || it->healed_by_writes > (it->count > 0))
         return MDL_FAULT_FLAG;
@@ -139,18 +145,19 @@ static void put_random_fault(uint64_t *seed, mdl_fault *it)
     it->key = (uint8_t)below(seed, 16);
     random_bytes(seed, &it->code, 1);
     switch (below(seed, 12)) {
-    case 0: it->initiators <<= 8 * below(seed, 7); break;
+    case 0: it->initiators <<= 8 * below(seed, 8); break;
     case 1: it->outcome += 1u << below(seed, 31); break;
     case 2: it->count <<= 8 * below(seed, 4); break;
     case 3: it->healed_by_writes = (uint8_t)below(seed, 256); break;
     case 4: it->has_code = (uint8_t)below(seed, 256); break;
     case 5: it->key = (uint8_t)below(seed, 256); break;
     case 6: it->initiators = 0; break;
+    case 7: it->initiators = UINT64_MAX >> below(seed, 3); break;
     default: break;
     }
 }
 
-/* The result of mdl_happen for a record. */
+/* The result of mdl_happen for a record, on a base disk. */
 static mdl_error result_of(const mdl_happening *it, int has_known_code)
 {
     switch (it->kind) {
@@ -161,7 +168,7 @@ static mdl_error result_of(const mdl_happening *it, int has_known_code)
     case MDL_ATTENTION:
         if (!has_known_code)
             return MDL_UNKNOWN_CONDITION;
-        return it->initiators >> MDL_INITIATORS ? MDL_NO_INITIATOR : MDL_OK;
+        return has_initiators(it->initiators) ? MDL_OK : MDL_NO_INITIATOR;
     case MDL_GROW: return it->blocks > 0 && it->blocks <= (uint64_t)1 << 40 ? MDL_OK : MDL_BLOCKS;
     case MDL_ARM: return result_of_fault(&it->fault);
     case MDL_DISARM: return it->number < MDL_MOST_FAULTS ? MDL_OK : MDL_FAULT_NUMBER;
@@ -187,8 +194,9 @@ mdl_error put_random_happening(uint64_t *seed, mdl_happening *it)
     switch (below(seed, 16)) {
     case 0: it->kind <<= 8 * below(seed, 4); break;
     case 1: it->initiator <<= 8 * below(seed, 4); break;
-    case 2: it->initiators <<= 8 * below(seed, 7); break;
+    case 2: it->initiators <<= 8 * below(seed, 8); break;
     case 3: it->blocks <<= 8 * below(seed, 7); break;
+    case 4: it->initiators = UINT64_MAX >> below(seed, 3); break;
     default: break;
     }
     return result_of(it, has_known_code);

@@ -160,6 +160,13 @@ static void held_commands_end(void)
     }
 }
 
+/* Lets something happen to the disk that no guest asks for. */
+static void happens(uint32_t kind, uint32_t initiator)
+{
+    note_happening(&unit, &(mdl_happening){ .kind = kind, .initiator = initiator });
+    serve_all();
+}
+
 /* PREEMPT AND ABORT ends commands of initiators that lose their registrations (SPC-4, 5.13). */
 static void preempted_commands_end(void)
 {
@@ -172,6 +179,25 @@ static void preempted_commands_end(void)
     WANT(has_ended(0, 3, VIRTIO_SCSI_S_OK) && nothing_has_ended(0));
     WANT(has_ended(1, 1, VIRTIO_SCSI_S_ABORTED) && nothing_has_ended(1));
     manage(0, VIRTIO_SCSI_T_TMF_ABORT_TASK_SET, lun_0, 0);
+    WANT(has_ended(0, 2, VIRTIO_SCSI_S_ABORTED) && has_ended(0, 1, VIRTIO_SCSI_S_ABORTED));
+}
+
+/* The greatest numbers of an extended disk: each ends its own commands, and no other number does. */
+static void greatest_initiators_are_told_apart(void)
+{
+    unit.ports[0].initiator = 62;
+    unit.ports[1].initiator = 63;
+    hold_three();
+    happens(MDL_NEXUS_LOSS, 31);
+    WANT(nothing_has_ended(0) && nothing_has_ended(1));
+    happens(MDL_NEXUS_LOSS, 63);
+    WANT(nothing_has_ended(0) && has_ended(1, 1, VIRTIO_SCSI_S_RESET));
+    stub.reply.status = MDL_GOOD;
+    stub.registered = UINT64_C(3) << 62 | 1;
+    stub.registered_after = UINT64_C(1) << 63;
+    send(1, 3, preempt_and_abort, sizeof preempt_and_abort);
+    serve_all();
+    WANT(stub.initiator == 63 && has_ended(1, 3, VIRTIO_SCSI_S_OK) && nothing_has_ended(1));
     WANT(has_ended(0, 2, VIRTIO_SCSI_S_ABORTED) && has_ended(0, 1, VIRTIO_SCSI_S_ABORTED));
 }
 
@@ -294,13 +320,6 @@ static void answers_wait_for_a_flush(void)
              response_to((unsigned)tag, 1)->sense[12] == 0x44);
 }
 
-/* Lets something happen to the disk that no guest asks for. */
-static void happens(uint32_t kind, uint32_t initiator)
-{
-    note_happening(&unit, &(mdl_happening){ .kind = kind, .initiator = initiator });
-    serve_all();
-}
-
 /* Held commands end by what ends commands, and by nothing else (SAM-5, 6.3). */
 static void happenings_end_held_commands(void)
 {
@@ -378,9 +397,9 @@ void test_functions(void)
 {
     static void (*const tests[])(void) = {
         functions_are_complete, functions_have_an_address, held_commands_end, preempted_commands_end,
-        held_commands_wait_for_their_queue, held_commands_are_few, commands_end_before_functions,
-        no_event_is_reported, unknown_requests_fail, answers_wait_for_a_flush, many_answers_wait,
-        happenings_end_held_commands, growth_is_an_event,
+        greatest_initiators_are_told_apart, held_commands_wait_for_their_queue, held_commands_are_few,
+        commands_end_before_functions, no_event_is_reported, unknown_requests_fail, answers_wait_for_a_flush,
+        many_answers_wait, happenings_end_held_commands, growth_is_an_event,
     };
     unsigned it;
 

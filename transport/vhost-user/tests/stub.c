@@ -73,7 +73,7 @@ mdl_error mdl_happen(mdl_disk *disk, const mdl_happening *happening)
     return stub.happening_error;
 }
 
-mdl_error mdl_registered(mdl_disk *disk, uint32_t *mask)
+mdl_error mdl_registered(mdl_disk *disk, uint64_t *mask)
 {
     (void)disk;
     *mask = stub.registered;

@@ -12,7 +12,7 @@ struct stub {
     mdl_error error, flush_error, happening_error;
     mdl_reply reply;
     uint8_t data_in[STUB_DATA];
-    uint32_t registered, registered_after; /* before a command with PREEMPT AND ABORT, and from then on */
+    uint64_t registered, registered_after; /* before a command with PREEMPT AND ABORT, and from then on */
     /* What was asked. */
     unsigned commands, flushes, happenings;
     uint32_t initiator;

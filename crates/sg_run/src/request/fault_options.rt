@@ -12,7 +12,7 @@ use sg_faults::{BadBlocks, Fault, Outcome};
 use sg_target::Happening;
 use sg_tools::{read_number, read_number_up_to};
 use sg_units::Initiators;
-use sg_wire::{Extent, Initiator};
+use sg_wire::{Extent, Initiator, Profile};
 
 /// The most commands that pass, and the most to which a fault does something.
 const MOST_COMMANDS: u64 = u16::MAX as u64;
@@ -203,7 +203,7 @@ fn operand_option(name: &[u8], operand: &[u8]) -> Option<FaultOption>
     ensures { result ≡ operand_option name.now operand.now }
 {
     if is_word(name, "to") {
-        Some(FaultOption::To(read_initiator(operand)?))
+        Some(FaultOption::To(read_initiator(Profile::Extended, operand)?))
     } else if is_word(name, "code") {
         Some(FaultOption::Code(read_operation_code(operand)?))
     } else if is_word(name, "skip") {

@@ -11,7 +11,7 @@ use sg_store::MAX_CAPACITY;
 use sg_target::Happening;
 use sg_tools::read_number;
 use sg_units::{Initiators, UnitAttention};
-use sg_wire::Initiator;
+use sg_wire::{Initiator, Profile};
 
 /// `power`: a power cycle. No word may come after the verb, because it is for all initiators at
 /// once.
@@ -43,7 +43,7 @@ pub(super) fn read_nexus(operands: &[&[u8]]) -> Option<Happening>
     let [initiator] = operands else {
         return None;
     };
-    Some(Happening::NexusLoss(read_initiator(initiator)?))
+    Some(Happening::NexusLoss(read_initiator(Profile::Extended, initiator)?))
 }
 
 /// `grow N`: the disk has N blocks from then on.
@@ -92,7 +92,10 @@ fn read_initiators(words: &[&[u8]]) -> Option<Initiators>
 {
     match words {
         [] => Some(Initiators::none()),
-        [word, others @ ..] => and_initiator(read_initiator(word), read_initiators(others)),
+        [word, others @ ..] => {
+            let initiator = read_initiator(Profile::Extended, word);
+            and_initiator(initiator, read_initiators(others))
+        }
     }
 }
 

@@ -19,7 +19,7 @@ pub(crate) enum LineFault {
     UnknownTool,
     /// The verb takes another number of words, or the tool other words.
     Usage,
-    /// The initiator is not one digit, 0 to 7.
+    /// The disk has no initiator of this word.
     Initiator,
     /// A word names no kind of answer.
     Kind,

@@ -27,9 +27,9 @@ pub(super) fn by_short_verb<'a>(
         ≡ by_short_verb profile verb.now (map (λ word. word.now) operands.now) }
 {
     if verb == b"raw".as_slice() {
-        read_raw(operands, buffer)
+        read_raw(profile, operands, buffer)
     } else if verb == b"fill".as_slice() {
-        FilledBlocks::of_operands(operands)
+        FilledBlocks::of_operands(profile, operands)
     } else if verb == b"show".as_slice() {
         read_show(profile, operands, buffer)
     } else if lists_faults(profile, verb) {
@@ -50,17 +50,17 @@ fn lists_faults(profile: Profile, verb: &[u8]) -> bool
 }
 
 /// `raw I CDB [DATA]`: a command, byte by byte. Data-out may be left out.
-fn read_raw<'a>(operands: &[&[u8]], buffer: &'a mut [u8]) -> Request<'a>
+fn read_raw<'a>(profile: Profile, operands: &[&[u8]], buffer: &'a mut [u8]) -> Request<'a>
     requires operands { All (λ word. length word.now ≤ longest_line) operands.now }
     requires buffer { longest_line ≤ length buffer.old }
-    ensures { line_request result ≡ raw (map (λ word. word.now) operands.now) }
+    ensures { line_request result ≡ raw profile (map (λ word. word.now) operands.now) }
 {
     let (initiator, cdb, data_out) = match operands {
         [initiator, cdb] => (*initiator, *cdb, b"-".as_slice()),
         [initiator, cdb, data_out] => (*initiator, *cdb, *data_out),
         _ => return Request::Faulty(LineFault::Usage),
     };
-    let Some(initiator) = read_initiator(initiator) else {
+    let Some(initiator) = read_initiator(profile, initiator) else {
         return Request::Faulty(LineFault::Initiator);
     };
     let Some(cdb) = read_hex(cdb, buffer) else {

@@ -8,9 +8,9 @@ ghost use Rattle.sg_units.specs.Initiators.{is_member};
 ghost use Rattle.sg_faults.specs.Arming.{count_for};
 ghost use Rattle.sg_run.specs.FaultText.{afterwards_text, armed_text, arrival_text, blocks_text};
 ghost use Rattle.sg_run.specs.FaultText.{code_text, count_text, fault_text, faults_text, medium_text};
-ghost use Rattle.sg_run.specs.FaultText.{healed_text, initiators_text, is_counted, is_left, left_text};
-ghost use Rattle.sg_run.specs.FaultText.{names_all, outcome_text, sense_code_text, skip_text};
-ghost use Rattle.sg_run.specs.FaultText.{slot_text, times_text, to_text, two_digits};
+ghost use Rattle.sg_run.specs.FaultText.{healed_text, initiators_text, is_same, left_text};
+ghost use Rattle.sg_run.specs.FaultText.{names_all, outcome_text, sense_code_text, skip_left_text};
+ghost use Rattle.sg_run.specs.FaultText.{skip_text, slot_text, times_text, to_text, two_digits};
 
 use sg_decode::{GATHERED, put_number};
 use sg_faults::{
@@ -215,6 +215,18 @@ fn put_skip<W: Write>(skip: u16, out: &mut Printer<'_, W>)
     }
 }
 
+/// Prints how many commands still pass. If all after them meet the fault, it prints 0, too.
+#[tactic(auto, using(crate::proofs::TextLemmas::prints))]
+fn put_skip_left<W: Write>(count: Count, out: &mut Printer<'_, W>)
+    ensures { PrintsText W.contents out.old out.new (skip_left_text count) }
+{
+    if count.times.is_some() {
+        put_skip(count.skip, out);
+    } else {
+        put_labelled_number(b" skip ", u32::from(count.skip), out);
+    }
+}
+
 #[tactic(auto, using(crate::proofs::TextLemmas::prints))]
 fn put_times<W: Write>(times: Option<u16>, out: &mut Printer<'_, W>)
     ensures { PrintsText W.contents out.old out.new (times_text times) }
@@ -271,7 +283,7 @@ fn is_named(initiators: &Initiators, number: usize) -> bool
     }
 }
 
-/// Prints what is left of a fault for each initiator that it names.
+/// Prints what is left of a fault for each initiator for which it is not what the fault began with.
 #[tactic(auto, using(crate::proofs::TextLemmas::prints))]
 fn put_all_left<W: Write>(armed: &ArmedFault, out: &mut Printer<'_, W>)
     ensures { PrintsText W.contents out.old out.new
@@ -287,8 +299,9 @@ fn put_left<W: Write>(armed: &ArmedFault, number: usize, out: &mut Printer<'_, W
     requires { number < initiator_count }
     ensures { PrintsText W.contents out.old out.new (left_text armed.now number) }
 {
-    if is_left(armed, number) {
-        put_count(number, count_for(armed, number), out);
+    let left = count_for(armed, number);
+    if !is_same(left, armed.fault.first_count(number)) {
+        put_count(number, left, out);
     }
 }
 
@@ -299,17 +312,9 @@ fn put_count<W: Write>(number: usize, count: Count, out: &mut Printer<'_, W>)
 {
     put_labelled_number(b"    to ", number as u32, out);
     out.put(b":");
-    put_skip(count.skip, out);
+    put_skip_left(count, out);
     put_times(count.times, out);
     out.put(b"\n");
-}
-
-/// Something is counted for the initiator with a number, and the fault names it.
-fn is_left(armed: &ArmedFault, number: usize) -> bool
-    requires { number < initiator_count }
-    ensures { result ≡ is_left armed.now number }
-{
-    is_named(&armed.fault.initiators, number) && is_counted(count_for(armed, number))
 }
 
 /// What is left of a fault for the initiator with a number.
@@ -326,9 +331,8 @@ fn count_for(armed: &ArmedFault, number: usize) -> Count
     }
 }
 
-/// Something is counted.
-fn is_counted(count: Count) -> bool
-    ensures { result ≡ is_counted count }
+fn is_same(count: Count, other: Count) -> bool
+    ensures { result ≡ is_same count other }
 {
-    count.skip != 0 || count.times.is_some()
+    count.skip == other.skip && count.times == other.times
 }

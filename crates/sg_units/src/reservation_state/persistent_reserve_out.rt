@@ -63,7 +63,7 @@ impl ReservationState {
         match action {
             OutAction::Register if list.spec_i_pt => self.register_together(caller, list),
             OutAction::Register | OutAction::RegisterAndIgnoreExistingKey => {
-                self.register(caller, list)
+                self.register(rules, caller, list)
             }
             OutAction::Reserve => { self.reserve(caller, kind.ok_or(OutFault::BadType)?) }
             OutAction::Release => self.release(rules, caller, kind),

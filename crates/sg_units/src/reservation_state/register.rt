@@ -10,7 +10,7 @@ use super::ReservationState;
 use crate::registrations::Registrations;
 use crate::reservation_change::ReservationChange;
 use crate::{OutFault, OutList, Registration, Reservation, UnitAttention};
-use sg_wire::Initiator;
+use sg_wire::{Initiator, Rules};
 
 impl ReservationState {
     /// Registers an initiator, replaces its key, or with key 0 unregisters it. From then on APTPL
@@ -18,10 +18,11 @@ impl ReservationState {
     #[tactic(auto, unfolding(crate::specs::ReserveOut::register_cases))]
     pub(super) fn register(
         &self,
+        rules: Rules,
         caller: Initiator,
         list: &OutList,
     ) -> Result<ReservationChange, OutFault>
-        ensures { result ≡ first_case (register_cases self.now caller list.now) }
+        ensures { result ≡ first_case (register_cases rules self.now caller list.now) }
     {
         let own = registration_by(list, caller);
         if self.registrations.has(caller) {
@@ -34,7 +35,7 @@ impl ReservationState {
         if own.key == 0 {
             return Ok(self.unchanged());
         }
-        if self.registrations.is_full() {
+        if !self.registrations.has_room(rules) {
             return Err(OutFault::NoRoom);
         }
         let mut registrations = self.registrations.copied();

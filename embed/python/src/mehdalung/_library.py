@@ -6,6 +6,7 @@ from enum import IntEnum
 from pathlib import Path
 
 INITIATORS = 8
+MOST_INITIATORS = 64
 BUFFER_LENGTH = 1_048_576
 DATA_OUT_LENGTH = 1_032
 NO_TEXT = c_size_t(-1).value
@@ -57,8 +58,8 @@ class Error(IntEnum):
 
 
 class Profile(IntEnum):
-    """mdl_profile: the commands that a disk has, what it does with too little data-out, and the length of
-    the physical blocks that it reports."""
+    """mdl_profile: the commands and the initiators that a disk has, what it does with too little data-out,
+    and the length of the physical blocks that it reports."""
     BASE = 0
     EXTENDED = 1
     EXTENDED_CUT = 2
@@ -225,7 +226,8 @@ PROTOTYPES = {
     "mdl_happen": (c_int, [SLOT, ctypes.POINTER(HappeningRecord)]),
     "mdl_read_happening": (c_int, [BYTES, ctypes.POINTER(HappeningRecord)]),
     "mdl_faults": (c_size_t, [SLOT, c_void_p, c_size_t]),
-    "mdl_registered": (c_int, [SLOT, ctypes.POINTER(c_uint32)]),
+    "mdl_initiators": (c_int, [SLOT, ctypes.POINTER(c_uint32)]),
+    "mdl_registered": (c_int, [SLOT, ctypes.POINTER(c_uint64)]),
     "mdl_forget": (c_int, [SLOT, c_uint32]),
     "mdl_read_sense": (c_int, [BYTES, c_size_t, ctypes.POINTER(Sense)]),
     "mdl_exit_status": (c_int, [ctypes.POINTER(ReplyRecord)]),

@@ -5,9 +5,9 @@ from enum import IntEnum
 from typing import Callable, Iterable, List, NamedTuple, Optional, Set, Type, TypeVar, Union
 
 from ._cdb import within
-from ._library import (ANY_PROFILE, BUFFER_LENGTH, DATA_OUT_LENGTH, INITIATORS, LIBRARY, NO_TEXT,
-                       Command, Damage, Error, Fault, Happening, HappeningRecord, IdentityRecord,
-                       Kind, Profile, ReplyRecord, Sense, Slot)
+from ._library import (ANY_PROFILE, BUFFER_LENGTH, DATA_OUT_LENGTH, LIBRARY, MOST_INITIATORS,
+                       NO_TEXT, Command, Damage, Error, Fault, Happening, HappeningRecord,
+                       IdentityRecord, Kind, Profile, ReplyRecord, Sense, Slot)
 from .methods import Commands
 
 
@@ -88,9 +88,9 @@ def check(error: int) -> None:
 
 
 def mask_of(initiators: Optional[Iterable[int]]) -> int:
-    """Returns the mask of some initiators, or of all of them if there is None."""
+    """Returns the mask of some initiators, 0 to 63, or of all of them if there is None."""
     mask = 0
-    for initiator in range(INITIATORS) if initiators is None else initiators:
+    for initiator in range(MOST_INITIATORS) if initiators is None else initiators:
         mask |= 1 << within("initiator", initiator, 6)
     return mask
 
@@ -316,16 +316,23 @@ class Disk:
             raise Refused(error, damage)
         return disk
 
+    @property
+    def initiators(self) -> int:
+        """How many initiators the disk has, numbered from 0 on: 8 of the base profile, or 64."""
+        count = ctypes.c_uint32()
+        check(LIBRARY.mdl_initiators(self.slot, count))
+        return count.value
+
     def initiator(self, number: int) -> "Initiator":
-        """The initiator with a number, 0 to 7. It has a method for each command."""
-        if within("initiator", number, 32) >= INITIATORS:
+        """The initiator with a number below `initiators`. It has a method for each command."""
+        if within("initiator", number, 32) >= self.initiators:
             raise Refused(Error.NO_INITIATOR)
         return Initiator(self, number)
 
     def execute(self, initiator: int, cdb: bytes, data_out: bytes = b"", kind: int = Kind.HEX,
                 flush: bool = True) -> Reply:
-        """The Reply to the command of an initiator, 0 to 7. With flush=False the disk does not flush
-        its file for it, and the reply may have to wait: see mdl_execute_unflushed."""
+        """The Reply to the command of an initiator by its number. With flush=False the disk does not
+        flush its file for it, and the reply may have to wait: see mdl_execute_unflushed."""
         record = ReplyRecord()
         execute = LIBRARY.mdl_execute if flush else LIBRARY.mdl_execute_unflushed
         error = execute(self.slot, within("initiator", initiator, 32), cdb, len(cdb), data_out,
@@ -373,8 +380,8 @@ class Disk:
         self.happen(HappeningRecord(kind=Happening.GROW, blocks=blocks))
 
     def attention(self, asc: int, ascq: int, initiators: Optional[Iterable[int]] = None) -> None:
-        """Some initiators get the unit attention with an additional sense code and qualifier, by
-        default all of them. mehdalung.h lists the codes."""
+        """Some initiators of the disk get the unit attention with an additional sense code and
+        qualifier, by default all of them. mehdalung.h lists the codes."""
         self.happen(HappeningRecord(kind=Happening.ATTENTION, initiators=mask_of(initiators),
                                     asc=within("asc", asc, 8), ascq=within("ascq", ascq, 8)))
 
@@ -383,9 +390,9 @@ class Disk:
             healed_by_writes: bool = False, skip: int = 0, times: int = 0, key: int = 0,
             asc: int = 0, ascq: int = 0, blocks: int = 0) -> None:
         """Arms a fault under the lowest free number. It has a FaultOutcome, and meets the commands
-        of some initiators, by default of all. `code` is their operation code, by default any. They
-        name one of `count` blocks from `lba` on, or with 0 any blocks or none. mehdalung.h says
-        what the other arguments are."""
+        of some initiators of the disk, by default of all. `code` is their operation code, by default
+        any. They name one of `count` blocks from `lba` on, or with 0 any blocks or none. mehdalung.h
+        says what the other arguments are."""
         fault = Fault(
             initiators=mask_of(initiators), lba=within("lba", lba, 64),
             count=within("count", count, 32), outcome=within("outcome", outcome, 32),
@@ -415,9 +422,9 @@ class Disk:
 
     def registered(self) -> Set[int]:
         """The set of the initiators that are registered."""
-        mask = ctypes.c_uint32()
+        mask = ctypes.c_uint64()
         check(LIBRARY.mdl_registered(self.slot, mask))
-        return {initiator for initiator in range(INITIATORS) if mask.value >> initiator & 1}
+        return {initiator for initiator in range(MOST_INITIATORS) if mask.value >> initiator & 1}
 
     def forget(self, initiator: int) -> None:
         """Clears the unit attentions that are pending for an initiator whose port is gone."""

@@ -70,7 +70,8 @@ pub struct mdl_reply {
 #[repr(C)]
 #[derive(Clone, Copy, Debug, Default, PartialEq, Eq)]
 pub struct mdl_fault {
-    /// A mask of the initiators whose commands it meets, not 0. Initiator i has bit i.
+    /// A mask of the initiators whose commands it meets, not 0. Initiator i has bit i. The mask `u64::MAX`
+    /// names all initiators that the disk has. Any other mask may have only bits of these.
     pub initiators: u64,
     /// The address of the first block that it lies on.
     pub lba: u64,
@@ -107,9 +108,10 @@ pub struct mdl_fault {
 pub struct mdl_happening {
     /// A number of [`happening`].
     pub kind: u32,
-    /// `NEXUS_LOSS`: the initiator, 0 to 7.
+    /// `NEXUS_LOSS`: an initiator of the disk.
     pub initiator: u32,
-    /// `ATTENTION`: a mask of initiators. Initiator i has bit i.
+    /// `ATTENTION`: a mask of initiators. Initiator i has bit i. The mask `u64::MAX` names all initiators
+    /// that the disk has. Any other mask may have only bits of these.
     pub initiators: u64,
     /// `GROW`: the number of blocks afterwards, 1 to 2^40.
     pub blocks: u64,
@@ -248,7 +250,7 @@ extern "C" {
     pub fn mdl_close(disk: *mut mdl_disk) -> c_uint;
     /// Frees a disk without a flush.
     pub fn mdl_free(disk: *mut mdl_disk);
-    /// Executes a command for an initiator, 0 to 7.
+    /// Executes a command for an initiator of the disk.
     pub fn mdl_execute(
         disk: *mut mdl_disk,
         initiator: u32,
@@ -287,8 +289,10 @@ extern "C" {
     pub fn mdl_read_happening(words: *const c_char, happening: *mut mdl_happening) -> c_uint;
     /// Writes which faults are armed, each in a line.
     pub fn mdl_faults(disk: *mut mdl_disk, text: *mut c_char, text_length: usize) -> usize;
+    /// Says how many initiators the disk has, numbered from 0 on: 8 of the base profile, or 64.
+    pub fn mdl_initiators(disk: *mut mdl_disk, count: *mut u32) -> c_uint;
     /// Says which initiators are registered, in a mask.
-    pub fn mdl_registered(disk: *mut mdl_disk, mask: *mut u32) -> c_uint;
+    pub fn mdl_registered(disk: *mut mdl_disk, mask: *mut u64) -> c_uint;
     /// Clears the unit attentions of an initiator whose port is gone.
     pub fn mdl_forget(disk: *mut mdl_disk, initiator: u32) -> c_uint;
     /// Reads the fields of sense data, in fixed or descriptor format.

@@ -44,7 +44,7 @@ pub mod error {
     pub const IDENTITY_LOCAL: u32 = 6;
     /// Memory ran out.
     pub const OUT_OF_MEMORY: u32 = 7;
-    /// The initiator is not 0 to 7, or a fault names no initiator.
+    /// The disk has no such initiator, or a fault names none.
     pub const NO_INITIATOR: u32 = 8;
     /// The buffer is too short for the data-in that the command asks for, or shorter than
     /// `DATA_OUT_LENGTH` for a tool's data-out.
@@ -116,7 +116,7 @@ pub mod error {
 pub mod profile {
     /// The commands that every disk has.
     pub const BASE: u32 = 0;
-    /// The commands of the base profile and more, and a far larger pool.
+    /// The commands of the base profile and more, with more initiators and a far larger pool.
     pub const EXTENDED: u32 = 1;
     /// The same as the extended profile, but a WRITE, a WRITE AND VERIFY, an ORWRITE or a VERIFY
     /// with too little data-out is executed, and not refused. It goes over its first blocks, as

@@ -19,8 +19,8 @@ pub struct Wanted<'a> {
     pub identity: Option<&'a Identity>,
 }
 
-/// A disk, with a buffer for data-in. It has eight initiators, 0 to 7. A disk in a file is flushed when
-/// it is dropped.
+/// A disk, with a buffer for data-in. A disk of the base profile has eight initiators, 0 to 7, and any other
+/// disk has 64, 0 to 63. A disk in a file is flushed when it is dropped.
 ///
 /// Between two commands it can be reset, lose its power, grow, and get faults:
 ///
@@ -157,13 +157,21 @@ impl Disk {
         unsafe { sys::mdl_free(&mut self.slot) }
     }
 
-    /// Returns an initiator, 0 to 7. Its methods send commands. With another number they return
-    /// [`Error::NoInitiator`].
+    /// Returns how many initiators the disk has, numbered from 0 on: 8 of the base profile, or 64.
+    pub fn initiators(&mut self) -> Result<u32, Error> {
+        let mut count = 0;
+        // SAFETY: the slot has a disk, and the count is a whole number.
+        check(unsafe { sys::mdl_initiators(&mut self.slot, &mut count) })?;
+        Ok(count)
+    }
+
+    /// Returns an initiator of the disk. Its methods send commands. With a number that the disk does not
+    /// have they return [`Error::NoInitiator`].
     pub fn initiator(&mut self, number: u32) -> Initiator<'_> {
         Initiator { disk: self, number }
     }
 
-    /// Executes a command of an initiator, 0 to 7. You may send any bytes as CDB.
+    /// Executes a command of an initiator of the disk. You may send any bytes as CDB.
     ///
     /// # Errors
     ///
@@ -273,6 +281,10 @@ impl Disk {
 
     /// An initiator loses its I_T nexus, and gets the unit attention 29h/07h, unless one of a reset is
     /// pending.
+    ///
+    /// # Errors
+    ///
+    /// [`Error::NoInitiator`] if the disk does not have the initiator.
     pub fn lose_nexus(&mut self, initiator: u32) -> Result<(), Error> {
         self.undergo(sys::mdl_happening {
             kind: happening::NEXUS_LOSS,
@@ -288,7 +300,13 @@ impl Disk {
     }
 
     /// The initiators of a mask get the unit attention with an additional sense code and qualifier:
-    /// initiator i if bit i is set. `mehdalung.h` lists the codes.
+    /// initiator i if bit i is set. [`ALL_INITIATORS`](crate::ALL_INITIATORS) names all that the disk has.
+    /// `mehdalung.h` lists the codes.
+    ///
+    /// # Errors
+    ///
+    /// [`Error::UnknownCondition`] if no condition has the code, and [`Error::NoInitiator`] if the disk does
+    /// not have an initiator of the mask.
     pub fn attention(&mut self, asc: u8, ascq: u8, initiators: u64) -> Result<(), Error> {
         self.undergo(sys::mdl_happening {
             kind: happening::ATTENTION,
@@ -352,7 +370,7 @@ impl Disk {
 /// What a transport asks about the ports of initiators.
 impl Disk {
     /// Returns a mask of the initiators that are registered: bit i is set if initiator i is.
-    pub fn registered(&mut self) -> Result<u32, Error> {
+    pub fn registered(&mut self) -> Result<u64, Error> {
         let mut mask = 0;
         // SAFETY: the slot has a disk, and the mask is a whole number.
         check(unsafe { sys::mdl_registered(&mut self.slot, &mut mask) })?;

@@ -15,7 +15,7 @@ pub enum Error {
     IdentityLocal,
     /// Memory ran out.
     OutOfMemory,
-    /// The initiator is not 0 to 7, or a fault names no initiator.
+    /// The disk has no such initiator, or a fault names none.
     NoInitiator,
     /// A byte of the words is not printable ASCII and no tab.
     BadByte,
@@ -82,7 +82,7 @@ impl Error {
             Error::IdentityText => "a text of the identity has a byte outside 20h to 7Eh",
             Error::IdentityLocal => "the local identifier, or the seed, has more than 60 bits",
             Error::OutOfMemory => "memory ran out",
-            Error::NoInitiator => "the initiator is not 0 to 7, or a fault names no initiator",
+            Error::NoInitiator => "the disk has no such initiator, or a fault names none",
             Error::BadByte => "a byte of the words is not printable ASCII and no tab",
             Error::TooManyWords => "there are more than 64 words",
             Error::UnknownTool => "there is no tool of this name",

@@ -23,8 +23,8 @@ pub use sys::{mdl_identity as Identity, mdl_sense as Sense};
 // Only a disk with armed faults returns the last three. NO_REPLY is no status: the disk never replies.
 pub use sys::{BUSY, CHECK_CONDITION, GOOD, NO_REPLY, RESERVATION_CONFLICT, TASK_SET_FULL};
 
-/// The mask of all initiators.
-pub const ALL_INITIATORS: u64 = 0xFF;
+/// The mask that names all initiators of a disk, whatever its profile is.
+pub const ALL_INITIATORS: u64 = u64::MAX;
 
 /// Returns the text that a function writes as snprintf(3) does, or None.
 fn text_of(mut write: impl FnMut(&mut [u8]) -> usize) -> Option<String> {

@@ -88,9 +88,9 @@ fn two_seeds_make_two_identities() -> Result<(), Error> {
     Ok(())
 }
 
-/// TEST UNIT READY of the initiators in a mask reports a unit attention, and no other is pending.
+/// TEST UNIT READY of the disk's initiators in a mask reports a unit attention, and no other is pending.
 fn only_report(disk: &mut Disk, initiators: u64, asc: u8, ascq: u8) -> Result<(), Error> {
-    for initiator in 0..8 {
+    for initiator in 0..disk.initiators()? {
         if initiators >> initiator & 1 == 1 {
             let fields = disk.execute(initiator, &TEST_UNIT_READY, &[])?.fields().unwrap();
             assert_eq!((fields.key, fields.asc, fields.ascq), (6, asc, ascq));
@@ -116,11 +116,61 @@ fn happenings_establish_unit_attentions() -> Result<(), Error> {
     only_report(&mut disk, ALL_INITIATORS, 0x2A, 0x09)?;
     let reply = disk.execute(0, &READ_CAPACITY, &[])?;
     assert_eq!(reply.data_in, [0, 0, 0, 127, 0, 0, 2, 0]);
-    assert_eq!(disk.lose_nexus(8), Err(Error::NoInitiator));
+    disk.attention(0x28, 0x00, 0xFF)?;
+    only_report(&mut disk, 0xFF, 0x28, 0x00)?;
+    disk.attention(0x28, 0x00, ALL_INITIATORS)?;
+    only_report(&mut disk, 0xFF, 0x28, 0x00)?;
+    disk.attention(0x28, 0x00, 0)?;
+    only_report(&mut disk, 0, 0, 0)?;
+    for initiators in [1 << 8, 1 << 8 | 1, 1 << 63, ALL_INITIATORS - 1, ALL_INITIATORS >> 1] {
+        assert_eq!(disk.attention(0x29, 0x00, initiators), Err(Error::NoInitiator));
+    }
+    for initiator in [8, 63, 64] {
+        assert_eq!(disk.lose_nexus(initiator), Err(Error::NoInitiator));
+    }
     assert_eq!(disk.attention(0x29, 0x01, 1), Err(Error::UnknownCondition));
-    assert_eq!(disk.attention(0x29, 0x00, ALL_INITIATORS + 1), Err(Error::NoInitiator));
     assert_eq!(disk.grow(0), Err(Error::Blocks));
     only_report(&mut disk, 0, 0, 0)
+}
+
+#[test]
+fn an_extended_disk_has_64_initiators() -> Result<(), Error> {
+    assert_eq!(Disk::new(64, 4, None)?.initiators()?, 8);
+    for profile in [profile::EXTENDED, profile::EXTENDED_CUT, profile::EXTENDED_512E] {
+        let mut disk = Disk::with_profile(profile, 64, 4, None)?;
+        assert_eq!(disk.initiators()?, 64);
+        only_report(&mut disk, ALL_INITIATORS, 0x29, 0x00)?;
+        disk.lose_nexus(63)?;
+        only_report(&mut disk, 1 << 63, 0x29, 0x07)?;
+        disk.attention(0x3F, 0x0E, 1 << 63 | 1 << 8)?;
+        only_report(&mut disk, 1 << 63 | 1 << 8, 0x3F, 0x0E)?;
+        disk.happen("attention 2Ah/09h 0x3F 7")?;
+        only_report(&mut disk, 1 << 63 | 1 << 7, 0x2A, 0x09)?;
+        for initiator in [63, 8] {
+            assert_eq!(disk.tool(initiator, "sg_persist -o -G -S 2")?.status(), GOOD);
+        }
+        assert_eq!(disk.registered()?, 1 << 63 | 1 << 8);
+        disk.reset()?;
+        disk.forget(63)?;
+        only_report(&mut disk, ALL_INITIATORS >> 1, 0x29, 0x03)?;
+        let busy = Fault { initiators: 1 << 63, times: 1, ..Fault::default() };
+        disk.arm(&busy)?;
+        assert_eq!(disk.faults().unwrap(), "  0: arrival busy times 1 to 63\n");
+        assert!(disk.initiator(62).test_unit_ready()?.is_good());
+        assert_eq!(disk.initiator(63).test_unit_ready()?.status(), BUSY);
+        assert_eq!(disk.faults().unwrap(), "");
+        disk.arm(&Fault { initiators: 1 << 8, skip: 1, ..Fault::default() })?;
+        assert!(disk.initiator(8).test_unit_ready()?.is_good());
+        assert_eq!(disk.initiator(8).test_unit_ready()?.status(), BUSY);
+        let listed = "  0: arrival busy skip 1 to 8\n    to 8: skip 0\n";
+        assert_eq!(disk.faults().unwrap(), listed);
+        disk.disarm_all()?;
+        assert_eq!(disk.initiator(64).test_unit_ready().err(), Some(Error::NoInitiator));
+        assert_eq!(disk.forget(64), Err(Error::NoInitiator));
+        assert_eq!(disk.lose_nexus(64), Err(Error::NoInitiator));
+        only_report(&mut disk, 0, 0, 0)?;
+    }
+    Ok(())
 }
 
 #[test]
@@ -151,9 +201,19 @@ fn armed_faults_meet_commands() -> Result<(), Error> {
     disk.disarm_all()?;
     assert_eq!(disk.arm(&Fault { outcome: 11, ..busy }), Err(Error::UnknownFault));
     assert_eq!(disk.arm(&Fault { key: 16, ..fault }), Err(Error::SenseKey));
-    assert_eq!(disk.arm(&Fault { initiators: 0, ..busy }), Err(Error::NoInitiator));
+    for initiators in [0, 1 << 8, 1 << 8 | 1, 1 << 63 | 1 << 8, ALL_INITIATORS - 1] {
+        assert_eq!(disk.arm(&Fault { initiators, ..busy }), Err(Error::NoInitiator));
+    }
     assert_eq!(disk.arm(&Fault { has_code: 2, ..busy }), Err(Error::FaultFlag));
     assert_eq!(disk.disarm(8), Err(Error::FaultNumber));
+    disk.arm(&Fault { initiators: ALL_INITIATORS, times: 1, ..Fault::default() })?;
+    let listed = "  0: arrival busy times 1 to 0 to 1 to 2 to 3 to 4 to 5 to 6 to 7\n";
+    assert_eq!(disk.faults().unwrap(), listed);
+    for initiator in 0..8 {
+        assert_ne!(disk.faults().unwrap(), "");
+        assert_eq!(disk.execute(initiator, &TEST_UNIT_READY, &[])?.status(), BUSY);
+    }
+    assert_eq!(disk.faults().unwrap(), "");
     only_report(&mut disk, 0, 0, 0)
 }
 
@@ -172,7 +232,10 @@ fn words_say_what_happens() -> Result<(), Error> {
     assert_eq!(disk.faults().unwrap(), "");
     assert_eq!(disk.execute(2, &read, &[])?.status(), GOOD);
     assert_eq!(disk.happen("faults"), Err(Error::UnknownVerb));
-    assert_eq!(disk.happen("nexus 8"), Err(Error::Usage));
+    assert_eq!(disk.happen("nexus 64"), Err(Error::Usage));
+    assert_eq!(disk.happen("nexus 8"), Err(Error::NoInitiator));
+    assert_eq!(disk.happen("fault arrival busy to 63"), Err(Error::NoInitiator));
+    assert_eq!(disk.happen("attention 28h/00h 0 8"), Err(Error::NoInitiator));
     assert_eq!(disk.happen("reset\n"), Err(Error::BadByte));
     assert_eq!(disk.happen("reset\0"), Err(Error::BadByte));
     only_report(&mut disk, 0, 0, 0)
@@ -227,7 +290,7 @@ fn write_one(disk: &mut Disk, byte: u8) -> Result<(), Error> {
 
 /// The first byte of the block at address 5 of a disk that was opened.
 fn byte_of(disk: &mut Disk) -> Result<u8, Error> {
-    only_report(disk, 0xFF, 0x29, 0x00)?;
+    only_report(disk, ALL_INITIATORS, 0x29, 0x00)?;
     Ok(disk.execute(1, &READ_ONE, &[])?.data_in[0])
 }
 
@@ -298,7 +361,7 @@ fn commands_share_a_flush() -> Result<(), Error> {
     let mut write_through = WRITE_ONE;
     write_through[1] = 0x08;
     let mut disk = Disk::open(&path, &wanted)?;
-    only_report(&mut disk, 0xFF, 0x29, 0x00)?;
+    only_report(&mut disk, ALL_INITIATORS, 0x29, 0x00)?;
     for (cdb, byte, waits) in
         [(WRITE_ONE, 1, false), (write_through, 2, true), (WRITE_ONE, 3, false)]
     {
@@ -332,7 +395,7 @@ fn replies_print_their_status_and_errors_their_reason() -> Result<(), Error> {
     }
     assert_eq!(disk.initiator(0).test_unit_ready()?.to_string(), "GOOD");
     let refused = disk.initiator(8).test_unit_ready().unwrap_err();
-    assert_eq!(refused.to_string(), "the initiator is not 0 to 7, or a fault names no initiator");
+    assert_eq!(refused.to_string(), "the disk has no such initiator, or a fault names none");
     let no_file = "cannot open the file: No such file or directory (os error 2)";
     assert_eq!(Error::CannotOpen(2).to_string(), no_file);
     assert_eq!(Error::OtherVersion(7).to_string(), "the file has another version of the format: 7");

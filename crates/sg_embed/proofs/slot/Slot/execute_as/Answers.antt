@@ -12,7 +12,7 @@ returns-then-waits-clause-executed c checked =
       answered = record {
         reply = done;
         executed = record {
-          disk = c.in-Some-kept.kept.now;
+          disk = c.in-Some.kept.now;
           left = record { target = left };
           was = search rules;
           is = search rules;
@@ -32,7 +32,7 @@ returns-clause-executed c checked =
       answered = record {
         reply = done;
         executed = record {
-          disk = c.in-Some-kept.kept.now;
+          disk = c.in-Some.kept.now;
           left = record { target = left };
           was = search rules;
           is = search rules;
@@ -50,17 +50,17 @@ returns-clause-flushed c flushes checked =
     let left = c.execute_within.new.self in
     let happened : Executes c.args.initiator c.args.cdb.now c.args.data_out.now done
     c.execute_within.new.waits
-    c.args.data_in.now c.execute_within.new.buf c.in-Some-kept.kept.now.target left = search rules in
+    c.args.data_in.now c.execute_within.new.buf c.in-Some.kept.now.target left = search rules in
     record {
       reply = done;
       executed = record {
-        disk = c.in-Some-kept.kept.now;
+        disk = c.in-Some.kept.now;
         left = record { target = left };
         was = search rules;
         is = search rules;
         happened = subst (λ (waits : Bool). Executes c.args.initiator c.args.cdb.now
             c.args.data_out.now done waits c.args.data_in.now c.execute_within.new.buf
-            c.in-Some-kept.kept.now.target left)
+            c.in-Some.kept.now.target left)
             (c.execute_within.ensures.flushed flushes) happened;
       };
       shows = search rules;

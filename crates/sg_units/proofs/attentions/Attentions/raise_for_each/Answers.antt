@@ -13,7 +13,7 @@ loop-number-preserved c =
     let e =
     c.raise_at.ensures.pending
     ∙ ap (λ o. set before n (with_optional (pending_for before n) o)) c.at.ensures in
-    let eight = c.raise_at.ensures.limits_before.one_for_each in
+    let size = c.raise_at.ensures.limits_before.one_for_each in
     let more = RaisedBelow-more _ _ before n (omega arith) c.loop-number.invariant.done in
     record {
       done = subst (λ p. RaisedBelow c.args.self.now c.args.raised.now p (n + 1)) (sym e) more;

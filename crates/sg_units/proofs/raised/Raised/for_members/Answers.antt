@@ -1,7 +1,9 @@
 use Rattle.std.proofs.Common.{◌∙◌, ◌<◌, None, ap, arith, get_or, length, set}
 use Rattle.std.proofs.lemmas.List.{length-set}
 use Rattle.std.proofs.lemmas.List.Edits.{fill_by_more}
-use Rattle.sg_units.specs.Raised.{raised_for_member}
+use Rattle.std.proofs.lemmas.List.FromFn.{fill_by_all}
+use Rattle.sg_wire.specs.Initiator.{initiator_count}
+use Rattle.sg_units.specs.Raised.{raised_for_member, raised_for_members}
 use Rattle.sg_units.proofs.raised.Raised.for_members.Goals as goal
 
 pub loop-number-preserved : goal.loop-number-preserved
@@ -13,8 +15,15 @@ loop-number-preserved c =
     let so_far = c.loop-number.invariant.raised_so_far in
     let room : number < length conditions = omega arith in
     record {
-      eight = omega (arith, length-set conditions number c.raised_for_member.result);
+      size = omega (arith, length-set conditions number c.raised_for_member.result);
       raised_so_far =
           λ k h.
           ap (λ xs. get_or xs k None) e ∙ fill_by_more now conditions number None room so_far k h;
     }
+
+pub returns : goal.returns
+unfolding raised_for_members
+returns c =
+    fill_by_all (raised_for_member c.args.initiators.now c.args.condition) c.loop-number.conditions
+    initiator_count None c.loop-number.invariant.size
+    (λ k h. c.loop-number.invariant.raised_so_far k (omega arith))

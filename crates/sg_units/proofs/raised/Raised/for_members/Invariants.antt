@@ -1,11 +1,12 @@
 use Rattle.std.proofs.Common.{◌≡◌, ◌<◌, ℕ, None, get_or, length}
+use Rattle.sg_wire.specs.Initiator.{initiator_count}
 use Rattle.sg_units.specs.Raised.{raised_for_member}
 use Rattle.sg_units.proofs.raised.Raised.for_members.Given as goal
 
 -- the conditions so far
 abbrev pub invariant-loop-number : goal.invariant-loop-number
 invariant-loop-number l = record {
-  eight : length l.conditions ≡ 8;
+  size : length l.conditions ≡ initiator_count;
   raised_so_far : (k : ℕ) → k < l.number
       → get_or l.conditions k None ≡ raised_for_member l.initiators l.condition k;
 }
