@@ -15,7 +15,7 @@
  *     - You call no function of this header from a signal handler, or from the forked child of a
  *       process with threads.
  *
- * Stack. A call needs at most 128 KB of stack. Nothing checks that there is so much.
+ * Stack. A call needs at most 64 KB of stack. Nothing checks that there is so much.
  *
  * Pointers. A pointer is null, or it is aligned for its type and points to as many bytes as the
  * function says. Until the function returns, nobody writes these bytes, and nobody reads the bytes
@@ -256,10 +256,10 @@ typedef struct mdl_damage {
  *
  * What is in the file when a call returns. A new disk is in its file. All that was changed so far is in
  * the file when mdl_happen, mdl_power_cycle, mdl_flush or mdl_execute returns. With mdl_execute that is
- * so after a command that synchronizes the cache, has FUA or saves mode pages, after PERSISTENT RESERVE
- * OUT and START STOP UNIT, and after each command while WCE is 0. Other commands wait in memory. If the
- * program or the machine stops, the file has the disk as after some first part of the commands, with all
- * that was put there.
+ * so after a command that synchronizes the cache, verifies blocks, formats or sanitizes the disk, has FUA
+ * or saves mode pages. It is so after PERSISTENT RESERVE OUT and START STOP UNIT, and after each command
+ * while WCE is 0. Other commands wait in memory. If the program or the machine stops, the file has the
+ * disk as after some first part of the commands, with all that was put there.
  *
  * What a failed call on the file does. The disk is dead: nothing more is written. The command
  * that made the call ends with CHECK CONDITION, HARDWARE ERROR, 44h/00h, and without data-in, and so
@@ -525,9 +525,13 @@ mdl_error mdl_read_happening(const char *words, mdl_happening *happening);
 #define MDL_NO_TEXT ((size_t)-1)
 
 /* Writes into `text` which faults are armed, each in a line with its number and the words that arm it.
- * A line below it for each initiator whose counts have changed says what is left of them. Without a
- * fault the text is empty. The verb `faults` of a script prints the same text, which docs/SCRIPT.md of
- * the source shows.
+ * If a fault is for all initiators of the disk, its line names none. Each line below it says for one
+ * initiator what is left of `skip` and `times`:
+ *     - A base disk has such a line for each initiator of the fault, changed or not. But it has none
+ *       if `times` of the record is 0 and nothing is left of `skip`.
+ *     - Any other disk has one only for initiators whose counts have changed.
+ * Without a fault the text is empty. docs/SCRIPT.md of the source shows the text. On an extended disk
+ * the verb `faults` of a script prints it, too.
  * The text is cut to `text_length` bytes, and its last byte there is a zero. Returns the whole length
  * without the zero, as snprintf does.
  *     text  text_length bytes. It may be null if its length is 0.

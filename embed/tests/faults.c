@@ -268,28 +268,44 @@ static void meet_the_last(void)
     WANT(arm(busy) == MDL_OK);
     for (initiator = 0; initiator < last; initiator++)
         WANT(test_ready(initiator) == MDL_GOOD);
-    WANT(lists(last < 63 ? "  0: arrival busy times 1 to 7\n" : "  0: arrival busy times 1 to 63\n"));
+    WANT(lists(last < 63 ? "  0: arrival busy times 1 to 7\n    to 7: times 1\n"
+                         : "  0: arrival busy times 1 to 63\n"));
     WANT(test_ready(last) == MDL_BUSY && lists("") && test_ready(last) == MDL_GOOD);
 }
 
-#define TO_EIGHT " to 0 to 1 to 2 to 3 to 4 to 5 to 6 to 7"
+/* The disk lists one fault by its words. Below it a base disk lists what is left for each initiator of the
+ * fault, and any other disk only what has changed. */
+static int lists_left(const char *words, const char *of_each, const char *changed)
+{
+    char whole[256];
 
-/* UINT64_MAX names each initiator of the disk. The fault is gone when it has stopped a command of each. */
+    snprintf(whole, sizeof whole, "  0: arrival busy%s\n%s", words, last < 63 ? of_each : changed);
+    return lists(whole);
+}
+
+#define LEFT_FOR_1_TO_7 \
+    "    to 1: times 1\n    to 2: times 1\n    to 3: times 1\n    to 4: times 1\n" \
+    "    to 5: times 1\n    to 6: times 1\n    to 7: times 1\n"
+
+/* UINT64_MAX names each initiator of the disk, and 0xFF each of a base disk. The fault is gone when it has
+ * stopped a command of each. */
 static void meet_all(void)
 {
+    static const char of_eight[] = "  0: arrival busy times 1\n    to 0: times 1\n" LEFT_FOR_1_TO_7;
     mdl_fault busy = { .initiators = 0xFF, .outcome = MDL_ARRIVAL_BUSY, .times = 1 };
     uint32_t initiator;
 
     WANT(arm_outcome(MDL_ARRIVAL_BUSY, 1) == MDL_OK);
-    WANT(lists(last < 63 ? "  0: arrival busy times 1" TO_EIGHT "\n" : "  0: arrival busy times 1\n"));
+    WANT(lists(last < 63 ? of_eight : "  0: arrival busy times 1\n"));
     WANT(test_ready(0) == MDL_BUSY && test_ready(0) == MDL_GOOD);
-    WANT(lists(last < 63 ? "  0: arrival busy times 1" TO_EIGHT "\n    to 0: times 0\n"
-                         : "  0: arrival busy times 1\n    to 0: times 0\n"));
+    WANT(lists_left(" times 1", "    to 0: times 0\n" LEFT_FOR_1_TO_7, "    to 0: times 0\n"));
     for (initiator = 1; initiator <= last; initiator++)
         WANT(!lists("") && test_ready(initiator) == MDL_BUSY);
     WANT(lists("") && test_ready(last) == MDL_GOOD);
 
-    WANT(arm(busy) == MDL_OK && lists("  0: arrival busy times 1" TO_EIGHT "\n"));
+    WANT(arm(busy) == MDL_OK);
+    WANT(lists(last < 63 ? of_eight
+                         : "  0: arrival busy times 1 to 0 to 1 to 2 to 3 to 4 to 5 to 6 to 7\n"));
     for (initiator = 0; initiator < 8; initiator++)
         WANT(!lists("") && test_ready(initiator) == MDL_BUSY);
     WANT(lists("") && test_ready(last) == MDL_GOOD);
@@ -299,22 +315,27 @@ static void meet_all(void)
     WANT(arm(busy) == MDL_OK);
     for (initiator = 0; initiator <= last; initiator++)
         WANT(test_ready(initiator) == MDL_BUSY && test_ready(initiator) == MDL_BUSY);
-    WANT(lists(last < 63 ? "  0: arrival busy" TO_EIGHT "\n" : "  0: arrival busy\n"));
+    WANT(lists("  0: arrival busy\n"));
     WANT(happens(MDL_DISARM_ALL) == MDL_OK && test_ready(last) == MDL_GOOD);
 }
 
-/* What is left of a fault for an initiator: `skip` while it is not 0, and `times`, even if it is 0. A fault
- * without `times` has `skip` even if it is 0. */
+/* What is left of a fault for an initiator: `skip` while it is not 0, and `times`, even if it is 0. If a
+ * fault without `times` has no `skip` left, a base disk lists nothing, and any other disk `skip 0`. */
 static void count_down(void)
 {
     const mdl_fault both = { .initiators = 3, .outcome = MDL_ARRIVAL_BUSY, .skip = 2, .times = 2 };
     const mdl_fault only_skip = { .initiators = 3, .outcome = MDL_ARRIVAL_BUSY, .skip = 2 };
 
-    WANT(arm(both) == MDL_OK && lists("  0: arrival busy skip 2 times 2 to 0 to 1\n"));
+    WANT(arm(both) == MDL_OK);
+    WANT(lists_left(" skip 2 times 2 to 0 to 1",
+                    "    to 0: skip 2 times 2\n    to 1: skip 2 times 2\n", ""));
     WANT(test_ready(1) == MDL_GOOD);
-    WANT(lists("  0: arrival busy skip 2 times 2 to 0 to 1\n    to 1: skip 1 times 2\n"));
+    WANT(lists_left(" skip 2 times 2 to 0 to 1",
+                    "    to 0: skip 2 times 2\n    to 1: skip 1 times 2\n",
+                    "    to 1: skip 1 times 2\n"));
     WANT(test_ready(1) == MDL_GOOD);
-    WANT(lists("  0: arrival busy skip 2 times 2 to 0 to 1\n    to 1: times 2\n"));
+    WANT(lists_left(" skip 2 times 2 to 0 to 1",
+                    "    to 0: skip 2 times 2\n    to 1: times 2\n", "    to 1: times 2\n"));
     WANT(test_ready(1) == MDL_BUSY && test_ready(0) == MDL_GOOD);
     WANT(lists("  0: arrival busy skip 2 times 2 to 0 to 1\n    to 0: skip 1 times 2\n"
                "    to 1: times 1\n"));
@@ -323,11 +344,14 @@ static void count_down(void)
                "    to 1: times 0\n"));
     WANT(test_ready(0) == MDL_GOOD && test_ready(0) == MDL_BUSY && test_ready(0) == MDL_BUSY && lists(""));
 
-    WANT(arm(only_skip) == MDL_OK && lists("  0: arrival busy skip 2 to 0 to 1\n"));
-    WANT(test_ready(1) == MDL_GOOD && lists("  0: arrival busy skip 2 to 0 to 1\n    to 1: skip 1\n"));
-    WANT(test_ready(1) == MDL_GOOD && lists("  0: arrival busy skip 2 to 0 to 1\n    to 1: skip 0\n"));
+    WANT(arm(only_skip) == MDL_OK);
+    WANT(lists_left(" skip 2 to 0 to 1", "    to 0: skip 2\n    to 1: skip 2\n", ""));
+    WANT(test_ready(1) == MDL_GOOD);
+    WANT(lists_left(" skip 2 to 0 to 1", "    to 0: skip 2\n    to 1: skip 1\n", "    to 1: skip 1\n"));
+    WANT(test_ready(1) == MDL_GOOD);
+    WANT(lists_left(" skip 2 to 0 to 1", "    to 0: skip 2\n", "    to 1: skip 0\n"));
     WANT(test_ready(1) == MDL_BUSY && test_ready(0) == MDL_GOOD && test_ready(0) == MDL_GOOD);
-    WANT(lists("  0: arrival busy skip 2 to 0 to 1\n    to 0: skip 0\n    to 1: skip 0\n"));
+    WANT(lists_left(" skip 2 to 0 to 1", "", "    to 0: skip 0\n    to 1: skip 0\n"));
     WANT(happens(MDL_DISARM_ALL) == MDL_OK && test_ready(0) == MDL_GOOD);
 }
 

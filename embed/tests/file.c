@@ -179,8 +179,8 @@ static int kept_byte(uint8_t lba)
 static void keep(mdl_profile profile)
 {
     static const char of_eight[] =
-        "  0: medium 3/11/00 blocks 10 1 healed to 0 to 1 to 2 to 3 to 4 to 5 to 6 to 7\n"
-        "  1: arrival busy code 25h times 2 to 6 to 7\n    to 7: times 1\n";
+        "  0: medium 3/11/00 blocks 10 1 healed\n"
+        "  1: arrival busy code 25h times 2 to 6 to 7\n    to 6: times 2\n    to 7: times 1\n";
     static const char of_64[] = "  0: medium 3/11/00 blocks 10 1 healed\n"
                                 "  1: arrival busy code 25h times 2 to 62 to 63\n    to 63: times 1\n";
     static const uint8_t capacity[10] = { 0x25 };

@@ -5,7 +5,7 @@
 #include <pthread.h>
 #include <stdint.h>
 
-enum { STACK = 128 * 1024 };
+enum { STACK = 64 * 1024 };
 
 /* As pthread_create. */
 static inline int start_small_thread(pthread_t *thread, void *(*work)(void *), void *argument)

@@ -3,6 +3,7 @@ use Rattle.std.specs.Prelude.{◌≡◌, ◌⊎◌, ℕ, List, [], ◌∷◌, �
 use Rattle.sg_wire.specs.FirstBytes.{overwritten}
 use Rattle.sg_run.specs.AnswerText.{answer_text}
 use Rattle.sg_run.specs.FaultText.{faults_text}
+use Rattle.sg_target.specs.State.{profile_of}
 use Rattle.sg_embed.specs.Served.{target_of}
 use Rattle.sg_embed.specs.declared.kept.Kept.{Kept}
 use Rattle.sg_embed.specs.Kinds.{kind_numbered}
@@ -43,4 +44,5 @@ IsDecoded kind data_in before after result =
 abbrev pub IsFaultsText : Option Kept → (before after : List ℕ) → (result : ℕ) → Type 0
 IsFaultsText held before after result =
     MatchOption held (IsUntouched before after result)
-    (λ kept. IsTextUnlessRefused (faults_text (target_of kept.target).faults) before after result)
+    (λ kept. let target = target_of kept.target in
+    IsTextUnlessRefused (faults_text (profile_of target.state) target.faults) before after result)

@@ -9,7 +9,7 @@ use crate::text::copy_text;
 use sg_faults::ArmedFault;
 use sg_run::{print_answer, print_faults};
 use sg_tools::Show;
-use sg_wire::Watched;
+use sg_wire::{Profile, Watched};
 use std::alloc::Global;
 
 /// The result of [`decode`] if there is no text.
@@ -52,20 +52,26 @@ fn print(alloc: Global, show: Show, data_in: &[u8]) -> Option<Vec<u8>>
     }
 }
 
-/// Writes the text of the armed faults as [`decode`] writes that of an answer. The text is empty if
-/// none is armed. If memory was refused, it returns [`NO_TEXT`], and the buffer is as it was.
-pub(crate) fn list_faults(alloc: Global, slots: &[Option<ArmedFault>], text: &mut [u8]) -> usize
-    ensures { IsTextUnlessRefused (faults_text slots.now) text.old text.new result }
+/// Writes the text of the armed faults of a disk of a profile, as [`decode`] writes the text of an
+/// answer. It is empty if none is armed. If memory was refused, it returns [`NO_TEXT`], and the
+/// buffer is as it was.
+pub(crate) fn list_faults(
+    alloc: Global,
+    profile: Profile,
+    slots: &[Option<ArmedFault>],
+    text: &mut [u8],
+) -> usize
+    ensures { IsTextUnlessRefused (faults_text profile slots.now) text.old text.new result }
 {
-    copy_made(print_armed(alloc, slots), text)
+    copy_made(print_armed(alloc, profile, slots), text)
 }
 
 /// The text of the armed faults. None if memory was refused.
-fn print_armed(alloc: Global, slots: &[Option<ArmedFault>]) -> Option<Vec<u8>>
-    ensures { IfSome result (λ text. text.items ≡ faults_text slots.now) }
+fn print_armed(alloc: Global, profile: Profile, slots: &[Option<ArmedFault>]) -> Option<Vec<u8>>
+    ensures { IfSome result (λ text. text.items ≡ faults_text profile slots.now) }
 {
     let mut writer = Watched::new(Vec::new(alloc));
-    match print_faults(slots, &mut writer) {
+    match print_faults(profile, slots, &mut writer) {
         Ok(()) => Some(writer.into_inner()),
         Err(_) => None,
     }

@@ -2,6 +2,7 @@
 ghost use Rattle.std.specs.Prelude.{◌≡◌, ◌≢◌, ◌≤◌, IfErr, Ok};
 ghost use Rattle.sg_run.specs.WellFormed.{AreMembers, IsWellFormed};
 ghost use Rattle.sg_wire.specs.Initiator.{initiator_count};
+ghost use Rattle.sg_embed.specs.Fault.{asked_fault};
 ghost use Rattle.sg_embed.specs.Happening.{arming, asked_happening, disarming, establishing, growing};
 ghost use Rattle.sg_embed.specs.Happening.{nexus_loss};
 
@@ -9,7 +10,7 @@ use crate::fault::FaultRecord;
 use crate::mask::{mask_of, own_initiators};
 use crate::outcome::Outcome;
 use crate::served::initiator_below;
-use sg_faults::{Fault, MAX_FAULTS};
+use sg_faults::MAX_FAULTS;
 use sg_store::MAX_CAPACITY;
 use sg_target::Happening;
 use sg_units::{Initiators, UnitAttention};
@@ -106,12 +107,8 @@ impl HappeningRecord {
     /// The happening that it describes, of a disk that has `count` initiators.
     ///
     /// # Errors
-    /// [`Outcome::UnknownHappening`] if no kind has the number. For a kind that needs it:
-    /// [`Outcome::UnknownCondition`] if no condition has the code, [`Outcome::UnknownInitiator`] if
-    /// the disk has no such initiator, [`Outcome::BlockCount`] if the number of blocks is not 1 to 2^40,
-    /// [`Outcome::FaultNumber`] if the number of a fault is not 0 to 7, or the outcome of a refused
-    /// fault.
-    pub fn read(&self, count: u8) -> Result<Happening, Outcome>
+    /// As those of [`Slot::asked`](crate::Slot::asked).
+    pub(crate) fn read(&self, count: u8) -> Result<Happening, Outcome>
         requires { count ≤ initiator_count }
         ensures value { result ≡ asked_happening count self.now }
         ensures refused { IfErr result (λ outcome. outcome ≢ Outcome.Done) }
@@ -123,7 +120,7 @@ impl HappeningRecord {
             3 => nexus_loss(count, self.initiator),
             4 => { establishing(self.asc, self.ascq, own_initiators(count, self.initiators)) }
             5 => growing(self.blocks),
-            6 => arming(self.fault.read(count)),
+            6 => arming(count, &self.fault),
             7 => disarming(self.number),
             8 => Ok(Happening::DisarmAll),
             _ => Err(Outcome::UnknownHappening),
@@ -169,13 +166,13 @@ fn growing(blocks: u64) -> Result<Happening, Outcome>
     }
 }
 
-/// A fault that is armed.
-fn arming(fault: Result<Fault, Outcome>) -> Result<Happening, Outcome>
-    requires { IfErr fault (λ outcome. outcome ≢ Outcome.Done) }
-    ensures value { result ≡ arming fault }
+/// A fault that is armed. The initiators that it names are some of `count`.
+fn arming(count: u8, fault: &FaultRecord) -> Result<Happening, Outcome>
+    requires { count ≤ initiator_count }
+    ensures value { result ≡ arming (asked_fault count fault.now) }
     ensures refused { IfErr result (λ outcome. outcome ≢ Outcome.Done) }
 {
-    match fault {
+    match fault.read(count) {
         Ok(fault) => Ok(Happening::Arm(fault)),
         Err(outcome) => Err(outcome),
     }

@@ -5,6 +5,7 @@ ghost use Rattle.std.specs.Option.{SomeIff};
 ghost use Rattle.sg_wire.specs.Initiator.{initiator_count};
 ghost use Rattle.sg_units.specs.Registrations.{registered_mask};
 ghost use Rattle.sg_target.specs.DataInBound.{longest_data_in, needed_buffer};
+ghost use Rattle.sg_target.specs.State.{profile_of};
 ghost use Rattle.sg_embed.specs.Ends.{done_outcome, executed_outcome};
 ghost use Rattle.sg_embed.specs.Executed.{new_target};
 ghost use Rattle.sg_embed.specs.Room.{has_free_number, has_room_for};
@@ -52,6 +53,17 @@ impl Served {
         ensures { SomeIff result (number < initiators_of self.now) number }
     {
         initiator_below(self.initiators(), number)
+    }
+
+    /// The profile of the disk.
+    pub(crate) fn profile(&self) -> Profile
+        ensures { result ≡ profile_of (target_of self.now).state }
+    {
+        match self {
+            Served::Runs(target) => target.profile(),
+            Served::Extents(target) => target.profile(),
+            Served::InFile(disk) => disk.target().profile(),
+        }
     }
 
     /// The number of the disk's initiators.

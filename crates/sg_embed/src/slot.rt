@@ -253,7 +253,11 @@ impl Slot {
     /// What a record asks of the disk. Without a disk it may name each initiator that a disk can have.
     ///
     /// # Errors
-    /// As those of [`HappeningRecord::read`].
+    /// [`Outcome::UnknownHappening`] if no kind has the number. For a kind that needs it:
+    /// [`Outcome::UnknownCondition`] if no condition has the code, [`Outcome::UnknownInitiator`] if
+    /// the disk has no such initiator, [`Outcome::BlockCount`] if the number of blocks is not 1 to 2^40,
+    /// [`Outcome::FaultNumber`] if the number of a fault is not 0 to 7, or the outcome of a refused
+    /// fault.
     pub fn asked(&mut self, record: &HappeningRecord) -> Result<Happening, Outcome>
         ensures value { result ≡ asked_of self.old.held record.now }
         ensures refused { IfErr result (λ outcome. outcome ≢ Outcome.Done) }
@@ -311,10 +315,10 @@ impl Slot {
         ensures text { IsFaultsText self.old.held text.old text.new result }
         ensures kept { self.new.held ≡ self.old.held }
     {
-        match self.kept() {
-            Some(kept) => list_faults(alloc, kept.target.faults(), text),
-            None => NO_TEXT,
-        }
+        let Some(kept) = self.kept() else {
+            return NO_TEXT;
+        };
+        list_faults(alloc, kept.target.profile(), kept.target.faults(), text)
     }
 
     /// Clears the unit attentions that are pending for an initiator whose port is gone, unless there is no

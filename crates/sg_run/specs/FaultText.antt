@@ -1,12 +1,14 @@
 -- The text of the verb `faults`: the armed faults in the words that arm them, and what is left of them
 -- (docs/SCRIPT.md).
 use Rattle.std.specs.Prelude.{ℕ, ◌/◌, ◌%◌, List, [], ◌∷◌, ◌++◌, length, codes, decimal, Bool}
-use Rattle.std.specs.Prelude.{◌==◌, ◌&&◌, if◌then◌else◌, Option, Some, None, is_some, slice_index}
-use Rattle.std.specs.Prelude.{slice_index_or}
+use Rattle.std.specs.Prelude.{◌==◌, ◌&&◌, ◌||◌, not, if◌then◌else◌, Option, Some, None, is_some}
+use Rattle.std.specs.Prelude.{slice_index, slice_index_or}
 use Rattle.std.specs.List.{flat_map, list_all, range_with_len}
 use Rattle.std.specs.Option.{option_eq}
 use Rattle.hex.specs.Hex.{upper_digits}
-use Rattle.sg_wire.specs.Initiator.{initiator_count}
+use Rattle.sg_wire.specs.Profile.{limits_of}
+use Rattle.sg_wire.specs.declared.profile.Profile.{Profile}
+use Rattle.sg_wire.specs.declared.profile.Profile.TheVariants.{Base, Extended}
 use Rattle.sg_units.specs.Initiators.{Members, is_member}
 use Rattle.sg_faults.specs.Arming.{count_for, first_count}
 use Rattle.sg_faults.specs.Faults.{Faults}
@@ -81,29 +83,45 @@ abbrev pub times_text : Option ℕ → List ℕ
 times_text None = []
 times_text (Some times) = codes " times " ++ decimal times
 
+-- The numbers of the initiators of a disk.
+abbrev pub initiators_in : Profile → List ℕ
+initiators_in profile = range_with_len 0 (limits_of profile).initiators
+
 -- No option names all initiators.
-abbrev pub names_all : Members → Bool
-names_all members = list_all (is_member members) (range_with_len 0 initiator_count)
+abbrev pub names_all : Profile → Members → Bool
+names_all profile members = list_all (is_member members) (initiators_in profile)
 
 abbrev pub to_text : Members → (initiator : ℕ) → List ℕ
 to_text members initiator =
     if is_member members initiator then codes " to " ++ decimal initiator else []
 
-unfoldable pub initiators_text : Members → List ℕ
-initiators_text members =
-    if names_all members then [] else flat_map (to_text members) (range_with_len 0 initiator_count)
+unfoldable pub initiators_text : Profile → Members → List ℕ
+initiators_text profile members =
+    if names_all profile members then [] else flat_map (to_text members) (initiators_in profile)
 
-unfoldable pub fault_text : Fault → List ℕ
-fault_text fault =
+unfoldable pub fault_text : Profile → Fault → List ℕ
+fault_text profile fault =
     outcome_text fault.outcome ++ (code_text fault.code ++ (blocks_text fault.blocks
-    ++ (skip_text fault.skip ++ (times_text fault.times ++ initiators_text fault.initiators))))
+    ++ (skip_text fault.skip ++ (times_text fault.times ++ initiators_text profile fault.initiators))))
 
 -- ---- What is left
+
+-- Something is counted.
+abbrev pub is_counted : Count → Bool
+is_counted count = not (count.skip == 0) || is_some count.times
 
 abbrev pub is_same : (count other : Count) → Bool
 is_same count other = count.skip == other.skip && option_eq (λ m n. m == n) count.times other.times
 
--- Without `times` there is always a number of commands that still pass.
+-- A base disk lists each initiator that the fault names, if something is counted. An extended disk, which
+-- has more of them, lists those for which something else is left than the fault began with.
+abbrev pub is_listed : Profile → ArmedFault → (initiator : ℕ) → Bool
+is_listed Base armed initiator =
+    is_member armed.fault.initiators initiator && is_counted (count_for armed initiator)
+is_listed Extended armed initiator =
+    not (is_same (count_for armed initiator) (first_count armed.fault initiator))
+
+-- If each later command meets the fault, that is written as `skip 0`.
 abbrev pub skip_left_text : Count → List ℕ
 skip_left_text count =
     if is_some count.times then skip_text count.skip else codes " skip " ++ decimal count.skip
@@ -113,25 +131,23 @@ count_text initiator count =
     (codes "    to " ++ decimal initiator) ++ (codes ":" ++ (skip_left_text count
     ++ (times_text count.times ++ codes "\n")))
 
--- What is left for an initiator, unless it is what the fault began with.
-abbrev pub left_text : ArmedFault → (initiator : ℕ) → List ℕ
-left_text armed initiator =
-    let left = count_for armed initiator in
-    if is_same left (first_count armed.fault initiator) then [] else count_text initiator left
+abbrev pub left_text : Profile → ArmedFault → (initiator : ℕ) → List ℕ
+left_text profile armed initiator =
+    if is_listed profile armed initiator then count_text initiator (count_for armed initiator) else []
 
 -- ---- The faults
 
-unfoldable pub armed_text : (number : ℕ) → ArmedFault → List ℕ
-armed_text number armed =
-    codes "  " ++ (decimal number ++ (codes ": " ++ (fault_text armed.fault ++ (codes "\n"
-    ++ flat_map (left_text armed) (range_with_len 0 initiator_count)))))
+unfoldable pub armed_text : Profile → (number : ℕ) → ArmedFault → List ℕ
+armed_text profile number armed =
+    codes "  " ++ (decimal number ++ (codes ": " ++ (fault_text profile armed.fault ++ (codes "\n"
+    ++ flat_map (left_text profile armed) (initiators_in profile)))))
 
-abbrev pub slot_text : (number : ℕ) → Option ArmedFault → List ℕ
-slot_text number None = []
-slot_text number (Some armed) = armed_text number armed
+abbrev pub slot_text : Profile → (number : ℕ) → Option ArmedFault → List ℕ
+slot_text profile number None = []
+slot_text profile number (Some armed) = armed_text profile number armed
 
-abbrev pub fault_at : Faults → (number : ℕ) → List ℕ
-fault_at faults number = slot_text number (slice_index_or faults number None)
+abbrev pub fault_at : Profile → Faults → (number : ℕ) → List ℕ
+fault_at profile faults number = slot_text profile number (slice_index_or faults number None)
 
-unfoldable pub faults_text : Faults → List ℕ
-faults_text faults = flat_map (fault_at faults) (range_with_len 0 (length faults))
+unfoldable pub faults_text : Profile → Faults → List ℕ
+faults_text profile faults = flat_map (fault_at profile faults) (range_with_len 0 (length faults))

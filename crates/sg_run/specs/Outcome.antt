@@ -118,7 +118,7 @@ happening_outcome number disk happening = record {
 -- The armed faults are listed.
 abbrev pub faults_outcome : (number : ℕ) → Armed → Outcome
 faults_outcome number disk = record {
-  text = line_header number (codes "FAULTS") ++ faults_text disk.faults;
+  text = line_header number (codes "FAULTS") ++ faults_text (profile_of disk.state) disk.faults;
   status = 0;
   disk = disk;
 }

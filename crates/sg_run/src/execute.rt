@@ -203,7 +203,7 @@ fn list_faults<W: Write, T: DeviceServer>(number: u64, target: &T, out: &mut Pri
         (faults_outcome number (T.disk target.now)) }
 {
     put_line_header(number, b"FAULTS", out);
-    put_faults(target.faults(), out);
+    put_faults(target.profile(), target.faults(), out);
     0
 }
 

@@ -87,6 +87,8 @@ impl<S: Store> Target<S> {
     ///
     /// # Errors
     /// Memory was refused.
+    // A target is large. In a caller's frame it would have a place for each profile.
+    #[inline(never)]
     pub fn new(alloc: Global, config: Config) -> Result<Target<S>, AllocError>
         ensures { IfOk result (λ target. target ≡ record {
           state = new_state config;

@@ -14,7 +14,7 @@ use Rattle.sg_run.specs.FaultText.{faults_text}
 use Rattle.sg_store.specs.Disk.{Disk}
 use Rattle.sg_store.specs.LbaStatus.{descriptors_from}
 use Rattle.sg_target.specs.Armed.{Armed}
-use Rattle.sg_target.specs.State.{State}
+use Rattle.sg_target.specs.State.{State, profile_of}
 use Rattle.sg_units.specs.ReservationType.{code_of}
 use Rattle.sg_units.specs.declared.registrations.Registration.{Registration}
 use Rattle.sg_units.specs.declared.reservation.Reservation.{Reservation}
@@ -168,4 +168,4 @@ facts length batches state =
 abbrev pub shown_disk : (length batches : ℕ) → Armed → List ℕ
 shown_disk length batches disk =
     facts length batches disk.state
-    ++ (codes "FAULTS\n" ++ (faults_text disk.faults ++ block_lines disk.state.disk))
+    ++ (codes "FAULTS\n" ++ (faults_text (profile_of disk.state) disk.faults ++ block_lines disk.state.disk))

@@ -76,7 +76,7 @@ fn print_disk<S: Store, W: Write>(
 {
     print_facts(length, batches, target, writer)?;
     writer.send(b"FAULTS\n")?;
-    print_faults(target.faults(), writer)?;
+    print_faults(target.profile(), target.faults(), writer)?;
     print_blocks(target, writer)
 }
 

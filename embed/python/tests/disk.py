@@ -169,8 +169,8 @@ with Disk(64, 4) as disk:
     assert codes(disk) == NONE
     disk.arm(FaultOutcome.ARRIVAL_BUSY, times=1)
     assert disk.execute(7, TEST_UNIT_READY).status == BUSY
-    assert disk.faults() == ("  0: arrival busy times 1 to 0 to 1 to 2 to 3 to 4 to 5 to 6 to 7\n"
-                             "    to 7: times 0\n")
+    left = "".join(f"    to {it}: times 1\n" for it in range(7)) + "    to 7: times 0\n"
+    assert disk.faults() == "  0: arrival busy times 1\n" + left
     assert [disk.execute(it, TEST_UNIT_READY).status for it in range(7)] == [BUSY] * 7
     assert disk.faults() == "" and codes(disk) == NONE
 for profile in Profile.EXTENDED, Profile.EXTENDED_CUT, Profile.EXTENDED_512E:

@@ -1,88 +1,105 @@
 // The armed faults as text: each in the words that arm it, and what is left of it (docs/SCRIPT.md).
-ghost use Rattle.std.specs.Prelude.{◌≡◌, ◌<◌, ◌++◌, decimal, false};
-ghost use Rattle.std.specs.List.{flat_map, range_with_len};
+ghost use Rattle.std.specs.Prelude.{◌≡◌, ◌<◌, ◌≤◌, ◌++◌, decimal, false};
+ghost use Rattle.std.specs.List.{flat_map};
 ghost use Rattle.sg_wire.specs.Initiator.{initiator_count};
 ghost use Rattle.sg_wire.specs.Printer.{PrintsText};
+ghost use Rattle.sg_wire.specs.Profile.{limits_of};
 ghost use Rattle.sg_wire.specs.Watched.{SendsText, has_failed};
 ghost use Rattle.sg_units.specs.Initiators.{is_member};
 ghost use Rattle.sg_faults.specs.Arming.{count_for};
 ghost use Rattle.sg_run.specs.FaultText.{afterwards_text, armed_text, arrival_text, blocks_text};
 ghost use Rattle.sg_run.specs.FaultText.{code_text, count_text, fault_text, faults_text, medium_text};
-ghost use Rattle.sg_run.specs.FaultText.{healed_text, initiators_text, is_same, left_text};
-ghost use Rattle.sg_run.specs.FaultText.{names_all, outcome_text, sense_code_text, skip_left_text};
-ghost use Rattle.sg_run.specs.FaultText.{skip_text, slot_text, times_text, to_text, two_digits};
+ghost use Rattle.sg_run.specs.FaultText.{healed_text, initiators_in, initiators_text, is_counted};
+ghost use Rattle.sg_run.specs.FaultText.{is_listed, is_same, left_text, names_all, outcome_text};
+ghost use Rattle.sg_run.specs.FaultText.{sense_code_text, skip_left_text, skip_text, slot_text};
+ghost use Rattle.sg_run.specs.FaultText.{times_text, to_text, two_digits};
 
 use sg_decode::{GATHERED, put_number};
 use sg_faults::{
     Afterwards, ArmedFault, AtMedium, BadBlocks, Count, Fault, OnArrival, Outcome, SenseCode,
 };
 use sg_units::Initiators;
-use sg_wire::{Initiator, Printer, Watched};
+use sg_wire::{Initiator, Printer, Profile, Watched};
 use std::io;
 use std::io::Write;
 
 const DIGITS: [u8; 16] = *b"0123456789ABCDEF";
 
-/// Prints the armed faults, by their numbers, as the verb `faults` of a script does below its first
-/// line.
+/// Prints the armed faults of a disk of a profile, by their numbers, as the verb `faults` of a script does
+/// below its first line.
 ///
 /// # Errors
 ///
 /// The writer failed: a proper prefix of the text has been written.
 pub fn print_faults<W: Write>(
+    profile: Profile,
     slots: &[Option<ArmedFault>],
     writer: &mut Watched<W>,
 ) -> io::Result<()>
     requires { has_failed writer.old ≡ false }
-    ensures { SendsText W.contents writer.old writer.new result (faults_text slots.now) }
+    ensures { SendsText W.contents writer.old writer.new result (faults_text profile slots.now) }
 {
     let mut buffer = [0; GATHERED];
     let mut out = Printer::new(writer, &mut buffer);
-    put_faults(slots, &mut out);
+    put_faults(profile, slots, &mut out);
     out.finish()
 }
 
-/// Prints the armed faults, by their numbers.
+/// Prints the armed faults of a disk of a profile, by their numbers.
 #[tactic(auto, using(crate::proofs::TextLemmas::prints), unfolding(crate::specs::FaultText::faults_text))]
-pub(crate) fn put_faults<W: Write>(slots: &[Option<ArmedFault>], out: &mut Printer<'_, W>)
-    ensures { PrintsText W.contents out.old out.new (faults_text slots.now) }
+pub(crate) fn put_faults<W: Write>(
+    profile: Profile,
+    slots: &[Option<ArmedFault>],
+    out: &mut Printer<'_, W>,
+)
+    ensures { PrintsText W.contents out.old out.new (faults_text profile slots.now) }
 {
     for number in 0..slots.len() {
-        put_slot(number, &slots[number], out);
+        put_slot(profile, number, &slots[number], out);
     }
 }
 
 #[tactic(auto, using(crate::proofs::TextLemmas::prints))]
-fn put_slot<W: Write>(number: usize, slot: &Option<ArmedFault>, out: &mut Printer<'_, W>)
-    ensures { PrintsText W.contents out.old out.new (slot_text number slot.now) }
+fn put_slot<W: Write>(
+    profile: Profile,
+    number: usize,
+    slot: &Option<ArmedFault>,
+    out: &mut Printer<'_, W>,
+)
+    ensures { PrintsText W.contents out.old out.new (slot_text profile number slot.now) }
 {
     if let Some(armed) = slot {
-        put_armed(number, armed, out);
+        put_armed(profile, number, armed, out);
     }
 }
 
 #[tactic(auto, using(crate::proofs::TextLemmas::prints), unfolding(crate::specs::FaultText::armed_text))]
-fn put_armed<W: Write>(number: usize, armed: &ArmedFault, out: &mut Printer<'_, W>)
-    ensures { PrintsText W.contents out.old out.new (armed_text number armed.now) }
+fn put_armed<W: Write>(
+    profile: Profile,
+    number: usize,
+    armed: &ArmedFault,
+    out: &mut Printer<'_, W>,
+)
+    ensures { PrintsText W.contents out.old out.new (armed_text profile number armed.now) }
 {
     out.put(b"  ");
     put_number(number as u64, out);
     out.put(b": ");
-    put_fault(&armed.fault, out);
+    put_fault(profile, &armed.fault, out);
     out.put(b"\n");
-    put_all_left(armed, out);
+    put_all_left(profile, armed, out);
 }
 
 #[tactic(auto, using(crate::proofs::TextLemmas::prints), unfolding(crate::specs::FaultText::fault_text))]
-fn put_fault<W: Write>(fault: &Fault, out: &mut Printer<'_, W>)
-    ensures { PrintsText W.contents out.old out.new (fault_text fault.now) }
+fn put_fault<W: Write>(profile: Profile, fault: &Fault, out: &mut Printer<'_, W>)
+    ensures { PrintsText W.contents out.old out.new (fault_text profile fault.now) }
 {
     put_outcome(&fault.outcome, out);
     put_code(fault.code, out);
     put_blocks(&fault.blocks, out);
     put_skip(fault.skip, out);
     put_times(fault.times, out);
-    put_initiators(&fault.initiators, out);
+    put_initiators(profile, &fault.initiators, out);
 }
 
 #[tactic(auto, using(crate::proofs::TextLemmas::prints))]
@@ -238,22 +255,30 @@ fn put_times<W: Write>(times: Option<u16>, out: &mut Printer<'_, W>)
 
 /// Prints the initiators that a fault names, unless it names all.
 #[tactic(auto, using(crate::proofs::TextLemmas::prints), unfolding(crate::specs::FaultText::initiators_text))]
-fn put_initiators<W: Write>(initiators: &Initiators, out: &mut Printer<'_, W>)
-    ensures { PrintsText W.contents out.old out.new (initiators_text initiators.now) }
+fn put_initiators<W: Write>(profile: Profile, initiators: &Initiators, out: &mut Printer<'_, W>)
+    ensures { PrintsText W.contents out.old out.new (initiators_text profile initiators.now) }
 {
-    if !names_all(initiators) {
-        put_each_initiator(initiators, out);
+    if !names_all(profile, initiators) {
+        put_each_initiator(profile, initiators, out);
     }
 }
 
 #[tactic(auto, using(crate::proofs::TextLemmas::prints))]
-fn put_each_initiator<W: Write>(initiators: &Initiators, out: &mut Printer<'_, W>)
+fn put_each_initiator<W: Write>(profile: Profile, initiators: &Initiators, out: &mut Printer<'_, W>)
     ensures { PrintsText W.contents out.old out.new
-        (flat_map (to_text initiators.now) (range_with_len 0 initiator_count)) }
+        (flat_map (to_text initiators.now) (initiators_in profile)) }
 {
-    for number in 0..Initiator::COUNT {
+    for number in 0..initiators_in(profile) {
         put_to(initiators, number, out);
     }
+}
+
+/// How many initiators a disk of a profile has.
+fn initiators_in(profile: Profile) -> usize
+    ensures value { result ≡ (limits_of profile).initiators }
+    ensures at_most { result ≤ initiator_count }
+{
+    usize::from(profile.limits().initiators)
 }
 
 #[tactic(auto, using(crate::proofs::TextLemmas::prints))]
@@ -266,10 +291,10 @@ fn put_to<W: Write>(initiators: &Initiators, number: usize, out: &mut Printer<'_
     }
 }
 
-fn names_all(initiators: &Initiators) -> bool
-    ensures { result ≡ names_all initiators.now }
+fn names_all(profile: Profile, initiators: &Initiators) -> bool
+    ensures { result ≡ names_all profile initiators.now }
 {
-    (0..Initiator::COUNT).all(|number| is_named(initiators, number))
+    (0..initiators_in(profile)).all(|number| is_named(initiators, number))
 }
 
 /// The initiator with a number is one of them.
@@ -283,25 +308,36 @@ fn is_named(initiators: &Initiators, number: usize) -> bool
     }
 }
 
-/// Prints what is left of a fault for each initiator for which it is not what the fault began with.
+/// Prints what is left of a fault, for each initiator for which the disk lists it.
 #[tactic(auto, using(crate::proofs::TextLemmas::prints))]
-fn put_all_left<W: Write>(armed: &ArmedFault, out: &mut Printer<'_, W>)
+fn put_all_left<W: Write>(profile: Profile, armed: &ArmedFault, out: &mut Printer<'_, W>)
     ensures { PrintsText W.contents out.old out.new
-        (flat_map (left_text armed.now) (range_with_len 0 initiator_count)) }
+        (flat_map (left_text profile armed.now) (initiators_in profile)) }
 {
-    for number in 0..Initiator::COUNT {
-        put_left(armed, number, out);
+    for number in 0..initiators_in(profile) {
+        put_left(profile, armed, number, out);
     }
 }
 
 #[tactic(auto, using(crate::proofs::TextLemmas::prints))]
-fn put_left<W: Write>(armed: &ArmedFault, number: usize, out: &mut Printer<'_, W>)
+fn put_left<W: Write>(profile: Profile, armed: &ArmedFault, number: usize, out: &mut Printer<'_, W>)
     requires { number < initiator_count }
-    ensures { PrintsText W.contents out.old out.new (left_text armed.now number) }
+    ensures { PrintsText W.contents out.old out.new (left_text profile armed.now number) }
+{
+    if is_listed(profile, armed, number) {
+        put_count(number, count_for(armed, number), out);
+    }
+}
+
+/// What is left of a fault is listed for the initiator with a number.
+fn is_listed(profile: Profile, armed: &ArmedFault, number: usize) -> bool
+    requires { number < initiator_count }
+    ensures { result ≡ is_listed profile armed.now number }
 {
     let left = count_for(armed, number);
-    if !is_same(left, armed.fault.first_count(number)) {
-        put_count(number, left, out);
+    match profile {
+        Profile::Base => is_named(&armed.fault.initiators, number) && is_counted(left),
+        Profile::Extended => !is_same(left, armed.fault.first_count(number)),
     }
 }
 
@@ -329,6 +365,13 @@ fn count_for(armed: &ArmedFault, number: usize) -> Count
             times: Some(0),
         },
     }
+}
+
+/// Something is counted.
+fn is_counted(count: Count) -> bool
+    ensures { result ≡ is_counted count }
+{
+    count.skip != 0 || count.times.is_some()
 }
 
 fn is_same(count: Count, other: Count) -> bool

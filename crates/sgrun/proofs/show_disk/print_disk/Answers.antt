@@ -16,13 +16,14 @@ pub returns-in_err-print_faults : goal.returns-in_err-print_faults
 returns-in_err-print_faults g c =
     sends-on _ _ _ _ _ _ _ c.in_ok-print_facts.ensures.0
     (sends-on _ _ _ _ _ _ _ c.in_ok-send.ensures.0
-    (rw c.faults.ensures at (sends-stopped _ _ _ _ (faults_text c.faults.result.now)
-    (block_lines c.args.target.now.state.disk) c.in_err-print_faults.ensures
-    c.from_residual-in_err-print_faults.ensures.0)))
+    (rw c.profile.ensures at (rw c.faults.ensures at (sends-stopped _ _ _ _
+    (faults_text c.profile.result c.faults.result.now) (block_lines c.args.target.now.state.disk)
+    c.in_err-print_faults.ensures c.from_residual-in_err-print_faults.ensures.0))))
 
 pub returns : goal.returns
 returns g c =
     sends-on _ _ _ _ _ _ _ c.in_ok-print_facts.ensures.0
     (sends-on _ _ _ _ _ _ _ c.in_ok-send.ensures.0
-    (sends-on _ _ _ _ _ _ _ (rw c.faults.ensures at c.in_ok-print_faults.ensures.0)
+    (sends-on _ _ _ _ _ _ _
+    (rw c.profile.ensures at (rw c.faults.ensures at c.in_ok-print_faults.ensures.0))
     c.print_blocks.ensures))

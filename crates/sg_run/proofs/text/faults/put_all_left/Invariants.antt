@@ -8,4 +8,4 @@ use Rattle.sg_run.proofs.text.faults.put_all_left.Given as goal
 abbrev pub invariant-loop-number : goal.invariant-loop-number
 invariant-loop-number g l =
     Prints (printing g.W.Write.contents l.fn.out) (printing g.W.Write.contents l.out)
-    (flat_map (left_text l.armed) (range_with_len 0 l.number))
+    (flat_map (left_text l.profile l.armed) (range_with_len 0 l.number))

@@ -10,5 +10,5 @@ loop-number-preserved g c =
     let same : c.index-slots-number.result ≡ slice_index_or c.args.slots.now number None =
     get_or_read_under c.args.slots.now number _ _ None c.index-slots-number.is
     c.loop-number-test.true refl in
-    Prints-number _ _ _ (fault_at c.args.slots.now) number c.loop-number.invariant
-    (Prints-same (ap (slot_text number) same) c.put_slot.ensures)
+    Prints-number _ _ _ (fault_at c.args.profile c.args.slots.now) number c.loop-number.invariant
+    (Prints-same (ap (slot_text c.args.profile number) same) c.put_slot.ensures)

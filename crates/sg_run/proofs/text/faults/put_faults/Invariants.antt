@@ -8,4 +8,4 @@ use Rattle.sg_run.proofs.text.faults.put_faults.Given as goal
 abbrev pub invariant-loop-number : goal.invariant-loop-number
 invariant-loop-number g l =
     Prints (printing g.W.Write.contents l.fn.out) (printing g.W.Write.contents l.out)
-    (flat_map (fault_at l.slots) (range_with_len 0 l.number))
+    (flat_map (fault_at l.profile l.slots) (range_with_len 0 l.number))

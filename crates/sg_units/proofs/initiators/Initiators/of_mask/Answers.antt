@@ -1,4 +1,4 @@
-use Rattle.std.proofs.Common.{◌<◌, false, arith}
+use Rattle.std.proofs.Common.{false, arith}
 use Rattle.std.proofs.lemmas.List.FromFn.{fill_by_all}
 use Rattle.sg_wire.specs.Initiator.{initiator_count}
 use Rattle.sg_units.specs.Initiators.{is_in_mask, members_of_mask}
