@@ -10,7 +10,7 @@ const ARCHIVE: &str = "libmehdalung.a";
 const ADVICE: &str = "\
 mehdalung-sys links libmehdalung.a, the library for C. Do one of these:
   - set MEHDALUNG_LIB_DIR to its folder, an absolute path
-  - install it: `make -C embed install` in the repository of Mehdalung, or Debian's package
+  - install it: `make -C embed install` in the repository of Mehdalung, or the Debian package
     libmehdalung-dev; then pkg-config has to find mehdalung.pc
   - build it in the repository that this crate lies in, by `make -C embed`";
 

@@ -25,6 +25,10 @@ pub struct mdl_disk {
     pub target: *mut u8,
 }
 
+// SAFETY: by the header, a disk may go to another thread if the calls are ordered. A move of a `Send`
+// value orders them.
+unsafe impl Send for mdl_disk {}
+
 /// The names of a disk. Its texts are padded with spaces and have no zero at the end.
 #[repr(C)]
 #[derive(Clone, Copy, Debug, PartialEq, Eq)]

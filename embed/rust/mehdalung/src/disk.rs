@@ -45,10 +45,6 @@ pub struct Disk {
     data_in: Box<[u8]>,
 }
 
-// SAFETY: by the header, a disk may go to another thread if the calls are ordered. A move of a `Send`
-// value orders them.
-unsafe impl Send for Disk {}
-
 impl Disk {
     /// Makes a disk of the base profile with `blocks` blocks. At most `pool` of them can be mapped or
     /// anchored at once. Without an identity it has the standard one.
@@ -345,9 +341,9 @@ impl Disk {
     /// Lists the armed faults, in lines: each with its number, in the words that arm it. Returns
     /// `None` if memory runs out.
     pub fn faults(&mut self) -> Option<String> {
-        // SAFETY: the slot has a disk, and the text has the bytes that its length says.
-        text_of(|text| unsafe {
-            sys::mdl_faults(&mut self.slot, text.as_mut_ptr().cast(), text.len())
+        text_of(|text| {
+            // SAFETY: the slot has a disk, and the text has the bytes that its length says.
+            unsafe { sys::mdl_faults(&mut self.slot, text.as_mut_ptr().cast(), text.len()) }
         })
     }
 

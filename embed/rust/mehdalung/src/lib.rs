@@ -41,9 +41,12 @@ fn text_of(mut write: impl FnMut(&mut [u8]) -> usize) -> Option<String> {
 /// Returns what an answer of a kind contains, in lines. `kind` is a number of the module [`kind`].
 /// Returns `None` if there is no such kind, or if memory runs out.
 pub fn decode(kind: u32, data_in: &[u8]) -> Option<String> {
-    // SAFETY: each pointer has the bytes that its length says, and they don't overlap.
-    text_of(|text| unsafe {
-        sys::mdl_decode(kind, data_in.as_ptr(), data_in.len(), text.as_mut_ptr().cast(), text.len())
+    let length = data_in.len();
+    text_of(|text| {
+        // SAFETY: each pointer has the bytes that its length says, and they don't overlap.
+        unsafe {
+            sys::mdl_decode(kind, data_in.as_ptr(), length, text.as_mut_ptr().cast(), text.len())
+        }
     })
 }
 
@@ -77,8 +80,10 @@ pub fn kind_of(cdb: &[u8]) -> u32 {
 
 /// Returns the version of the library and of the proof.
 pub fn version() -> Option<String> {
-    // SAFETY: the text has the bytes that its length says.
-    text_of(|text| unsafe { sys::mdl_version(text.as_mut_ptr().cast(), text.len()) })
+    text_of(|text| {
+        // SAFETY: the text has the bytes that its length says.
+        unsafe { sys::mdl_version(text.as_mut_ptr().cast(), text.len()) }
+    })
 }
 
 /// Makes the identity of a seed of at most 60 bits. Two seeds make two identities.
