@@ -3,9 +3,8 @@
 use crate::ending::Ending::{Conflict, Good};
 use crate::table::Row;
 
-/// The commands, in the order of their operation codes. WRITE LONG is left out: it marks a block, and
-/// then other commands end otherwise.
-pub(crate) const EXTENDED_COMMANDS: [Row; 30] = [
+/// The commands, in the order of their operation codes.
+pub(crate) const EXTENDED_COMMANDS: [Row; 31] = [
     Row {
         name: "format unit",
         cdb: &[0x04, 0x10, 0x00, 0x00, 0x00, 0x00],
@@ -52,6 +51,13 @@ pub(crate) const EXTENDED_COMMANDS: [Row; 30] = [
         name: "read defect data 10",
         cdb: &[0x37, 0x00, 0x18, 0x00, 0x00, 0x00, 0x00, 0x00, 0x04, 0x00],
         named: &[0xFF, 0x00, 0x1F, 0x00, 0x00, 0x00, 0x00, 0xFF, 0xFF, 0x00],
+        data_out: 0,
+        ending: Good,
+    },
+    Row {
+        name: "write long 10",
+        cdb: &[0x3F, 0x40, 0x00, 0x00, 0x00, 0x00, 0x00, 0x00, 0x00, 0x00],
+        named: &[0xFF, 0xC0, 0xFF, 0xFF, 0xFF, 0xFF, 0x00, 0xFF, 0xFF, 0x00],
         data_out: 0,
         ending: Good,
     },

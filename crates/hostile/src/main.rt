@@ -6,7 +6,7 @@
 //!   missing. After a power cycle it first reports POWER ON, except for REQUEST SENSE, INQUIRY and
 //!   REPORT LUNS.
 //! - The disk refuses each single bit that no field has and that is not ignored, with a pointer to
-//!   its byte. It refuses CONTROL 01h in the same way.
+//!   its byte. It refuses each bit of CONTROL in the same way.
 //! - One byte of data-out less than the command announces is a DATA PHASE ERROR, and one more
 //!   changes nothing. An extended disk reports INVALID FIELD IN COMMAND INFORMATION UNIT. COMPARE AND
 //!   WRITE needs its exact length: the disk points to NUMBER OF LOGICAL BLOCKS. So does WRITE SAME of
@@ -42,7 +42,7 @@ use std::rt::Runtime;
 const BITS: [u8; 8] = [0x01, 0x02, 0x04, 0x08, 0x10, 0x20, 0x40, 0x80];
 
 /// The number of tries of the wrong rows that end otherwise than the rows say.
-const FOUND: u64 = 4;
+const FOUND: u64 = 11;
 
 /// The length of the longest CDB, in bytes.
 const LONGEST_CDB: usize = 16;
@@ -156,7 +156,7 @@ fn is_bit_refused(disk: &mut TestDisk, row: Row, data_out: &[u8], byte: usize, b
     disk.ends(&cdb[..len], data_out, Ending::InvalidField(byte))
 }
 
-/// Tries each bit of a byte that no field has, one at a time.
+/// Tries each bit of a byte that no field has, one at a time, and counts them as bits.
 fn try_bits_of(
     rt: &impl Print,
     disk: &mut TestDisk,
@@ -187,20 +187,20 @@ fn try_bits(rt: &impl Print, disk: &mut TestDisk, row: Row, data_out: &[u8]) -> 
     Ok(tally)
 }
 
-/// Tries CONTROL 01h.
+/// Tries each bit of CONTROL, the last byte.
 fn try_control(
     rt: &impl Print,
     disk: &mut TestDisk,
     row: Row,
     data_out: &[u8],
 ) -> io::Result<Tally> {
-    let mut tally = Tally::default();
     let last = row.cdb.len().saturating_sub(1);
-    tally.controls = 1;
-    if !is_bit_refused(disk, row, data_out, last, 0x01) {
-        tally.wrong = wrong_after(rt, tally.wrong, row.name, "CONTROL 01h in byte", last)?;
-    }
-    Ok(tally)
+    let tally = try_bits_of(rt, disk, row, data_out, last)?;
+    Ok(Tally {
+        bits: 0,
+        controls: tally.bits,
+        ..tally
+    })
 }
 
 /// The endings with one byte of data-out less than the command announces, and with one more.
