@@ -21,7 +21,7 @@ Place = Tuple[int, int, int, int]
 Labels = Dict[Place, str]
 
 # What the standards call the free bits of a definition in FreeBits.antt, written as fields in PROFILE. Any
-# definition may have a GROUP NUMBER, too. Obsolete bits have the names of SBC-2.
+# definition may have a GROUP NUMBER, too, and fields of the command. Obsolete bits have the names of SBC-2.
 FREE_LABELS = {
     "cache_bits": "1:10 DPO, 1:08 FUA, 1:02 FUA_NV",
     "dpo_fua_bits": "1:10 DPO, 1:08 FUA",
@@ -32,7 +32,7 @@ FREE_LABELS = {
     "diagnostic_bits": "1:10 PF, 1:02 DEVOFFL, 1:01 UNITOFFL",
     "format_bits": "1:08 CMPLST, 1:07 DEFECT LIST FORMAT",
     "sanitize_bits": "1:80 IMMED, 1:20 AUSE",
-    "log_bits": "2:C0 PC, 5-6 PARAMETER POINTER",
+    "log_bits": "2:C0 PC",
 }
 
 # The names of fields with long labels. Any other one has its label in lower case.
@@ -88,9 +88,11 @@ class Row(NamedTuple):
     actions: Dict[str, int]
     of_extended: List[str]
     fields: List[Field]
-    # Free bits: the disk knows the used ones, and does not look at the ignored ones.
+    # Free bits: the disk knows the used ones, and does not look at the ignored ones. A service action may
+    # ignore more fields, which are here by its name.
     used: List[Field]
     ignored: List[Field]
+    ignored_by: Dict[str, List[Field]]
 
     @property
     def name(self) -> str:
@@ -142,9 +144,13 @@ class Definitions:
                 self.equations.setdefault(name, []).append((patterns.strip(), body))
 
     def value(self, name: str, arguments: List[Any]) -> Any:
-        """The value of a name applied to arguments, or a symbol if it is defined by cases or elsewhere."""
+        """The value of a name applied to arguments. It is a symbol if the name is defined elsewhere, or by
+        cases of which the argument is none."""
         found = self.equations.get(name, [])
-        if len(found) != 1 or re.search(r"[λ→]|\bif\b|\blet\b|&&", found[0][1]):
+        if len(found) > 1:
+            of_case = [it for it in found if arguments == [Symbol(it[0], [])]]
+            return Parser(self, of_case[0][1], {}).whole() if of_case else Symbol(name, arguments)
+        if not found or re.search(r"[λ→]|\blet\b|&&|==", found[0][1]):
             return Symbol(name, arguments)
         parameters = found[0][0].split()
         if len(parameters) != len(arguments):
@@ -159,7 +165,7 @@ TOKEN = re.compile(r"\s*(?:(0x[0-9A-Fa-f]+|\d+)|([A-Za-z_][\w.]*)|(\[\]|\+\+|[�
 
 
 class Parser:
-    """Evaluates the text of an expression: applications, lists and records."""
+    """Evaluates the text of an expression: applications, lists, records and cases."""
 
     def __init__(self, definitions: Definitions, text: str, names: Dict[str, Any]) -> None:
         self.definitions, self.names, self.at = definitions, names, 0
@@ -193,9 +199,11 @@ class Parser:
     def application(self) -> Any:
         if self.peek() == "record":
             return self.record()
+        if self.peek() == "if":
+            return self.case()
         head, arguments = self.peek(), []
         value = self.atom(is_head=True)
-        while self.peek() and (self.peek() in ("(", "[]") or re.match(r"[\w.]", self.peek())):
+        while self.peek() in ("(", "[]") or re.match(r"(?!(?:then|else)\b)[\w.]", self.peek()):
             arguments.append(self.atom())
         if not re.match(r"[A-Za-z_]", head) or (head in self.names and not arguments):
             return value
@@ -214,6 +222,16 @@ class Parser:
         if token in self.names:
             return self.names[token]
         return Symbol(token, []) if is_head else self.definitions.value(token, [])
+
+    def case(self) -> List[Any]:
+        """`if TEST then LIST else LIST`. If the test has no value, it is what both lists have."""
+        self.take()
+        test = self.expression()
+        lists: Dict[str, List[Any]] = {}
+        for name in "true", "false":  # after `then` and after `else`
+            self.take()
+            lists[name] = self.expression()
+        return lists.get(test.name, [it for it in lists["true"] if it in lists["false"]])
 
     def record(self) -> Dict[str, Any]:
         self.take()
@@ -307,23 +325,27 @@ def fields_at(places: List[Symbol], names: Labels) -> List[Field]:
     return fields
 
 
-def free_fields(free: Dict[str, Any], part: str) -> List[Field]:
-    """The fields of the used or of the ignored free bits."""
+def free_fields(free: Dict[str, Any], part: str, here: Labels) -> List[Field]:
+    """The fields of the used or of the ignored free bits. A field of the command may be one."""
     places = free[part]
     group = {it: "GROUP NUMBER" for place in places for it in places_of(place) if it[2:] == (4, 0)}
-    return fields_at(places, {**labels_of(FREE_LABELS.get(free["definition"], "")), **group})
+    return fields_at(places, {**here, **labels_of(FREE_LABELS.get(free["definition"], "")), **group})
 
 
 def actions_of(definitions: Definitions, action: Symbol) -> Tuple[Optional[int], Dict[str, int]]:
-    """The service action, or the names and numbers of all of them."""
+    """The service action, or the variants of all of them, such as `ReadKeys`, with their numbers."""
     if action.name == "none":
         return None, {}
     (number,) = action.arguments
     if isinstance(number, int):
         return number, {}
-    # `in_code c.action`: `ReadKeys` is `READ_KEYS`
-    return None, {re.sub(r"(?<!^)(?=[A-Z])", "_", variant).upper(): int(body, 0)
-                  for variant, body in definitions.equations[number.name]}
+    # `in_code c.action`
+    return None, {variant: int(body, 0) for variant, body in definitions.equations[number.name]}
+
+
+def in_capitals(variant: str) -> str:
+    """A variant as a name: `ReadKeys` is `READ_KEYS`."""
+    return re.sub(r"(?<!^)(?=[A-Z])", "_", variant).upper()
 
 
 def rows() -> List[Row]:
@@ -331,9 +353,11 @@ def rows() -> List[Row]:
     definitions = Definitions("Layout", "CdbFields", "FreeBits", "ReservationAction")
     named, labelled, data_out, found = titles(), labels(), column("Commands", "Data-out"), []
     for _, body in definitions.equations["layout"]:
-        value = Parser(definitions, body, {"c": Symbol("c", [])}).whole()
+        command = {"c": Symbol("c", [])}
+        value = Parser(definitions, body, command).whole()
         opcode, free = value["opcode"], value["free"]
-        action, actions = actions_of(definitions, value["action"])
+        action, variants = actions_of(definitions, value["action"])
+        actions = {in_capitals(it): number for it, number in variants.items()}
         numbers: List[Optional[int]] = [*actions.values()]
         codes = [(opcode, it) for it in numbers or [action]]
         if any(it not in named for it in codes):
@@ -346,9 +370,15 @@ def rows() -> List[Row]:
         fields = fields_at([it["place"] for it in value["fields"]], here)
         if actions:
             fields.insert(0, Field("SERVICE ACTION", 1, 1, 4, 0))
+        ignored = free_fields(free, "ignored", here)
+        ignored_by: Dict[str, List[Field]] = {}
+        for variant in variants:
+            of_action = Parser(definitions, body, {**command, "c.action": Symbol(variant, [])}).whole()
+            more = [it for it in free_fields(of_action["free"], "ignored", here) if it not in ignored]
+            if more:
+                ignored_by[in_capitals(variant)] = more
         found.append(Row(title, section, data_out[family], value["profile"].name.lower(), opcode, action,
-                         actions, of_extended, fields, free_fields(free, "used"),
-                         free_fields(free, "ignored")))
+                         actions, of_extended, fields, free_fields(free, "used", here), ignored, ignored_by))
     if named:
         raise ValueError(f"docs/PROFILE.md has commands that the table lacks: {named}")
     return found
@@ -363,8 +393,9 @@ def main() -> int:
     for row in rows():
         actions = [row.action] if row.action is not None else row.actions.values()
         codes = "/".join([f"{row.opcode:02X}h", *(f"{it:02X}h" for it in actions)])
+        by_action = "".join(f", by {it}: {printed(fields)}" for it, fields in row.ignored_by.items())
         print(f"{row.name} {row.profile} {codes} {row.length}: {printed(row.fields)}; {printed(row.used)}; "
-              f"{printed(row.ignored)}; {row.title} ({row.section}), data-out: {row.data_out}")
+              f"{printed(row.ignored)}{by_action}; {row.title} ({row.section}), data-out: {row.data_out}")
     return 0
 
 

@@ -262,11 +262,10 @@ def start_stop_unit(device, _initiator, command, _data_out):
 
 
 def write_long(device, _initiator, command, _data_out):
-    """WRITE LONG(10) (SBC-3, 5.41): with WR_UNCOR 1 it marks a block as bad, and writes no data"""
+    """WRITE LONG(10) (SBC-3, 5.41): with WR_UNCOR 1 it marks a block as bad, and writes no data, whatever
+    BYTE TRANSFER LENGTH is"""
     if not command["wr_uncor"]:
         raise command.unsupported("wr_uncor")
-    if command["transfer_length"]:
-        raise command.unsupported("transfer_length")
     marked = [(command["address"], 1)]
     check_addresses(device, marked)
     check_write_protection(device, marked)

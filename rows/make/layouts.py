@@ -48,7 +48,8 @@ TABLE = """
 48.1F | SANITIZE, EXIT FAILURE MODE \
                                | writes  | parameter_list_length 7-8                   | 1:A0
 4D    | LOG SENSE              | allowed | page_code 2:3F, subpage_code 3, \
-                                           allocation_length 7-8                       | 2:C0, 5-6
+                                           parameter_pointer 5-6, \
+                                           allocation_length 7-8                       | 2:C0
 55    | MODE SELECT(10)        | writes  | pf 1:10, sp 1:01, list_length 7-8           |
 5A    | MODE SENSE(10)         | reads   | llbaa 1:10, dbd 1:08, pc 2:C0, \
                                            page_code 2:3F, subpage_code 3, \
@@ -84,8 +85,8 @@ B7    | READ DEFECT DATA(12)   | reads   | req_plist 1:10, req_glist 1:08, forma
                                            index 2-5, allocation_length 6-9            |
 """
 
-# Ignored bits that REPORT SUPPORTED OPERATION CODES shows: DPO and FUA, IMMED, NO_FLUSH, and PC. It
-# shows each field but a GROUP NUMBER (SPC-4, 6.35.3).
+# Ignored bits that REPORT SUPPORTED OPERATION CODES shows: DPO and FUA, IMMED, NO_FLUSH, and PC
+# (SPC-4, 6.35.3). `is_shown` says which fields it shows.
 SHOWN = {
     **dict.fromkeys(("READ(10)", "READ(12)", "READ(16)", "WRITE(10)", "WRITE(12)", "WRITE(16)",
                      "COMPARE AND WRITE", "ORWRITE(16)", "WRITE ATOMIC(16)"), "1:18"),
@@ -98,6 +99,13 @@ SHOWN = {
     "LOG SENSE": "2:C0",
     "START STOP UNIT": "1:01,4:04",
 }
+
+# Fields that the disk does not look at: a GROUP NUMBER, BYTE TRANSFER LENGTH of a WRITE LONG without data
+# (SBC-3, 5.41), and ADDRESS DESCRIPTOR INDEX of lists without descriptors (SBC-3, 5.18).
+NOT_SHOWN = {"group_number", "transfer_length", "index"}
+
+# The service actions of PERSISTENT RESERVE OUT that ignore SCOPE and TYPE (SPC-4, 6.16.2)
+WITHOUT_TYPE = {"REGISTER", "CLEAR", "REGISTER AND IGNORE EXISTING KEY", "REGISTER AND MOVE"}
 
 # Operation codes that only a disk of the extended profile knows.
 OF_EXTENDED = {0x04, 0x1B, 0x1D, 0x2E, 0x2F, 0x34, 0x37, 0x3F, 0x48, 0x4D, 0x89, 0x8B, 0x8E, 0x8F, 0x90,
@@ -166,11 +174,16 @@ class Layout:
         self.allowed_bits = {
             "base": bits_of([*of_base, *ignored], self.length),
             "extended": bits_of([*self.fields.values(), *ignored], self.length)}
-        shown = [place for field, place in self.fields.items() if field != "group_number"]
+        shown = [place for field, place in self.fields.items() if is_shown(name, field)]
         shown += map(Field, filter(None, SHOWN.get(name, "").split(",")))
         self.usage = bytearray(bits_of(shown, self.length))
         self.usage[0] = code
         self.usage[1] |= action or 0  # 1:1F has no field, but the service action is in its place
+
+
+def is_shown(name, field):
+    """Whether REPORT SUPPORTED OPERATION CODES shows a field of a command."""
+    return field not in NOT_SHOWN and not (name in WITHOUT_TYPE and field in ("scope", "type"))
 
 
 def bits_of(places, length):

@@ -17,9 +17,10 @@ ABORT_TASK, ABORT_TASK_SET, CLEAR_TASK_SET, LOGICAL_UNIT_RESET = 0x80, 0x40, 0x1
 FUNCTIONS = ABORT_TASK | ABORT_TASK_SET | CLEAR_TASK_SET | LOGICAL_UNIT_RESET
 
 ALL_SUBPAGES = 0xFF
-# A log parameter (SPC-4, 7.3): its code, its control byte, its length, and three bytes. These are no
-# additional sense code with its qualifier, and no temperature.
-INFORMATIONAL_EXCEPTIONS = bytes([0x00, 0x00, 0x03, 3, 0x00, 0x00, 0xFF])
+# The code of a log parameter, and three bytes: no additional sense code with its qualifier, and no
+# temperature (SPC-4, 7.3)
+INFORMATIONAL_EXCEPTIONS, NO_EXCEPTION = 0x0000, bytes([0x00, 0x00, 0xFF])
+BINARY_LIST = 0x03  # FORMAT AND LINKING in the control byte of a log parameter
 # The codes of the parameters with LBA mapping resource counts (SBC-3, log parameters), and SCOPE 01b
 AVAILABLE, USED = 0x0001, 0x0002
 DEDICATED_TO_LOGICAL_UNIT = 0x01
@@ -122,15 +123,30 @@ def target_port_groups(_device, _initiator, command, _data_out):
 
 
 def log_sense(device, _initiator, command, _data_out):
-    """SPC-4, 6.8 and 7.3"""
+    """SPC-4, 6.8 and 7.3: a page has its parameters from PARAMETER POINTER on. Past the last one there is
+    none. A list of pages has no parameters, and is returned whole."""
     code, subcode = command["page_code"], command["subpage_code"]
     if code not in LOG_PAGES:
         raise command.unsupported("page_code")
     if subcode not in LOG_PAGES[code]:
         raise command.unsupported("subpage_code")
-    flags, parameters = LOG_CONTENTS[code, subcode](device)
-    page = bytes([flags | code, subcode]) + len(parameters).to_bytes(2, "big") + parameters
+    flags, content = LOG_CONTENTS[code, subcode](device)
+    if isinstance(content, dict):
+        pointer = command["parameter_pointer"]
+        if pointer > max(content):
+            raise command.unsupported("parameter_pointer")
+        content = b"".join(
+            log_parameter(its, content[its]) for its in sorted(content) if its >= pointer)
+    page = bytes([flags | code, subcode]) + len(content).to_bytes(2, "big") + content
     return page[:command["allocation_length"]]
+
+
+def log_parameter(code, value):
+    """SPC-4, 7.3"""
+    return code.to_bytes(2, "big") + bytes([BINARY_LIST, len(value)]) + value
+
+
+# A list of pages, or the values of the parameters of a page, by their codes
 
 
 def supported_pages(_device):
@@ -145,16 +161,15 @@ def supported_subpages(_device):
 def logical_block_provisioning(device):
     """SBC-3, log parameters: blocks of the pool in whole threshold sets. Anchored ones are used."""
     threshold_set = 2 ** THRESHOLD_EXPONENT[device.profile]
-    parameters = b""
+    parameters = {}
     for code, blocks in zip((AVAILABLE, USED), device.provisioning.resources()):
         count = (blocks // threshold_set).to_bytes(4, "big")
-        parameters += code.to_bytes(2, "big") + bytes([0x03, 8])
-        parameters += count + bytes([DEDICATED_TO_LOGICAL_UNIT, 0, 0, 0])
+        parameters[code] = count + bytes([DEDICATED_TO_LOGICAL_UNIT, 0, 0, 0])
     return DISABLE_SAVE, parameters
 
 
 def informational_exceptions(_device):
-    return DISABLE_SAVE, INFORMATIONAL_EXCEPTIONS
+    return DISABLE_SAVE, {INFORMATIONAL_EXCEPTIONS: NO_EXCEPTION}
 
 
 LOG_CONTENTS = {

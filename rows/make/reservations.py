@@ -33,7 +33,7 @@ LIST_LENGTH = 24
 # With SPEC_I_PT the list goes on with TRANSPORTID PARAMETER DATA LENGTH and the TransportIDs.
 TRANSPORT_IDS_LENGTH_AT, TRANSPORT_IDS_AT, TRANSPORT_ID_LENGTH = 24, 28, 24
 # SCOPE and TYPE have to be valid, whoever holds the reservation. On an extended disk those of a RELEASE
-# matter only if the caller holds it (SPC-4, 5.13, releasing).
+# only have to be those of the reservation, if the caller holds it (SPC-4, 5.13, releasing).
 NEED_TYPE = {"base": ("RESERVE", "RELEASE"), "extended": ("RESERVE",)}
 # SPC-4, 6.15.4: none is told, or what a reservation of another initiator allows (011b)
 ALLOW_COMMANDS = {"base": 0, "extended": 3}
@@ -278,16 +278,15 @@ def check_key(request):
 
 def register(request):
     """SPC-4, 5.13 (registering; unregistering) and 6.16. A REGISTER that leaves an initiator
-    unregistered does nothing."""
+    unregistered does nothing, and SPEC_I_PT is ignored then."""
     state, caller = request.state, request.caller
+    if caller not in state.keys and request.action_key == 0:
+        return
     if request.spec_i_pt:
         register_together(request)
         return
-    if caller not in state.keys:
-        if request.action_key == 0:
-            return
-        if len(state.keys) == MOST_REGISTRANTS[request.device.profile]:
-            raise CheckCondition(ILLEGAL_REQUEST, INSUFFICIENT_REGISTRATION_RESOURCES)
+    if caller not in state.keys and len(state.keys) == MOST_REGISTRANTS[request.device.profile]:
+        raise CheckCondition(ILLEGAL_REQUEST, INSUFFICIENT_REGISTRATION_RESOURCES)
     if request.action_key:
         state.register(caller, request.action_key, request.all_tg_pt)
     else:
@@ -302,7 +301,7 @@ def register_together(request):
     """SPC-4, 5.13 (registering) and 6.16.3 (SPEC_I_PT): the caller and all initiators that the list
     names are registered. A registrant is passed over. An extended disk has room for all of them."""
     state = request.state
-    if request.caller in state.keys or request.action_key == 0:
+    if request.caller in state.keys:
         raise invalid_field_in_parameter_list(20)
     named = dict.fromkeys([request.caller, *named_initiators(request.transport_ids)])
     for initiator in named:
@@ -363,12 +362,11 @@ def reserve(request):
 
 
 def release(request):
-    """SPC-4, 5.13 (releasing)"""
+    """SPC-4, 5.13 (releasing): SCOPE and TYPE have to be those of the reservation, whose SCOPE is 0h."""
     state, kind = request.state, request.command["type"]
     if request.caller not in state.holders():
         return
-    check_scope_and_type(request.command)
-    if kind != state.type:
+    if request.command["scope"] != 0 or kind != state.type:
         raise CheckCondition(ILLEGAL_REQUEST, INVALID_RELEASE_OF_PERSISTENT_RESERVATION)
     state.end()
     if kind in SHARED:

@@ -112,7 +112,8 @@ fn report_luns(random: &mut Random) -> Command {
     })
 }
 
-/// LOG SENSE, most often of a page that the disk has.
+/// LOG SENSE, most often of a page that the disk has. PARAMETER POINTER is sometimes past its last
+/// parameter.
 fn log_sense(random: &mut Random) -> Option<Command> {
     let (page, subpage_code) = match random.byte() % 8 {
         0 => (0x00, 0x00),
@@ -124,6 +125,7 @@ fn log_sense(random: &mut Random) -> Option<Command> {
     Some(Command::LogSense(LogSense {
         page_code: PageCode::new(page)?,
         subpage_code,
+        parameter_pointer: u16::from(random.byte() % 4),
         allocation_length: u16::from(random.byte()),
     }))
 }

@@ -44,7 +44,7 @@ data-length m capacity address w (Some (Data block)) e = (w.each address (Data b
 data-length m capacity address w (Some Anchored) e = zero-length
 data-length m capacity address w None e = zero-length
 
-length-blocks : (m : Contents) (capacity a k : ℕ) → IsWellFormed capacity m
+pub length-blocks : (m : Contents) (capacity a k : ℕ) → IsWellFormed capacity m
     → length (blocks m a k) ≡ 512 * k
 length-blocks m capacity a zero w = ap length (blocks-none m a)
 length-blocks m capacity a (suc k) w =

@@ -38,14 +38,14 @@ use Rattle.sg_target.specs.declared.refusal.Refusal.{Refusal}
 use Rattle.sg_target.proofs.CommandLemmas.{has-slot, none-needed}
 use Rattle.sg_target.proofs.NeedLemmas.{inside}
 use Rattle.sg_target.proofs.Space.{space-left}
-use Rattle.sg_fencing.specs.Exchanges.{ExchangesThatNothingForbidsEndWithGood, NothingForbidsExchange}
-use Rattle.sg_fencing.specs.Exchanges.{blocks_to_exchange}
+use Rattle.sg_fencing.specs.Exchanges.{ExchangesThatNothingForbidsEndWithGood, blocks_to_exchange}
+use Rattle.sg_fencing.specs.Laws.{NothingForbids}
 use Rattle.sg_fencing.proofs.WriteLemmas.{cdb-none, first-none, protection-none, range-none, ready-none}
 
 -- ---- The checks
 
 module _ (state : State) (i : ℕ) (data_out : List ℕ) (named : Extent)
-    (free : NothingForbidsExchange state i data_out named) where
+    (free : NothingForbids state i data_out named) (two_halves : length data_out ≡ 2 * bytes_of named) where
   abbrev asked : Operation
   asked = operation.CompareAndWrite (exchange_out named data_out)
 
@@ -67,11 +67,11 @@ module _ (state : State) (i : ℕ) (data_out : List ℕ) (named : Extent)
   by-request None h =
       by-medium (first_some (medium_checks state (medium_use asked)))
       (first-none (not_ready state (medium_use asked)) _
-      (ready-none state (medium_use asked) free.write.ready)
+      (ready-none state (medium_use asked) free.ready)
       (first-none (out_of_range state.disk.capacity (named ∷ [])) _
-      (range-none state.disk.capacity named free.write.on_disk)
+      (range-none state.disk.capacity named free.on_disk)
       (first-none (write_protection (rules_of (profile_of state)) state.modes (medium_use asked)) []
-      (protection-none _ state.modes (medium_use asked) free.write.unprotected) refl)))
+      (protection-none _ state.modes (medium_use asked) free.unprotected) refl)))
   by-request (Some refusal) h = cc
 
   -- what COMPARE AND WRITE of an extent demands
@@ -92,12 +92,12 @@ module _ (state : State) (i : ℕ) (data_out : List ℕ) (named : Extent)
 
   right-length : wrong_length named data_out ≡ None
   right-length =
-      ap (λ b. cond b None (Some 13)) ((Decides-eqb (length data_out) (2 * bytes_of named)).1 free.two_halves)
+      ap (λ b. cond b None (Some 13)) ((Decides-eqb (length data_out) (2 * bytes_of named)).1 two_halves)
 
   none-short : short_data_out (Some (exchange_need named)) data_out ≡ None
   none-short =
       ap (λ b. cond b (exchange_need named).if_short None)
-      (le-ltb (length data_out) (2 * bytes_of named) (omega (arith, free.two_halves)))
+      (le-ltb (length data_out) (2 * bytes_of named) (omega (arith, two_halves)))
 
   of-named : OfExtent named
   of-named =
@@ -122,10 +122,12 @@ module _ (state : State) (i : ℕ) (data_out : List ℕ) (named : Extent)
 
   -- ---- What is found on the way
 
-  no-difference : first_difference (blocks_at state named) (take (bytes_of named) data_out) ≡ None
-  no-difference =
-      ap (λ bytes. first_difference bytes (take (bytes_of named) data_out)) free.found
-      ∙ same-none (take (bytes_of named) data_out)
+  abbrev expected : List ℕ
+  expected = take (bytes_of named) data_out
+
+  no-difference : blocks_at state named ≡ expected
+      → first_difference (blocks_at state named) expected ≡ None
+  no-difference found = ap (λ bytes. first_difference bytes expected) found ∙ same-none expected
 
   has-space : RemappingTakesWhatIsNeeded → IsWithinLimits state → no_space its.after.disk ≡ None
   has-space law w =
@@ -133,15 +135,16 @@ module _ (state : State) (i : ℕ) (data_out : List ℕ) (named : Extent)
       let none : need contents named.lba named.count ≡ 0 =
       none-needed law contents named.lba named.count
       (λ index lt. has-slot (get contents (named.lba + index))
-      (free.write.used (named.lba + index) (inside named.lba named.count index lt))) in
+      (free.used (named.lba + index) (inside named.lba named.count index lt))) in
       let same : len its.after.disk.contents ≡ len contents + need contents named.lba named.count =
       law.taken contents named.lba named.count
       (λ index. Data (block_at (drop (bytes_of named) data_out) index)) in
       space-left its.after.disk (omega (arith, same, none, w.used))
 
-  finds-nothing : RemappingTakesWhatIsNeeded → IsWithinLimits state → its.found ≡ None
-  finds-nothing law w =
-      ap₂ (λ (d : Option ℕ) (s : Option Refusal). first_some (miscompare d ∷ s ∷ [])) no-difference
+  finds-nothing : RemappingTakesWhatIsNeeded → IsWithinLimits state → blocks_at state named ≡ expected
+      → its.found ≡ None
+  finds-nothing law w found =
+      ap₂ (λ (d : Option ℕ) (s : Option Refusal). first_some (miscompare d ∷ s ∷ [])) (no-difference found)
       (has-space law w)
 
 -- ---- The command
@@ -165,18 +168,18 @@ read-exchange profile cdb named is =
     let known = is-exchange (command_in profile cdb) named is in
     ap blocks_to_exchange (read-any profile cdb known.command known.is ∙ sym known.is) ∙ is
 
-effect-is : CommandsHaveTheirClass → (state : State) (i : ℕ) (cdb data_out : List ℕ) (named : Extent)
+pub effect-is : CommandsHaveTheirClass → (state : State) (i : ℕ) (cdb data_out : List ℕ) (named : Extent)
     → blocks_to_exchange (command_in (profile_of state) cdb) ≡ Some named
-    → NothingForbidsExchange state i data_out named
+    → NothingForbids state i data_out named → length data_out ≡ 2 * bytes_of named
     → checked_effect state i cdb data_out ≡ Ok (exchanging state (exchange_out named data_out))
 unfolding checked_cdb
-effect-is classes state i cdb data_out named is free =
+effect-is classes state i cdb data_out named is free two_halves =
     let parse = command_in (profile_of state) cdb in
     let known = is-exchange parse named is in
-    by-cdb state i data_out named free (first_some (cdb_checks state i cdb))
+    by-cdb state i data_out named free two_halves (first_some (cdb_checks state i cdb))
     (cdb-none state i cdb known.command known.is
-    (classes (profile_of state) cdb known.command known.is ∙ ap Some known.class) free.write.attention
-    free.write.reservation)
+    (classes (profile_of state) cdb known.command known.is ∙ ap Some known.class) free.attention
+    free.reservation)
     parse is
 
 pub free-exchanges : CommandsHaveTheirClass → RemappingTakesWhatIsNeeded
@@ -184,7 +187,7 @@ pub free-exchanges : CommandsHaveTheirClass → RemappingTakesWhatIsNeeded
 free-exchanges classes law state i cdb data_out named w is free =
     let its = exchanging state (exchange_out named data_out) in
     ap (λ (found : Result Effect Refusal). (outcome state i found).answer.status)
-    (effect-is classes state i cdb data_out named is free)
+    (effect-is classes state i cdb data_out named is free.write free.two_halves)
     ∙ ap
     (λ (found : Option Refusal). (option_map_or (refused state i) found (executed its)).answer.status)
-    (finds-nothing state i data_out named free law w)
+    (finds-nothing state i data_out named free.write free.two_halves law w free.found)

@@ -12,6 +12,7 @@ mod SpaceLemmas
 mod WriteLemmas
 mod ExchangeLemmas
 mod FreeExchangeLemmas
+mod MiscompareLemmas
 -- Commands of others.
 mod AccessLemmas
 mod OthersLemmas

@@ -93,8 +93,10 @@ module _ (rules : Rules) (state : ReservationState) (j : ℕ)
       → FirstIs (EffectIs AddsIf) (register_together_cases state j list)
   unfolding register_together_cases
   together-adds set =
-      case_or (EffectIs AddsIf) _ _ (λ _. refused AddsIf _)
+      case_or (EffectIs AddsIf) _ _
+      (λ _. effective AddsIf _ (λ known. absurd (false≢true (sym unknown ∙ known))))
       (λ keyed. case_or (EffectIs AddsIf) _ _ (λ _. refused AddsIf _)
+      (λ _. case_or (EffectIs AddsIf) _ _ (λ _. refused AddsIf _)
       (λ _. case_or (EffectIs AddsIf) _ _ (λ _. refused AddsIf _)
       (λ _. last_case (EffectIs AddsIf) _ _ refl
       (effective AddsIf _ (λ _. record {
@@ -102,8 +104,8 @@ module _ (rules : Rules) (state : ReservationState) (j : ℕ)
         reservation = refl;
         increments = refl;
         aptpl = refl;
-        key = (or_parts _ _ keyed).1;
-      })))))
+        key = and_false (not (is_registered state.registrations j)) _ (ap not unknown) keyed;
+      }))))))
 
   action-adds : (action : OutAction) (type : Option ReservationType) → is_registering action ≡ true
       → has_unsupported_flag rules action list ≡ false

@@ -3,7 +3,8 @@
 use Rattle.std.proofs.Common.{◌≡◌, ℕ, Bool, true, false, List, Option, Some, None, Result, Ok, Err}
 use Rattle.std.proofs.Common.{◌==◌, ◌&&◌, refl, subst, ap, cond, sym, ◌∙◌}
 use Rattle.std.proofs.lemmas.Bool.{false≢true}
-use Rattle.std.specs.Prelude.{if◌then◌else◌, ok_or}
+use Rattle.std.specs.Prelude.{if◌then◌else◌, nat_lt, ok_or}
+use Rattle.std.specs.Option.{option_map_or}
 use Rattle.sg_wire.specs.FirstBytes.{first_bytes}
 use Rattle.sg_wire.specs.OutList.{list_of as out_list_of}
 use Rattle.sg_wire.specs.Profile.{rules_of}
@@ -30,7 +31,7 @@ use Rattle.sg_target.specs.PrimaryCommands.{inquiry_page}
 use Rattle.sg_target.specs.ProvisioningCommands.{block_out, same_block, unmaps}
 use Rattle.sg_target.specs.Demands.{extents_out}
 use Rattle.sg_wire.specs.SupportedOperations.{requested_report}
-use Rattle.sg_pages.specs.Reports.{extended_header_asked, lists_unit, log_page_with}
+use Rattle.sg_pages.specs.Reports.{extended_header_asked, lists_unit, log_page_with, unless_past_last}
 use Rattle.sg_pages.specs.declared.reports.LogPage.{LogPage}
 use Rattle.sg_pages.specs.declared.reports.LogPage.TheVariants.{InformationalExceptions}
 use Rattle.sg_pages.specs.declared.reports.LogPage.TheVariants.{LogicalBlockProvisioning}
@@ -102,7 +103,7 @@ shows _ = false
 
 -- a log page has the number of used addresses
 abbrev pub shows_number : Operation → Bool
-shows_number (ReturnReport (report.Log LogicalBlockProvisioning) n) = true
+shows_number (ReturnReport (report.Log LogicalBlockProvisioning pointer) n) = true
 shows_number _ = false
 
 pub first-number : (n : ℕ) (operation : Operation)
@@ -206,27 +207,34 @@ start-suits c false e = record {
 }
 
 -- LOG SENSE has the page with the number only for its code
-by-tests : (pages subpages page subpage exceptions : Bool) (byte : ℕ)
-    → ok_or (cond pages (Some SupportedPages) (cond subpages (Some SupportedSubpages)
-    (cond (page && subpage) (Some LogicalBlockProvisioning)
-    (cond exceptions (Some InformationalExceptions) None)))) byte
-    ≡ Ok LogicalBlockProvisioning → page ≡ true
-by-tests true subpages page subpage exceptions byte h = cc
-by-tests false true page subpage exceptions byte h = cc
-by-tests false false true subpage exceptions byte h = refl
-by-tests false false false subpage true byte h = cc
-by-tests false false false subpage false byte h = cc
+no-number : (past : Bool)
+    → cond {A = Result LogPage ℕ} past (Err 5) (Ok InformationalExceptions) ≡ Ok LogicalBlockProvisioning
+    → ⊥
+no-number true h = cc
+no-number false h = cc
 
-provisioning-code : (page_code subpage_code : ℕ)
-    → log_page_with page_code subpage_code ≡ Ok LogicalBlockProvisioning
+by-tests : (pages subpages page subpage exceptions : Bool) (byte pointer : ℕ)
+    → option_map_or (unless_past_last pointer)
+    (cond pages (Some SupportedPages) (cond subpages (Some SupportedSubpages)
+    (cond (page && subpage) (Some LogicalBlockProvisioning)
+    (cond exceptions (Some InformationalExceptions) None)))) (Err byte)
+    ≡ Ok LogicalBlockProvisioning → page ≡ true
+by-tests true subpages page subpage exceptions byte pointer h = cc
+by-tests false true page subpage exceptions byte pointer h = cc
+by-tests false false true subpage exceptions byte pointer h = refl
+by-tests false false false subpage true byte pointer h = absurd (no-number (nat_lt 0 pointer) h)
+by-tests false false false subpage false byte pointer h = cc
+
+provisioning-code : (page_code subpage_code pointer : ℕ)
+    → log_page_with page_code subpage_code pointer ≡ Ok LogicalBlockProvisioning
     → (page_code == 0x0C) ≡ true
-provisioning-code page_code subpage_code h = by-tests _ _ _ _ _ _ h
+provisioning-code page_code subpage_code pointer h = by-tests _ _ _ _ _ _ _ h
 
 log-suits : (c : LogSense) (page : Result LogPage ℕ)
     → (page ≡ Ok LogicalBlockProvisioning → (c.page_code == 0x0C) ≡ true)
     → SuitsIf (command.LogSense c)
     (when_sound (or_refused (λ byte. CheckCondition (InvalidFieldInCdb byte)) page)
-    (λ its. ReturnReport (report.Log its) c.allocation_length))
+    (λ its. ReturnReport (report.Log its c.parameter_pointer) c.allocation_length))
 log-suits c (Ok LogicalBlockProvisioning) h =
     record { class = λ class e. cc; of_kind = λ kind k. refl; shown = refl; number = λ n. h refl }
 log-suits c (Ok page) h =
@@ -253,8 +261,8 @@ suits config (command.Verify16 c) data_out =
 suits config (command.FormatUnit c) data_out =
     format-suits c (list_refusal c data_out) config.blocks
 suits config (command.LogSense c) data_out =
-    log-suits c (log_page_with c.page_code c.subpage_code)
-    (provisioning-code c.page_code c.subpage_code)
+    log-suits c (log_page_with c.page_code c.subpage_code c.parameter_pointer)
+    (provisioning-code c.page_code c.subpage_code c.parameter_pointer)
 suits config (command.ReportSupportedOperationCodes c) data_out =
     sound-suits (command.ReportSupportedOperationCodes c)
     (ok_or (requested_report config.identity.profile c) (CheckCondition (InvalidFieldInCdb 2)))
@@ -438,8 +446,8 @@ reads-if config (command.Verify16 c) data_out =
 reads-if config (command.LogSense c) data_out =
     sound-reads (command.LogSense c)
     (or_refused (λ byte. CheckCondition (InvalidFieldInCdb byte))
-    (log_page_with c.page_code c.subpage_code))
-    (λ page. ReturnReport (report.Log page) c.allocation_length) (λ page. refl)
+    (log_page_with c.page_code c.subpage_code c.parameter_pointer))
+    (λ page. ReturnReport (report.Log page c.parameter_pointer) c.allocation_length) (λ page. refl)
 reads-if config (command.ReportSupportedOperationCodes c) data_out =
     sound-reads (command.ReportSupportedOperationCodes c)
     (ok_or (requested_report config.identity.profile c) (CheckCondition (InvalidFieldInCdb 2)))

@@ -6,7 +6,6 @@ use Rattle.std.proofs.Common.{length, Option, Some, None, Ok, Err, refl, sym, ap
 use Rattle.std.proofs.Common.{arith}
 use Rattle.std.specs.Prelude.{if◌then◌else◌, is_some, nat_le}
 use Rattle.std.proofs.lemmas.Bool.{and_from, eq-eqb, false≢true, not-false, not-true, or_left}
-use Rattle.std.proofs.lemmas.Bool.{or_parts}
 use Rattle.std.proofs.lemmas.Bool.Decides.{nat_tests}
 use Rattle.sg_wire.specs.declared.command.out_action.OutAction.{OutAction}
 use Rattle.sg_wire.specs.declared.command.out_action.OutAction.TheVariants.{Register, Reserve}
@@ -96,10 +95,6 @@ not_true : (b : Bool) → b ≡ true → not b ≡ true → ⊥
 not_true true e h = false≢true h
 not_true false e h = false≢true e
 
-not_released : (any holds : Bool) → holds ≡ true → (any && not holds) ≡ true → ⊥
-not_released true holds e h = not_true holds e h
-not_released false holds e h = false≢true h
-
 or_not_known : (a known b : Bool) → known ≡ true → (a || (not known && b)) ≡ a
 or_not_known true known b e = refl
 or_not_known false true b e = refl
@@ -165,8 +160,11 @@ module _ (rules : Rules) (all : List Registration) (kind : ReservationType) (bef
       → FirstIs (Leaves state i as_before) (register_together_cases state i list)
   unfolding register_together_cases
   together_leaves list key =
-      case_or (Leaves state i as_before) _ _ (λ _. refuses _ key)
-      (λ new. absurd (false≢true (sym (or_parts (is_registered all i) _ new).0 ∙ here key)))
+      let known = is_registered all i in
+      case_or (Leaves state i as_before) _ _
+      (λ idle. absurd (not_known known (list.service_action_key == 0) (here key) idle))
+      (λ _. case_or (Leaves state i as_before) _ _ (λ _. refuses _ key)
+      (λ new. absurd (false≢true (sym new ∙ here key))))
 
   reserve_leaves : (new : ReservationType) → key_of all i ≡ Some k
       → FirstIs (Leaves state i as_before) (reserve_cases state i new)
@@ -273,13 +271,10 @@ module _ (rules : Rules) (all : List Registration) (kind : ReservationType) (bef
       (register_leaves list key).first)
   action_leaves Reserve type list keeps one key =
       typed type _ (λ new. as_before) key (λ new. (reserve_leaves new key).first)
-  action_leaves Release type list keeps one key =
-      let v = typed_left type (λ new. release_or (has_type held new)) in
-      let holds : is_holder state i ≡ true = and_from _ (i == i) (here key) (eq-eqb i i refl) in
-      choice (Leaves state i v) (rules.release_of_nothing_ignores_type && not (is_holder state i)) _ _
-      (λ h. absurd (not_released rules.release_of_nothing_ignores_type (is_holder state i) holds h))
-      (λ _. typed type _ (λ new. release_or (has_type held new)) key
-      (λ new. (release_leaves new key).first))
+  action_leaves Release None list keeps one key =
+      choice (Leaves state i as_before) (is_holder state i) _ _ (λ _. refuses _ key)
+      (λ _. leaves _ as_before key refl)
+  action_leaves Release (Some type) list keeps one key = (release_leaves type key).first
   action_leaves Clear type list keeps one key = leaves _ (None, None) refl refl
   action_leaves Preempt type list keeps one key =
       (preempt_leaves type list.service_action_key one key).first

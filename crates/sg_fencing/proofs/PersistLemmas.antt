@@ -77,11 +77,6 @@ not-acting true zero_key a b = false≢true (sym a)
 not-acting false true a b = false≢true (sym b)
 not-acting false false a b = false≢true (sym a)
 
-not-new : (known zero_key : Bool) → (known || not zero_key) ≡ false → (known || zero_key) ≡ false → ⊥
-not-new true zero_key a b = false≢true (sym a)
-not-new false true a b = false≢true (sym b)
-not-new false false a b = false≢true (sym a)
-
 -- another action than those that register
 abbrev pub is_other : OutAction → OutList → Bool
 is_other action list = not (is_registering action)
@@ -120,7 +115,7 @@ module _ (rules : Rules) (state : ReservationState) (j : ℕ) where
   action-leaves RegisterAndIgnoreExistingKey type list h = absurd (false≢true h)
   action-leaves RegisterAndMove type list h = absurd (false≢true h)
   action-leaves Reserve type list h = typed Leaves type _ (λ type. (reserving type).first)
-  action-leaves Release type list h = releasing Leaves rules state j type refl unreleased
+  action-leaves Release type list h = releasing Leaves state j type refl unreleased
   action-leaves Clear type list h = effective Leaves _ refl
   action-leaves Preempt type list h = (preempting type list.service_action_key).first
   action-leaves PreemptAndAbort type list h = (preempting type list.service_action_key).first
@@ -147,15 +142,17 @@ module _ (rules : Rules) (state : ReservationState) (j : ℕ) where
       (λ _. case_or (EffectIs S) _ _ (λ _. effective S _ refl)
       (λ _. last_case (EffectIs S) _ _ refl (effective S _ refl)))))
 
-  together-sets : (list : OutList)
+  together-sets : (list : OutList) → acts list.service_action_key ≡ true
       → FirstIs (EffectIs (Sets list.aptpl)) (register_together_cases state j list)
   unfolding register_together_cases
-  together-sets list =
+  together-sets list h =
       let S = Sets list.aptpl in
-      case_or (EffectIs S) _ _ (λ _. refused S _)
+      let known = is_registered state.registrations j in
+      case_or (EffectIs S) _ _ (λ idle. absurd (not-idle known (list.service_action_key == 0) h idle))
       (λ _. case_or (EffectIs S) _ _ (λ _. refused S _)
       (λ _. case_or (EffectIs S) _ _ (λ _. refused S _)
-      (λ _. last_case (EffectIs S) _ _ refl (effective S _ refl))))
+      (λ _. case_or (EffectIs S) _ _ (λ _. refused S _)
+      (λ _. last_case (EffectIs S) _ _ refl (effective S _ refl)))))
 
   move-sets : (list : OutList) → FirstIs (EffectIs (Sets list.aptpl)) (move_cases state j list)
   unfolding move_cases
@@ -183,8 +180,8 @@ module _ (rules : Rules) (state : ReservationState) (j : ℕ) where
   unfolding register_together_cases
   together-leaves list h =
       let known = is_registered state.registrations j in
-      case_or (EffectIs Leaves) _ _ (λ _. refused Leaves _)
-      (λ keyed. absurd (not-new known (list.service_action_key == 0) h keyed))
+      case_or (EffectIs Leaves) _ _ (λ _. effective Leaves _ refl)
+      (λ acting. absurd (not-acting known (list.service_action_key == 0) h acting))
 
   -- j's key is accepted only if j is registered
   move-leaves : (list : OutList) → acts list.service_action_key ≡ false
@@ -297,7 +294,7 @@ module _ (state : State) (j : ℕ) where
     sets a =
         after-command (Sets list.aptpl) Set (λ refusal good. absurd (not_good state j refusal good))
         set-outcome (register-sets (rules_for state) state.reservations j list a)
-        (together-sets (rules_for state) state.reservations j list)
+        (together-sets (rules_for state) state.reservations j list a)
         (λ _. move-sets (rules_for state) state.reservations j list)
 
     leaves : acts (rules_for state) state.reservations j list.service_action_key ≡ false

@@ -179,16 +179,17 @@ module _ (rules : Rules) (state : ReservationState) (i j : ℕ) (other : (j == i
   unfolding register_together_cases
   together-leaves action list registers supported =
       let P = LeavesIf action list in
-      case_or (EffectIs P) _ _ (λ _. refused P _)
-      (λ keyed. case_or (EffectIs P) _ _ (λ _. refused P _)
+      case_or (EffectIs P) _ _ (λ _. effective P _ (λ _. (left _ refl refl refl refl).shown _ refl))
+      (λ some. case_or (EffectIs P) _ _ (λ _. refused P _)
+      (λ new. case_or (EffectIs P) _ _ (λ _. refused P _)
       (λ _. case_or (EffectIs P) _ _ (λ _. refused P _)
       (λ _. last_case (EffectIs P) _ _ refl (effective P _ (λ spares. elim (spares registers) [
         | inl gone ↦
             absurd (false≢true (sym gone ∙ together-caller list state.registrations j j))
         | inr spared ↦
-            (left _ (spared-key rules list state.registrations i j other spared (or_parts _ _ keyed).1
-            supported) refl refl refl).shown _ refl
-      ])))))
+            (left _ (spared-key rules list state.registrations i j other spared
+            (and_false _ _ (ap not new) some) supported) refl refl refl).shown _ refl
+      ]))))))
 
   pub outcome-leaves : (action : OutAction) (scope_type : ℕ) (list : OutList)
       → EffectIs (LeavesIf action list) (outcome rules state j action scope_type list)
@@ -218,12 +219,13 @@ module _ (rules : Rules) (state : ReservationState) (j : ℕ)
   together-idle : (list : OutList) → FirstIs (EffectIs IsIdle) (register_together_cases state j list)
   unfolding register_together_cases
   together-idle list =
-      case_or (EffectIs IsIdle) _ _ (λ _. refused IsIdle _)
+      case_or (EffectIs IsIdle) _ _ (λ _. effective IsIdle _ (λ _. refl))
+      (λ _. case_or (EffectIs IsIdle) _ _ (λ _. refused IsIdle _)
       (λ _. case_or (EffectIs IsIdle) _ _ (λ _. refused IsIdle _)
       (λ _. case_or (EffectIs IsIdle) _ _ (λ _. refused IsIdle _)
       (λ _. last_case (EffectIs IsIdle) _ _ refl
       (effective IsIdle _ (λ gone. absurd (false≢true
-      (sym gone ∙ together-caller list state.registrations j j)))))))
+      (sym gone ∙ together-caller list state.registrations j j))))))))
 
   pub outcome-idle : (action : OutAction) (scope_type : ℕ) (list : OutList)
       → EffectIs IsIdle (outcome rules state j action scope_type list)
@@ -274,14 +276,16 @@ module _ (rules : Rules) (state : ReservationState) (i j : ℕ)
   unfolding register_together_cases
   together-unknown list spared supported =
       let all = state.registrations in
-      case_or (EffectIs IsUnknown) _ _ (λ _. refused IsUnknown _)
-      (λ keyed. case_or (EffectIs IsUnknown) _ _ (λ _. refused IsUnknown _)
+      case_or (EffectIs IsUnknown) _ _ (λ _. stays _ unknown)
+      (λ some. case_or (EffectIs IsUnknown) _ _ (λ _. refused IsUnknown _)
+      (λ new. case_or (EffectIs IsUnknown) _ _ (λ _. refused IsUnknown _)
       (λ _. case_or (EffectIs IsUnknown) _ _ (λ _. refused IsUnknown _)
       (λ _.
-      let asked = or_parts _ _ (keyed-by (list.service_action_key == 0) _ spared (or_parts _ _ keyed).1) in
+      let keyed = and_false _ _ (ap not new) some in
+      let asked = or_parts _ _ (keyed-by (list.service_action_key == 0) _ spared keyed) in
       last_case (EffectIs IsUnknown) _ _ refl
       (stays _
-      (by-key _ (together-other list all i j asked.0 (not-listed rules list i supported asked.1)))))))
+      (by-key _ (together-other list all i j asked.0 (not-listed rules list i supported asked.1))))))))
 
   move-unknown : (list : OutList) → asks_for rules j i list ≡ false → list.spec_i_pt ≡ false
       → FirstIs (EffectIs IsUnknown) (move_cases state j list)
@@ -343,7 +347,7 @@ module _ (rules : Rules) (state : ReservationState) (i j : ℕ)
   action-unknown Reserve type list h supported =
       typed IsUnknown type _ (λ type. (reserving type).first)
   action-unknown Release type list h supported =
-      releasing IsUnknown rules state j type unknown unreleased
+      releasing IsUnknown state j type unknown unreleased
   action-unknown Clear type list h supported = stays _ refl
   action-unknown Preempt type list h supported = (preempting type list.service_action_key).first
   action-unknown PreemptAndAbort type list h supported =

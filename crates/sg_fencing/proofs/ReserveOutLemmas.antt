@@ -142,11 +142,12 @@ module _ (rules : Rules) (all : List Registration) (kind : ReservationType) (bef
       → FirstIs (EffectIs P) (register_together_cases (alone_in all kind i before) j list)
   unfolding register_together_cases
   together_leaves list here =
-      case_or (EffectIs P) _ _ (λ _. refused P _)
+      case_or (EffectIs P) _ _ (λ _. stays all (held_by kind i) i j _ here refl refl refl)
+      (λ _. case_or (EffectIs P) _ _ (λ _. refused P _)
       (λ _. case_or (EffectIs P) _ _ (λ _. refused P _)
       (λ _. case_or (EffectIs P) _ _ (λ _. refused P _)
       (λ _. last_case (EffectIs P) _ _ refl
-      (stays all (held_by kind i) i j _ here (together-known list all i j here) refl refl))))
+      (stays all (held_by kind i) i j _ here (together-known list all i j here) refl refl)))))
 
   reserve_leaves : (new : ReservationType) → is_registered all i ≡ true
       → FirstIs (EffectIs P) (reserve_cases (alone_in all kind i before) j new)
@@ -199,7 +200,7 @@ module _ (rules : Rules) (all : List Registration) (kind : ReservationType) (bef
   action_leaves Reserve type list here other =
       typed P type _ (λ new. (reserve_leaves new here).first)
   action_leaves Release type list here other =
-      releasing P rules (alone_in all kind i before) j type
+      releasing P (alone_in all kind i before) j type
       ((stays all (held_by kind i) i j _ here refl refl refl).shown _ refl)
       (λ new. release_leaves new here)
   action_leaves Clear type list here other = ends all (held_by kind i) i j _ refl
@@ -258,10 +259,11 @@ module _ (rules : Rules) (all : List Registration) (kind : ReservationType) (bef
   together_holds list here =
       let still = stays_registered all (registered_together all j list) i (together-known list all i j here)
       here in
-      case_or (EffectIs H) _ _ (λ _. refused H _)
+      case_or (EffectIs H) _ _ (λ _. stands (held_by kind i) i _ here refl)
       (λ _. case_or (EffectIs H) _ _ (λ _. refused H _)
       (λ _. case_or (EffectIs H) _ _ (λ _. refused H _)
-      (λ _. last_case (EffectIs H) _ _ refl (stands (held_by kind i) i _ still refl))))
+      (λ _. case_or (EffectIs H) _ _ (λ _. refused H _)
+      (λ _. last_case (EffectIs H) _ _ refl (stands (held_by kind i) i _ still refl)))))
 
   reserve_holds : (new : ReservationType) → is_registered all i ≡ true
       → FirstIs (EffectIs H) (reserve_cases (alone_in all kind i before) j new)
@@ -295,7 +297,7 @@ module _ (rules : Rules) (all : List Registration) (kind : ReservationType) (bef
   action_holds Reserve type list mild here other =
       typed H type _ (λ new. (reserve_holds new here).first)
   action_holds Release type list mild here other =
-      releasing H rules (alone_in all kind i before) j type (record { here = here; reservation = refl })
+      releasing H (alone_in all kind i before) j type (record { here = here; reservation = refl })
       (λ new. release_holds new here other)
   action_holds RegisterAndIgnoreExistingKey type list mild here other =
       (register_holds list here other).first

@@ -232,12 +232,13 @@ module _ (rules : Rules) (state : ReservationState) (i : ℕ)
     together-room : FirstIs HasRoom (register_together_cases state i list)
     unfolding register_together_cases
     together-room =
-        case_or HasRoom _ _ (λ _. field _)
-        (λ keyed. case_or HasRoom _ _ (λ _. field _)
+        case_or HasRoom _ _ (λ _. changes _)
+        (λ some. case_or HasRoom _ _ (λ _. field _)
+        (λ new. case_or HasRoom _ _ (λ _. field _)
         (λ _. case_or HasRoom _ _
         (λ full. absurd (not-full (registered_together all i list)
-        (together-one (or_parts (is_registered all i) _ keyed).1) together-below full))
-        (λ _. last_case HasRoom _ _ refl (changes _))))
+        (together-one (and_false _ _ (ap not new) some)) together-below full))
+        (λ _. last_case HasRoom _ _ refl (changes _)))))
 
     move-room : FirstIs HasRoom (move_cases state i list)
     unfolding move_cases
@@ -290,9 +291,8 @@ module _ (rules : Rules) (state : ReservationState) (i : ℕ)
         (λ _. (register-room list).first)
     action-room RegisterAndIgnoreExistingKey type = (register-room list).first
     action-room Reserve type = typed type _ (λ type. (reserve-room type).first)
-    action-room Release type =
-        choice HasRoom (rules.release_of_nothing_ignores_type && not (is_holder state i)) _ _
-        (λ _. changes _) (λ _. typed type _ (λ type. (release-room type).first))
+    action-room Release None = choice HasRoom (is_holder state i) _ _ (λ _ e. cc) (λ _. changes _)
+    action-room Release (Some type) = (release-room type).first
     action-room Clear type = changes _
     action-room Preempt type = (preempt-room type list.service_action_key).first
     action-room PreemptAndAbort type = (preempt-room type list.service_action_key).first

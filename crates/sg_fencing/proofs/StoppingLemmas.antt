@@ -134,8 +134,9 @@ stops-if config (command.Verify16 c) data_out =
 stops-if config (command.LogSense c) data_out =
     sound-stops (command.LogSense c)
     (or_refused (λ byte. CheckCondition (InvalidFieldInCdb byte))
-    (log_page_with c.page_code c.subpage_code))
-    (λ page. ReturnReport (report.Log page) c.allocation_length) (λ page. record { stops = refl })
+    (log_page_with c.page_code c.subpage_code c.parameter_pointer))
+    (λ page. ReturnReport (report.Log page c.parameter_pointer) c.allocation_length)
+    (λ page. record { stops = refl })
 stops-if config (command.ReportSupportedOperationCodes c) data_out =
     sound-stops (command.ReportSupportedOperationCodes c)
     (ok_or (requested_report config.identity.profile c) (CheckCondition (InvalidFieldInCdb 2)))

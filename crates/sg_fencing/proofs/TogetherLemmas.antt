@@ -3,7 +3,7 @@ use Rattle.std.proofs.Common.{◌≡◌, ◌⊎◌, ◌==◌, ℕ, Bool, true, f
 use Rattle.std.proofs.Common.{Result, Ok, Err, refl, sym, ap, ◌∙◌, inl, inr}
 use Rattle.std.specs.Prelude.{is_some, unwrap_or}
 use Rattle.std.specs.Result.{result_map_both}
-use Rattle.std.proofs.lemmas.Bool.{and_parts, eqb-true, false≢true, ne_eqb, not-false, or_parts}
+use Rattle.std.proofs.lemmas.Bool.{and_parts, eqb-true, false≢true, ne_eqb, not-false}
 use Rattle.sg_wire.specs.CdbDecoding.{command_in}
 use Rattle.sg_wire.specs.Profile.{is_in, rules_of}
 use Rattle.sg_wire.specs.ReservationAction.{out_profile}
@@ -96,11 +96,11 @@ module _ (rules : Rules) (state : ReservationState) (i j : ℕ) (other : (j == i
       → FirstIs (EffectIs JoinsIf) (register_together_cases state j list)
   unfolding register_together_cases
   together-joins list supported =
-      case_or (EffectIs JoinsIf) _ _ (λ _. refused JoinsIf _)
-      (λ new. case_or (EffectIs JoinsIf) _ _ (λ _. refused JoinsIf _)
+      case_or (EffectIs JoinsIf) _ _ (λ _. absent _ unknown)
+      (λ _. case_or (EffectIs JoinsIf) _ _ (λ _. refused JoinsIf _)
+      (λ newcomer. case_or (EffectIs JoinsIf) _ _ (λ _. refused JoinsIf _)
       (λ _. case_or (EffectIs JoinsIf) _ _ (λ _. refused JoinsIf _)
       (λ _.
-      let newcomer = (or_parts (is_registered all j) _ new).0 in
       let both = together-caller list all i j in
       last_case (EffectIs JoinsIf) _ _ refl
       (effective JoinsIf _ (λ known. inl (record {
@@ -108,7 +108,7 @@ module _ (rules : Rules) (state : ReservationState) (i j : ℕ) (other : (j == i
         newcomer = newcomer;
         both = both;
         one_key = together-one list i all j unknown known ∙ sym (together-one list j all j newcomer both);
-      }))))))
+      })))))))
 
   -- i is the one that takes the reservation over
   takes : (list : OutList) (target : ℕ) → (same : Bool) → (target == i) ≡ same

@@ -56,10 +56,9 @@ module _ (s : State) (x : Contents) (j : ℕ) where
       → (shows_number (ReturnReport report n) ≡ true → len x ≡ len s.disk.contents)
       → (step_by s j (ReturnReport report n)).answer ≡ (step_by t j (ReturnReport report n)).answer
   unfolding report_data log_page_data
-  report-alike (Log LogicalBlockProvisioning) n same =
-      ap
-      (λ (used : ℕ).
-      good (first_bytes n (report_data (profile_of s) (pool-with used) (Log LogicalBlockProvisioning))))
+  report-alike (Log LogicalBlockProvisioning pointer) n same =
+      let page = Log LogicalBlockProvisioning pointer in
+      ap (λ (used : ℕ). good (first_bytes n (report_data (profile_of s) (pool-with used) page)))
       (sym (same refl))
   report-alike _ n same = refl
 

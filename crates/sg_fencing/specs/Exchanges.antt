@@ -1,7 +1,8 @@
 -- COMPARE AND WRITE (SBC-3, 5.2): what one of them finds in its blocks and leaves there, and how many of
 -- those that compete for a block end with GOOD.
 use Rattle.std.specs.Prelude.{◌≡◌, ◌≢◌, ℕ, ◌*◌, ◌-◌, List, length, take, drop, Option, Some, None}
-use Rattle.std.specs.Prelude.{Result, Ok, ◌∷◌, All, ◌⊎◌, ◌≤◌, Bool, true, false, is_some, slice_get}
+use Rattle.std.specs.Prelude.{Result, Ok, ◌∷◌, All, ◌⊎◌, ◌<◌, ◌≤◌, Bool, true, false, is_some, slice_get}
+use Rattle.std.specs.Prelude.{slice_index}
 use Rattle.std.specs.List.{count_by}
 use Rattle.sg_wire.specs.CdbDecoding.{command_in, command_of}
 use Rattle.sg_wire.specs.declared.command.CdbFault.{CdbFault}
@@ -15,8 +16,10 @@ use Rattle.sg_target.specs.CommandLaws.{Changes}
 use Rattle.sg_target.specs.Demands.{extent}
 use Rattle.sg_target.specs.Runs.{answers, state_after_all, step_of}
 use Rattle.sg_target.specs.State.{IsWithinLimits, State, profile_of}
-use Rattle.sg_target.specs.Step.{Answer, Step, step}
+use Rattle.sg_target.specs.Step.{Answer, Step, refusal_answer, sense_format, step}
 use Rattle.sg_target.specs.declared.call.Call.{Call}
+use Rattle.sg_target.specs.declared.refusal.Reason.TheVariants.{Miscompare}
+use Rattle.sg_target.specs.declared.refusal.Refusal.TheVariants.{CheckCondition}
 use Rattle.sg_target.specs.declared.reply.Status.{Status}
 use Rattle.sg_target.specs.declared.reply.Status.TheVariants.{Good}
 use Rattle.sg_fencing.specs.ChosenAnswers.{answers_where}
@@ -67,6 +70,33 @@ ExchangesThatNothingForbidsEndWithGood =
     → IsWithinLimits state → blocks_to_exchange (command_in (profile_of state) cdb) ≡ Some named
     → NothingForbidsExchange state initiator data_out named
     → (step state initiator cdb data_out).answer.status ≡ Good
+
+-- ---- A miscompare
+
+-- A byte differs from the byte at its place among others, and no byte before it does.
+pub record IsFirstDifference (offset : ℕ) (bytes others : List ℕ) : Type 0 where
+  pub inside : offset < length bytes
+  pub differs : slice_index bytes offset ≢ slice_index others offset
+  pub first : (k : ℕ) → k < offset → slice_index bytes k ≡ slice_index others k
+
+-- A command ends with MISCOMPARE DURING VERIFY OPERATION, 1Dh/00h. INFORMATION is the offset of the first
+-- byte that differs (SBC-3, 5.2). Nothing has changed.
+pub record EndsWithMiscompare (before : State) (done : Step) (found expected : List ℕ) : Type 0 where
+  pub offset : ℕ
+  pub is_first : IsFirstDifference offset found expected
+  pub answer : done.answer
+      ≡ refusal_answer (sense_format before) (CheckCondition (Miscompare offset))
+  pub state : done.state ≡ before
+
+-- A COMPARE AND WRITE ends so if nothing forbids it, but the blocks are not as its first half expects.
+abbrev pub MiscomparesPointToTheFirstDifference : Type 0
+MiscomparesPointToTheFirstDifference =
+    (state : State) (initiator : ℕ) (cdb data_out : List ℕ) (named : Extent)
+    → IsWithinLimits state → blocks_to_exchange (command_in (profile_of state) cdb) ≡ Some named
+    → NothingForbids state initiator data_out named → length data_out ≡ 2 * bytes_of named
+    → blocks_at state named ≢ take (bytes_of named) data_out
+    → EndsWithMiscompare state (step state initiator cdb data_out) (blocks_at state named)
+    (take (bytes_of named) data_out)
 
 -- ---- A race for a block
 

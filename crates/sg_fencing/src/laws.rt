@@ -1,7 +1,5 @@
 //! Laws of the definitions: each is the contract of a function that does nothing, or calls those
 //! whose laws it follows from.
-ghost use Rattle.sg_fencing.specs.Exchanges.{ExchangesReplaceWhatTheyExpect, RacesHaveAtMostOneWinner};
-ghost use Rattle.sg_fencing.specs.Exchanges.{ExchangesThatNothingForbidsEndWithGood, TheFirstOfARaceWins};
 ghost use Rattle.sg_fencing.specs.Fencing.{EqualViewsEndAlike, HolderIsAsIfAlone};
 ghost use Rattle.sg_fencing.specs.Fencing.{OthersAreShutOut, OthersLeaveTheView, OthersReadNothing};
 ghost use Rattle.sg_fencing.specs.Fencing.{OnlyPreemptionEnds, OthersSeeNoBlock};
@@ -28,10 +26,7 @@ ghost use Rattle.sg_fencing.specs.WithFaults.{FaultsLetNobodyPastTheHolder, Faul
 ghost use Rattle.sg_fencing.specs.WithFaults.{FaultsRegisterNobody, FencedOffThroughFaults};
 ghost use Rattle.sg_fencing.specs.WithFaults.{PreemptedStayFencedOut};
 
-use sg_store::laws::{
-    a_write_maps_the_addresses_of_its_range, a_write_replaces_the_blocks_of_its_range,
-    remapping_takes_what_is_needed,
-};
+use sg_store::laws::remapping_takes_what_is_needed;
 use sg_target::laws::{
     faults_only_drop_or_shorten, limits_are_kept, only_passed_commands_end_with_good,
     refused_commands_stay_refused, writes_over_used_addresses_have_space,
@@ -77,46 +72,6 @@ pub fn writes_that_nothing_forbids_end_with_good()
 {
     commands_have_their_class();
     writes_over_used_addresses_have_space();
-}
-
-/// A COMPARE AND WRITE that ends with GOOD has found the first half of its data-out in its blocks. Its
-/// second half is in them now, and nothing more has changed. If it does not end with GOOD, the disk
-/// is as it was.
-pub fn exchanges_replace_what_they_expect()
-    ensures { ExchangesReplaceWhatTheyExpect }
-{
-    a_write_maps_the_addresses_of_its_range();
-    a_write_replaces_the_blocks_of_its_range();
-}
-
-/// Several initiators race for a block: each sends a COMPARE AND WRITE that expects the same old block
-/// and writes another. No other command of the list may change blocks. Then at most one of them ends
-/// with GOOD, and the block is the one that it wrote. If none does, the disk is as it was.
-pub fn races_have_at_most_one_winner()
-    ensures { RacesHaveAtMostOneWinner }
-{
-    limits_are_kept();
-    exchanges_replace_what_they_expect();
-    other_commands_leave_the_disk();
-}
-
-/// A COMPARE AND WRITE ends with GOOD if nothing forbids it. That is so if nothing forbids a WRITE of
-/// its blocks, the data-out has two halves of their length, and the blocks are as the first half.
-pub fn exchanges_that_nothing_forbids_end_with_good()
-    ensures { ExchangesThatNothingForbidsEndWithGood }
-{
-    commands_have_their_class();
-    remapping_takes_what_is_needed();
-}
-
-/// If nothing forbids the first command of such a race, it ends with GOOD, and no other does.
-pub fn the_first_of_a_race_wins()
-    ensures { TheFirstOfARaceWins }
-{
-    limits_are_kept();
-    exchanges_replace_what_they_expect();
-    other_commands_leave_the_disk();
-    exchanges_that_nothing_forbids_end_with_good();
 }
 
 /// A command that does not end with GOOD changes no block, mode page, registration or reservation,

@@ -11,7 +11,7 @@ use Rattle.sg_target.specs.declared.operation.Operation.TheVariants.{Synchronize
 use Rattle.sg_target.specs.declared.operation.Operation.TheVariants.{ChangeModes, ChangeReservations}
 
 -- FUA is bit 3 of byte 1 of a CDB that reads or writes blocks, and has more than six bytes. READ(6) and
--- WRITE(6) have no such bit (SBC-3, 5.10 to 5.13 and 5.32 to 5.35).
+-- WRITE(6) have no such bit (SBC-3, 5.11 to 5.13 and 5.33 to 5.35).
 abbrev pub forces_unit_access : (cdb : List ℕ) → Bool
 forces_unit_access (code ∷ flags ∷ rest) = not (code == 0x08 || code == 0x0A) && has_bit flags 0x08
 forces_unit_access _ = false

@@ -1,6 +1,6 @@
 -- The pages of a thin provisioned disk: Block Limits and Logical Block Provisioning (SBC-3, vital
 -- product data parameters), and the log page Logical Block Provisioning (SBC-3, log parameters).
-use Rattle.std.specs.Prelude.{ℕ, ◌-◌, ◌/◌, ◌^◌, List, [], ◌∷◌, ◌++◌}
+use Rattle.std.specs.Prelude.{ℕ, ◌-◌, ◌/◌, ◌^◌, List, [], ◌∷◌, ◌++◌, nat_le, if◌then◌else◌}
 use Rattle.sg_wire.specs.Fields.{Field, field, fields_bytes}
 use Rattle.sg_wire.specs.UnmapList.{maximum_unmap_descriptors}
 use Rattle.sg_pages.specs.PhysicalBlock.{blocks_in}
@@ -125,11 +125,11 @@ logical_block_provisioning profile =
 -- ---- The log page Logical Block Provisioning, from byte 4 of the page on
 
 -- PARAMETER CODE of the available and of the used LBA mapping resource count.
-abbrev available_code : Field
-available_code = field 2 0x0001
+abbrev pub available_code : ℕ
+available_code = 0x0001
 
-abbrev used_code : Field
-used_code = field 2 0x0002
+abbrev pub used_code : ℕ
+used_code = 0x0002
 
 -- The control byte of a log parameter: FORMAT AND LINKING 11b, a binary list (SPC-4, 7.3).
 abbrev binary_list : Field
@@ -151,11 +151,19 @@ abbrev reserved_bytes : Field
 reserved_bytes = field 3 0
 
 -- A log parameter with a number of blocks.
-abbrev resources : Profile → (code : Field) (blocks : ℕ) → List Field
+abbrev pub resources : Profile → (code blocks : ℕ) → List Field
 resources profile code blocks =
-    code ∷ binary_list ∷ parameter_length ∷ resource_count profile blocks ∷ scope ∷ reserved_bytes ∷ []
+    field 2 code ∷ binary_list ∷ parameter_length ∷ resource_count profile blocks ∷ scope
+    ∷ reserved_bytes ∷ []
+
+-- The parameter with a code, if PARAMETER POINTER asks for the parameters from a code on that is not
+-- larger (SPC-4, 6.8).
+abbrev pub from_pointer : (pointer code : ℕ) → (parameter : List Field) → List Field
+from_pointer pointer code parameter = if nat_le pointer code then parameter else []
 
 -- The blocks of the pool that no address has, and those that mapped and anchored addresses have.
-abbrev pub resource_parameters : Profile → MappingResources → List Field
-resource_parameters profile pool =
-    resources profile available_code (pool.blocks - pool.used) ++ resources profile used_code pool.used
+abbrev pub resource_parameters : Profile → MappingResources → (pointer : ℕ) → List Field
+resource_parameters profile pool pointer =
+    from_pointer pointer available_code
+    (resources profile available_code (pool.blocks - pool.used))
+    ++ from_pointer pointer used_code (resources profile used_code pool.used)

@@ -2,8 +2,10 @@
 -- target port group, its log pages and its defects. Only one log page depends on its blocks: it has the
 -- resources of the pool.
 use Rattle.std.specs.Prelude.{ℕ, ◌+◌, ◌==◌, ◌&&◌, List, [], ◌∷◌, ◌++◌, length, map, filter, find}
-use Rattle.std.specs.Prelude.{Bool, true, false, if◌then◌else◌, Option, Some, None, Result, ok_or}
+use Rattle.std.specs.Prelude.{Bool, true, false, if◌then◌else◌, Option, Some, None, Result, Ok, Err}
+use Rattle.std.specs.Prelude.{nat_lt}
 use Rattle.std.specs.List.{flat_map, list_any}
+use Rattle.std.specs.Option.{option_map_or}
 use Rattle.sg_wire.specs.Fields.{Field, field, fields_bytes}
 use Rattle.sg_wire.specs.SupportedOperations.{longest_support_report, report_data as support_data}
 use Rattle.sg_wire.specs.TargetPort.{relative_target_port, target_port_group}
@@ -13,7 +15,7 @@ use Rattle.sg_pages.specs.declared.reports.LogPage.TheVariants.{SupportedPages, 
 use Rattle.sg_pages.specs.declared.reports.LogPage.TheVariants.{LogicalBlockProvisioning}
 use Rattle.sg_pages.specs.declared.reports.LogPage.TheVariants.{InformationalExceptions}
 use Rattle.sg_pages.specs.declared.provisioning_pages.MappingResources.{MappingResources}
-use Rattle.sg_pages.specs.ProvisioningPages.{resource_parameters}
+use Rattle.sg_pages.specs.ProvisioningPages.{from_pointer, resource_parameters, used_code}
 use Rattle.sg_pages.specs.declared.reports.Report.{Report}
 use Rattle.sg_pages.specs.declared.reports.Report.TheVariants.{LogicalUnits, TaskManagementFunctions}
 use Rattle.sg_pages.specs.declared.reports.Report.TheVariants.{TargetPortGroups}
@@ -113,6 +115,10 @@ log_code SupportedSubpages = (0x00, 0xFF)
 log_code LogicalBlockProvisioning = (0x0C, 0x00)
 log_code InformationalExceptions = (0x2F, 0x00)
 
+-- PARAMETER CODE of the one parameter of Informational Exceptions.
+abbrev exceptions_code : ℕ
+exceptions_code = 0x0000
+
 -- In ascending order of their codes.
 abbrev pub each_log_page : List LogPage
 each_log_page =
@@ -124,13 +130,26 @@ has_page_code page_code page = page_code == (log_code page).0
 abbrev pub has_subpage_code : (subpage_code : ℕ) → LogPage → Bool
 has_subpage_code subpage_code page = subpage_code == (log_code page).1
 
+-- The largest code of a parameter of each page. The lists of pages have no parameter.
+-- Choice (SPC-4, 6.8): PARAMETER POINTER to a parameter of a list of pages may be refused.
+abbrev pub last_parameter : LogPage → Option ℕ
+last_parameter SupportedPages = None
+last_parameter SupportedSubpages = None
+last_parameter LogicalBlockProvisioning = Some used_code
+last_parameter InformationalExceptions = Some exceptions_code
+
+-- PARAMETER POINTER, from byte 5 on, does not go past the last parameter.
+abbrev pub unless_past_last : (pointer : ℕ) → LogPage → Result LogPage ℕ
+unless_past_last pointer page =
+    if option_map_or (λ last. nat_lt last pointer) (last_parameter page) false then Err 5 else Ok page
+
 -- The page with the codes, or the byte of the CDB that names none: PAGE CODE, or SUBPAGE CODE if some
--- page has the page code.
-abbrev pub log_page_with : (page_code subpage_code : ℕ) → Result LogPage ℕ
-log_page_with page_code subpage_code =
-    ok_or
+-- page has the page code, or else PARAMETER POINTER.
+abbrev pub log_page_with : (page_code subpage_code pointer : ℕ) → Result LogPage ℕ
+log_page_with page_code subpage_code pointer =
+    option_map_or (unless_past_last pointer)
     (find (λ page. has_page_code page_code page && has_subpage_code subpage_code page) each_log_page)
-    (if list_any (has_page_code page_code) each_log_page then 3 else 2)
+    (Err (if list_any (has_page_code page_code) each_log_page then 3 else 2))
 
 -- The lists of the first two pages.
 abbrev page_list : List Field
@@ -144,7 +163,8 @@ subpage_list =
 -- The log parameter of Informational Exceptions: PARAMETER CODE, the control byte, PARAMETER LENGTH, no
 -- additional sense code, and no temperature (SPC-4, 7.3).
 abbrev exceptions : List Field
-exceptions = field 2 0x0000 ∷ field 1 0x03 ∷ field 1 3 ∷ field 2 0x0000 ∷ field 1 0xFF ∷ []
+exceptions =
+    field 2 exceptions_code ∷ field 1 0x03 ∷ field 1 3 ∷ field 2 0x0000 ∷ field 1 0xFF ∷ []
 
 -- DS and SPF, in byte 0 with PAGE CODE: no parameter is saved, and whether there is a subpage.
 abbrev log_flags : LogPage → ℕ
@@ -153,11 +173,12 @@ log_flags SupportedSubpages = 0x40
 log_flags LogicalBlockProvisioning = 0x80
 log_flags InformationalExceptions = 0x80
 
-abbrev log_content : Profile → MappingResources → LogPage → List Field
-log_content profile pool SupportedPages = page_list
-log_content profile pool SupportedSubpages = subpage_list
-log_content profile pool LogicalBlockProvisioning = resource_parameters profile pool
-log_content profile pool InformationalExceptions = exceptions
+-- A list of pages, or the parameters from PARAMETER POINTER on.
+abbrev log_content : Profile → MappingResources → (pointer : ℕ) → LogPage → List Field
+log_content profile pool pointer SupportedPages = page_list
+log_content profile pool pointer SupportedSubpages = subpage_list
+log_content profile pool pointer LogicalBlockProvisioning = resource_parameters profile pool pointer
+log_content profile pool pointer InformationalExceptions = from_pointer pointer exceptions_code exceptions
 
 -- DS, SPF and PAGE CODE, SUBPAGE CODE, PAGE LENGTH, and the content.
 abbrev log_page : LogPage → (content : List Field) → List Field
@@ -166,8 +187,9 @@ log_page page content =
     ∷ field 2 (length (fields_bytes content)) ∷ content
 
 -- A whole page of a disk of a profile with a pool.
-unfoldable pub log_page_data : Profile → MappingResources → LogPage → List ℕ
-log_page_data profile pool page = fields_bytes (log_page page (log_content profile pool page))
+unfoldable pub log_page_data : Profile → MappingResources → (pointer : ℕ) → LogPage → List ℕ
+log_page_data profile pool pointer page =
+    fields_bytes (log_page page (log_content profile pool pointer page))
 
 -- ---- READ DEFECT DATA (SBC-3, 5.17 and 5.18)
 
@@ -188,7 +210,7 @@ report_data profile pool (Commands report) = support_data profile report
 report_data profile pool (TaskManagementFunctions timeouts) = fields_bytes (task_management timeouts)
 report_data profile pool (TargetPortGroups extended_header) =
     fields_bytes (target_port_groups extended_header)
-report_data profile pool (Log page) = log_page_data profile pool page
+report_data profile pool (Log page pointer) = log_page_data profile pool pointer page
 report_data profile pool (DefectLists10 lists) = fields_bytes (defect_lists_10 lists)
 report_data profile pool (DefectLists12 lists) = fields_bytes (defect_lists_12 lists)
 

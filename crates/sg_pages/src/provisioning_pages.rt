@@ -1,14 +1,17 @@
 // Block Limits and Logical Block Provisioning, as vital product data and as a log page: the pages that a
 // thin provisioned disk adds.
-ghost use Rattle.std.specs.Prelude.{◌≡◌};
+ghost use Rattle.std.specs.Prelude.{◌≡◌, ◌≤◌, length};
+ghost use Rattle.sg_wire.specs.Cut.{Puts};
+ghost use Rattle.sg_wire.specs.Fields.{fields_bytes};
 ghost use Rattle.sg_pages.specs.ProvisioningPages.{block_limits, logical_block_provisioning};
-ghost use Rattle.sg_pages.specs.ProvisioningPages.{threshold_exponent, threshold_sets};
+ghost use Rattle.sg_pages.specs.ProvisioningPages.{resources, threshold_exponent, threshold_sets};
 ghost use Rattle.sg_pages.specs.Reports.{log_page_data};
 
 use super::physical_block::PhysicalBlock;
 use super::reports::LogPage;
 use byteorder::{BigEndian, ByteOrder};
-use sg_wire::{Limits, MAXIMUM_UNMAP_DESCRIPTORS, Profile};
+use sg_wire::laws::parts_are_put_in_turn;
+use sg_wire::{Cut, Limits, MAXIMUM_UNMAP_DESCRIPTORS, Profile};
 
 /// A WRITE SAME of no block is refused.
 const WSNZ: u8 = 0x01;
@@ -81,19 +84,46 @@ pub struct MappingResources {
     pub used: u32,
 }
 
-/// The log page Logical Block Provisioning: the available and the used resource count, each dedicated to
-/// the logical unit.
+/// PARAMETER CODE of the available and of the used resource count.
+const AVAILABLE: u16 = 0x0001;
+
+pub(crate) const USED: u16 = 0x0002;
+
+/// Writes the log page Logical Block Provisioning: the available and the used resource count. PARAMETER
+/// POINTER asks for those from a code on.
 #[tactic(auto, unfolding(crate::specs::Reports::log_page_data))]
-pub(crate) fn provisioning_page(profile: Profile, pool: MappingResources) -> [u8; 28]
-    ensures { result ≡ log_page_data profile pool LogPage.LogicalBlockProvisioning }
+pub(crate) fn write_provisioning_page(
+    profile: Profile,
+    pool: MappingResources,
+    pointer: u16,
+    cut: &mut Cut,
+)
+    ensures data { Puts cut.old cut.new
+        (log_page_data profile pool pointer LogPage.LogicalBlockProvisioning) }
+    ensures at_most { length (log_page_data profile pool pointer LogPage.LogicalBlockProvisioning)
+        ≤ 28 }
 {
-    let mut bytes = [
-        0x8C, 0x00, 0, 24, // the header of the page
-        0x00, 0x01, 0x03, 8, 0, 0, 0, 0, 0x01, 0, 0, 0, // available
-        0x00, 0x02, 0x03, 8, 0, 0, 0, 0, 0x01, 0, 0, 0, // used
-    ];
-    let available = pool.blocks.saturating_sub(pool.used);
-    BigEndian::write_u32(&mut bytes[8..], threshold_sets(profile, available));
-    BigEndian::write_u32(&mut bytes[20..], threshold_sets(profile, pool.used));
+    parts_are_put_in_turn();
+    let available = resource_count(profile, AVAILABLE, pool.blocks.saturating_sub(pool.used));
+    let used = resource_count(profile, USED, pool.used);
+    if pointer <= AVAILABLE {
+        cut.put(&[0x8C, 0x00, 0, 24]);
+        cut.put(&available);
+        cut.put(&used);
+    } else if pointer <= USED {
+        cut.put(&[0x8C, 0x00, 0, 12]);
+        cut.put(&used);
+    } else {
+        cut.put(&[0x8C, 0x00, 0, 0]);
+    }
+}
+
+/// A log parameter with a number of blocks, which are dedicated to the logical unit.
+fn resource_count(profile: Profile, code: u16, blocks: u32) -> [u8; 12]
+    ensures { result ≡ fields_bytes (resources profile code blocks) }
+{
+    let mut bytes = [0, 0, 0x03, 8, 0, 0, 0, 0, 0x01, 0, 0, 0];
+    BigEndian::write_u16(&mut bytes, code);
+    BigEndian::write_u32(&mut bytes[4..], threshold_sets(profile, blocks));
     bytes
 }

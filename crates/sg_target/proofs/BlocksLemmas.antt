@@ -228,8 +228,9 @@ command-sound config (command.LogSense c) data_out =
     requested-sound (demands config (command.LogSense c) data_out) data_out
     (when
     (or_refused (λ byte. CheckCondition (InvalidFieldInCdb byte))
-    (log_page_with c.page_code c.subpage_code))
-    (λ page. operation.ReturnReport (report.Log page) c.allocation_length) (λ page. tt))
+    (log_page_with c.page_code c.subpage_code c.parameter_pointer))
+    (λ page. operation.ReturnReport (report.Log page c.parameter_pointer) c.allocation_length)
+    (λ page. tt))
 command-sound config (command.ReportSupportedOperationCodes c) data_out =
     requested-sound (demands config (command.ReportSupportedOperationCodes c) data_out) data_out
     (when

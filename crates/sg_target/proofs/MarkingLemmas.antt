@@ -101,8 +101,8 @@ unmarked config (command.Verify16 c) data_out other =
 unmarked config (command.LogSense c) data_out other =
     sound-unmarked
     (or_refused (λ byte. CheckCondition (InvalidFieldInCdb byte))
-    (log_page_with c.page_code c.subpage_code))
-    (λ page. ReturnReport (report.Log page) c.allocation_length) (λ page. refl)
+    (log_page_with c.page_code c.subpage_code c.parameter_pointer))
+    (λ page. ReturnReport (report.Log page c.parameter_pointer) c.allocation_length) (λ page. refl)
 unmarked config (command.ReportSupportedOperationCodes c) data_out other =
     sound-unmarked
     (ok_or (requested_report config.identity.profile c) (CheckCondition (InvalidFieldInCdb 2)))

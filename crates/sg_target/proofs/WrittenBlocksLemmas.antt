@@ -110,8 +110,9 @@ writes-these config (command.Verify16 c) data_out =
 writes-these config (command.LogSense c) data_out =
     sound-none
     (or_refused (λ byte. CheckCondition (InvalidFieldInCdb byte))
-    (log_page_with c.page_code c.subpage_code))
-    (λ page. operation.ReturnReport (report.Log page) c.allocation_length) (λ page. (refl, refl))
+    (log_page_with c.page_code c.subpage_code c.parameter_pointer))
+    (λ page. operation.ReturnReport (report.Log page c.parameter_pointer) c.allocation_length)
+    (λ page. (refl, refl))
 writes-these config (command.ReportSupportedOperationCodes c) data_out =
     sound-none
     (ok_or (requested_report config.identity.profile c) (CheckCondition (InvalidFieldInCdb 2)))

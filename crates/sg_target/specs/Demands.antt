@@ -114,17 +114,18 @@ report_port_groups c =
     (when_sound (ok_or (extended_header_asked c.format) (CheckCondition (InvalidFieldInCdb 1)))
     (λ header. operation.ReturnReport (report.TargetPortGroups header) c.allocation_length))
 
--- LOG SENSE asks for a page that the disk has.
+-- LOG SENSE asks for a page that the disk has, with its parameters from one on.
 abbrev pub log_sense : LogSense → Demands
 log_sense c =
     takes_no_data None
     (when_sound
     (or_refused (λ byte. CheckCondition (InvalidFieldInCdb byte))
-    (log_page_with c.page_code c.subpage_code))
-    (λ page. operation.ReturnReport (report.Log page) c.allocation_length))
+    (log_page_with c.page_code c.subpage_code c.parameter_pointer))
+    (λ page. operation.ReturnReport (report.Log page c.parameter_pointer) c.allocation_length))
 
 -- SEND DIAGNOSTIC runs the default self-test or none, and takes no parameter list: SELF-TEST CODE is in
 -- byte 1, and PARAMETER LIST LENGTH begins at byte 3. The self-test passes.
+-- Choice (SPC-4, 6.42): a list may be refused for its page.
 abbrev pub bad_self_test : SendDiagnostic → Option ℕ
 bad_self_test c =
     if c.code == 0 then (if c.list_length == 0 then None else Some 3) else Some 1
@@ -212,6 +213,7 @@ write_and_verify config check extent byte data_out =
 
 -- VERIFY compares its blocks with data-out, block by block, or with one block of data-out, or with
 -- nothing. BYTCHK, in byte 1, asks for no other comparison. Without a block there is nothing to compare.
+-- Choice (SBC-3, 5.29): a VERIFY that moves no block may name more blocks.
 abbrev pub verify_only : ConfigFields → Extent → (byte : ℕ) → Demands
 verify_only config extent byte =
     takes_no_data (too_long config extent.count byte) (Ok (operation.Verify extent))
@@ -290,6 +292,7 @@ abbrev pub defect_lists : (plist glist : Bool) (format : ℕ) → ℕ
 defect_lists plist glist format =
     (if plist then 0x10 else 0) + ((if glist then 0x08 else 0) + format)
 
+-- Choice (SBC-3, 5.17): for a format that is not supported, the lists may have another format.
 abbrev pub bad_defect_format : (format byte : ℕ) → Option ℕ
 bad_defect_format format byte = if nat_lt format 6 then None else Some byte
 
@@ -302,16 +305,15 @@ bad_power c =
     then (if c.power_condition == 0 && not c.loej then None else Some 4)
     else Some 3
 
--- WRITE LONG only marks a block, with no data: WR_UNCOR, in byte 1, is 1, and BYTE TRANSFER LENGTH, from
--- byte 7 on, is 0.
+-- WRITE LONG only marks a block, with no data: WR_UNCOR, in byte 1, is 1. BYTE TRANSFER LENGTH does not
+-- matter then.
 -- Choice (SBC-3, 5.41): without WR_UNCOR a block may be written with its error correction bytes.
-abbrev pub bad_marking : (wr_uncor : Bool) (length : ℕ) → Option ℕ
-bad_marking wr_uncor length =
-    if not wr_uncor then Some 1 else (if length == 0 then None else Some 7)
+abbrev pub bad_marking : (wr_uncor : Bool) → Option ℕ
+bad_marking wr_uncor = if wr_uncor then None else Some 1
 
 abbrev pub write_long : WriteLong10 → Demands
 write_long c =
-    takes_no_data (bad_marking c.wr_uncor c.length) (Ok (operation.MarkBad c.lba c.cor_dis))
+    takes_no_data (bad_marking c.wr_uncor) (Ok (operation.MarkBad c.lba c.cor_dis))
 
 -- Without UNMAP no block is anchored: ANCHOR, in byte 1, is not supported then.
 abbrev pub bad_anchor : (anchor unmap : Bool) → (otherwise : Option ℕ) → Option ℕ

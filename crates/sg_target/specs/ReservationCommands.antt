@@ -48,8 +48,8 @@ reporting state action n =
 
 -- ---- PERSISTENT RESERVE OUT
 
--- RESERVE needs a valid scope and type, in byte 2. PREEMPT needs one if it takes the reservation, and
--- RELEASE if the initiator holds the reservation. No other service action looks at them.
+-- RESERVE needs a valid scope and type, in byte 2, and so does RELEASE on a base disk. PREEMPT needs one
+-- if it takes the reservation. On an extended disk RELEASE compares them with those of the reservation.
 abbrev pub always_needs_type : Rules → OutAction → Bool
 always_needs_type rules Reserve = true
 always_needs_type rules Release = not rules.release_of_nothing_ignores_type

@@ -126,13 +126,14 @@ pub(crate) fn check_target_port_groups(
 
 // ---- LOG SENSE and SEND DIAGNOSTIC
 
-/// LOG SENSE.
+/// LOG SENSE. PARAMETER POINTER begins at byte 5.
 pub(crate) fn check_log_sense(fields: LogSense) -> Result<Operation<'static>, Refusal>
     ensures { result ≡ requested (log_sense fields) [] }
 {
-    match LogPage::with_code(fields.page_code.number(), fields.subpage_code) {
+    let pointer = fields.parameter_pointer;
+    match LogPage::with_code(fields.page_code.number(), fields.subpage_code, pointer) {
         Ok(page) => Ok(Operation::ReturnReport {
-            report: Report::Log(page),
+            report: Report::Log(page, pointer),
             allocation_length: u32::from(fields.allocation_length),
         }),
         Err(byte) => invalid_field(byte),

@@ -7,15 +7,12 @@ use crate::operation::Operation;
 use crate::refusal::{Reason, Refusal};
 use sg_wire::WriteLong10;
 
-/// WRITE LONG(10). It has to mark its block, with no data.
+/// WRITE LONG(10). It has to mark its block.
 pub(crate) fn check_write_long_10(fields: WriteLong10) -> Result<Operation<'static>, Refusal>
     ensures { result ≡ requested (write_long fields) [] }
 {
     if !fields.wr_uncor {
         return Err(Refusal::CheckCondition(Reason::InvalidFieldInCdb { byte: 1 }));
-    }
-    if fields.length != 0 {
-        return Err(Refusal::CheckCondition(Reason::InvalidFieldInCdb { byte: 7 }));
     }
     Ok(Operation::MarkBad {
         lba: u64::from(fields.lba),

@@ -111,6 +111,7 @@ options_of SgOpcodes =
     ∷ []
 options_of SgLogs =
     text "p" "page"  -- PAGE CODE and SUBPAGE CODE
+    ∷ text "P" "paramp"  -- PARAMETER POINTER
     ∷ text "m" "maxlen"  -- ALLOCATION LENGTH
     ∷ flag "H" "hex"  -- hexadecimal digits are printed
     ∷ []

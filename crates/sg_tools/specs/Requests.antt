@@ -32,9 +32,8 @@ use Rattle.sg_tools.specs.declared.tool_name.ToolName.{ToolName}
 use Rattle.sg_tools.specs.declared.tool_name.ToolName.TheVariants.{SgInq, SgVpd, SgModes, SgUnmap}
 use Rattle.sg_tools.specs.declared.tool_name.ToolName.TheVariants.{SgGetLbaStatus, SgPersist}
 use Rattle.sg_tools.specs.declared.tool_name.ToolName.TheVariants.{SgTurs, SgRequests, SgLuns}
-use Rattle.sg_tools.specs.declared.tool_name.ToolName.TheVariants.{SgOpcodes, SgLogs, SgReadcap}
-use Rattle.sg_tools.specs.declared.tool_name.ToolName.TheVariants.{SgSync, SgVerify}
-use Rattle.sg_tools.specs.declared.tool_name.ToolName.TheVariants.{SgCompareAndWrite, SgWriteSame}
+use Rattle.sg_tools.specs.declared.tool_name.ToolName.TheVariants.{SgOpcodes, SgLogs, SgReadcap, SgSync}
+use Rattle.sg_tools.specs.declared.tool_name.ToolName.TheVariants.{SgVerify, SgCompareAndWrite, SgWriteSame}
 use Rattle.sg_tools.specs.declared.tool_name.ToolName.TheVariants.{SgStart}
 use Rattle.sg_wire.specs.declared.command.Command.{Command}
 use Rattle.sg_wire.specs.declared.command.Command.TheVariants.{ModeSense6, ModeSense10}
@@ -353,8 +352,9 @@ sg_opcodes rows =
 abbrev pub sg_logs : List Row → Request
 sg_logs rows =
     with_value (value_or (0x00, 0x00) mode_page (text_of (codes "page") rows)) (λ page.
+    with_value (number_or 0 0xFFFF (text_of (codes "paramp") rows)) (λ pointer.
     with_value (number_or 0 0xFFFF (text_of (codes "maxlen") rows)) (λ length.
-    asks (command.log_sense page.0 page.1 (length_or 65532 length)) (text_or_hex show.LogPage rows)))
+    asks (command.log_sense page.0 page.1 pointer (length_or 65532 length)) (text_or_hex show.LogPage rows))))
 
 -- ---- sg_readcap: READ CAPACITY(10), or with --16 or --long READ CAPACITY(16)
 

@@ -22,13 +22,16 @@ pub(crate) fn sg_logs(options: &GivenOptions) -> Result<Tool, ToolFault>
     ensures { result ≡ sg_logs options.now }
 {
     let page = mode_page_or(SUPPORTED_PAGES, options.text("page"));
+    let pointer = number_or(0, 0xffff, options.text("paramp"));
     let length = number_or(0, 0xffff, options.text("maxlen"));
-    let (Some((page_code, subpage_code)), Some(length)) = (page, length) else {
+    let (Some((page_code, subpage_code)), Some(pointer), Some(length)) = (page, pointer, length)
+    else {
         return Err(ToolFault::Number);
     };
     let command = Command::LogSense(LogSense {
         page_code,
         subpage_code,
+        parameter_pointer: pointer as u16,
         allocation_length: length_or(DEFAULT_LENGTH, length) as u16,
     });
     Ok(Tool::without_parameters(command, text_or_hex(Show::LogPage, options)))

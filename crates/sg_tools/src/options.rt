@@ -89,7 +89,12 @@ const SG_OPCODES: &[ToolOption] = &[
     Flag('H', "hex"),
 ];
 
-const SG_LOGS: &[ToolOption] = &[Text('p', "page"), Text('m', "maxlen"), Flag('H', "hex")];
+const SG_LOGS: &[ToolOption] = &[
+    Text('p', "page"),
+    Text('P', "paramp"),
+    Text('m', "maxlen"),
+    Flag('H', "hex"),
+];
 
 const SG_READCAP: &[ToolOption] = &[LongFlag("16"), Flag('l', "long"), Flag('H', "hex")];
 

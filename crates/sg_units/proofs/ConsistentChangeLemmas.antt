@@ -3,7 +3,7 @@ use Rattle.std.proofs.Common.{◌≡◌, ℕ, Bool, true, false, not, ◌||◌, 
 use Rattle.std.proofs.Common.{List, ◌∷◌, Option, Some, None, Ok, Err, refl}
 use Rattle.std.proofs.Common.{arith}
 use Rattle.std.specs.Prelude.{is_some, unwrap_or}
-use Rattle.std.proofs.lemmas.Bool.{and_parts, not-false, not-true, or_left, or_parts}
+use Rattle.std.proofs.lemmas.Bool.{and_parts, not-false, not-true, or_left}
 use Rattle.std.proofs.lemmas.Bool.Decides.{nat_tests}
 use Rattle.sg_units.specs.ReserveOut.{IsConsistentChange, Outcome, accepts_key, action_outcome}
 use Rattle.sg_units.specs.ReserveOut.{outcome}
@@ -82,14 +82,16 @@ consistent-together state i list h =
     let all = state.registrations in
     let held = state.reservation in
     let together = registered_together all i list in
-    case_or (EffectIs IsConsistentChange) _ _ (λ _. refused IsConsistentChange _)
-    (λ own. case_or (EffectIs IsConsistentChange) _ _ (λ _. refused IsConsistentChange _)
+    case_or (EffectIs IsConsistentChange) _ _ (λ _. effective IsConsistentChange _ h)
+    (λ some. case_or (EffectIs IsConsistentChange) _ _ (λ _. refused IsConsistentChange _)
+    (λ new. case_or (EffectIs IsConsistentChange) _ _ (λ _. refused IsConsistentChange _)
     (λ _. case_or (EffectIs IsConsistentChange) _ _ (λ _. refused IsConsistentChange _)
     (λ room. last_case (EffectIs IsConsistentChange) _ _ refl
     (effective IsConsistentChange _
     (consistent-within together held
-    (nearly-each held list (Some i ∷ list.others) all (or_parts _ _ own).1 (nearly all held h))
-    (grind (arith, nat_tests)))))))
+    (nearly-each held list (Some i ∷ list.others) all
+    (and_false _ _ (ap not new) some) (nearly all held h))
+    (grind (arith, nat_tests))))))))
 
 -- the reservation moves to an initiator that is registered
 consistent-move : (state : ReservationState) (i : ℕ) (list : OutList) → IsConsistent state
@@ -177,7 +179,7 @@ consistent-action rules state i Reserve type list a h =
     let here = is_registered-under state.registrations i list.reservation_key a in
     typed IsConsistentChange type _ (λ type. (consistent-reserve state i type here h).first)
 consistent-action rules state i Release type list a h =
-    releasing IsConsistentChange rules state i type h (λ type. consistent-release state i type h)
+    releasing IsConsistentChange state i type h (λ type. consistent-release state i type h)
 consistent-action rules state i Clear type list a h =
     effective IsConsistentChange _ consistent-none
 consistent-action rules state i Preempt type list a h =

@@ -318,10 +318,11 @@ counted-together : (state : ReservationState) (i : ℕ) (list : OutList)
 unfolding register_together_cases
 counted-together state i list =
     let P = Counted state in
-    case_or (EffectIs P) _ _ (λ _. refused P _)
+    case_or (EffectIs P) _ _ (λ _. stays state _ _)
     (λ _. case_or (EffectIs P) _ _ (λ _. refused P _)
     (λ _. case_or (EffectIs P) _ _ (λ _. refused P _)
-    (λ _. last_case (EffectIs P) _ _ refl (counts state _ refl))))
+    (λ _. case_or (EffectIs P) _ _ (λ _. refused P _)
+    (λ _. last_case (EffectIs P) _ _ refl (counts state _ refl)))))
 
 counted-move : (state : ReservationState) (i : ℕ) (list : OutList)
     → FirstIs (EffectIs (Counted state)) (move_cases state i list)
@@ -377,7 +378,7 @@ counted-action rules state i Register type list =
 counted-action rules state i Reserve type list =
     typed (Counted state) type _ (λ type. (counted-reserve state i type).first)
 counted-action rules state i Release type list =
-    releasing (Counted state) rules state i type (λ _. refl) (counted-release state i)
+    releasing (Counted state) state i type (λ _. refl) (counted-release state i)
 counted-action rules state i Clear type list = counts state _ refl
 counted-action rules state i Preempt type list =
     (counted-preempt rules state i type list.service_action_key).first

@@ -13,7 +13,7 @@ use Rattle.sg_units.specs.Reservations.{is_holder}
 use Rattle.sg_units.specs.UnsupportedFlags.{has_unsupported_flag}
 use Rattle.sg_units.specs.declared.reservation_change.ReservationChange.{ReservationChange}
 use Rattle.sg_units.specs.declared.out_fault.OutFault.{OutFault}
-use Rattle.sg_units.specs.declared.out_fault.OutFault.TheVariants.{BadType, Conflict, Field}
+use Rattle.sg_units.specs.declared.out_fault.OutFault.TheVariants.{BadRelease, BadType, Conflict, Field}
 use Rattle.sg_units.specs.declared.registrations.Registration.{Registration}
 use Rattle.sg_units.specs.declared.reservation.Reservation.{Reservation}
 use Rattle.sg_units.specs.declared.reservation_state.ReservationState.{ReservationState}
@@ -69,14 +69,14 @@ pub last_case : (P : Outcome → Type 0) (case : Case) (cases : List Case) → c
     → P case.outcome → FirstIs P (case ∷ cases)
 last_case P case cases e h = case_or P case cases (λ _. h) (λ no. absurd (false≢true (sym no ∙ e)))
 
--- a RELEASE changes nothing, or the cases of a valid type decide
-pub releasing : (P : ReservationChange → Type 0) (rules : Rules) (state : ReservationState) (i : ℕ)
+-- a RELEASE of no valid type changes nothing, and the cases of a valid one decide
+pub releasing : (P : ReservationChange → Type 0) (state : ReservationState) (i : ℕ)
     (type : Option ReservationType) → P (unchanged state)
     → ((type : ReservationType) → FirstIs (EffectIs P) (release_cases state i type))
-    → EffectIs P (release_outcome rules state i type)
-releasing P rules state i type idle h =
-    choice (EffectIs P) (rules.release_of_nothing_ignores_type && not (is_holder state i)) _ _
-    (λ _. effective P _ idle) (λ _. typed P type _ (λ type. (h type).first))
+    → EffectIs P (release_outcome state i type)
+releasing P state i None idle h =
+    choice (EffectIs P) (is_holder state i) _ _ (λ _. refused P BadRelease) (λ _. effective P _ idle)
+releasing P state i (Some type) idle h = (h type).first
 
 -- a command is refused, or its flags are supported, its key is accepted and it has the outcome of its
 -- service action

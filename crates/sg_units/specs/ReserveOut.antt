@@ -152,13 +152,16 @@ first_unknown at (None ∷ others) = Some at
 first_unknown at (Some initiator ∷ others) = first_unknown (at + transport_id_length) others
 
 -- REGISTER with SPEC_I_PT, which registers other initiators together with its own (SPC-4, 5.13,
--- registering). All of them are registered, or none is. Only an extended disk has it.
+-- registering). All of them are registered, or none is. Key 0 of an initiator that is not registered
+-- changes nothing, as without SPEC_I_PT. Only an extended disk has SPEC_I_PT.
 unfoldable pub register_together_cases : ReservationState → (caller : ℕ) → OutList → List Case
 register_together_cases state caller list =
     let all = state.registrations in
+    let known = is_registered all caller in
     let unknown = first_unknown transport_ids_at list.others in
     let registrations = registered_together all caller list in
-    when (is_registered all caller || list.service_action_key == 0) (Err (Field flags_at))
+    when (not known && list.service_action_key == 0) (Ok (unchanged state))
+    ∷ when known (Err (Field flags_at))
     ∷ when (is_some unknown) (Err (Field (unwrap_or unknown flags_at)))
     ∷ when (nat_lt max_registrations (length registrations)) (Err NoRoom)
     ∷ otherwise (Ok (registering state registrations list.aptpl))
@@ -230,13 +233,11 @@ release_cases state caller type =
     }))
     ∷ []
 
--- RELEASE. If a registrant holds nothing, an extended disk changes nothing, whatever SCOPE and TYPE
--- are (SPC-4, 5.13, releasing). A base disk looks for a valid SCOPE and TYPE first.
-abbrev pub release_outcome : Rules → ReservationState → (caller : ℕ) → Option ReservationType → Outcome
-release_outcome rules state caller type =
-    if rules.release_of_nothing_ignores_type && not (is_holder state caller)
-    then Ok (unchanged state)
-    else with_type type (λ type. first_case (release_cases state caller type))
+-- RELEASE. If a registrant holds nothing, nothing changes, whatever SCOPE and TYPE are. No reservation has
+-- a SCOPE and TYPE that are not valid (SPC-4, 5.13, releasing). A base disk refuses them by a check.
+abbrev pub release_outcome : ReservationState → (caller : ℕ) → Option ReservationType → Outcome
+release_outcome state caller None = if is_holder state caller then Err BadRelease else Ok (unchanged state)
+release_outcome state caller (Some type) = first_case (release_cases state caller type)
 
 -- CLEAR (SPC-4, 5.13, clearing).
 abbrev pub cleared : Outcome
@@ -313,7 +314,7 @@ action_outcome rules state i Register type list =
     else first_case (register_cases rules state i list)
 action_outcome rules state i Reserve type list =
     with_type type (λ type. first_case (reserve_cases state i type))
-action_outcome rules state i Release type list = release_outcome rules state i type
+action_outcome rules state i Release type list = release_outcome state i type
 action_outcome rules state i Clear type list = cleared
 action_outcome rules state i Preempt type list =
     first_case (preempt_cases rules state i type list.service_action_key)

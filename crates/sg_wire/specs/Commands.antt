@@ -60,10 +60,11 @@ reserve_out action scope_type n = command.PersistentReserveOut (record {
   list_length = n;
 })
 
-abbrev pub log_sense : (page subpage allocation_length : ℕ) → Command
-log_sense page subpage n = command.LogSense (record {
+abbrev pub log_sense : (page subpage pointer allocation_length : ℕ) → Command
+log_sense page subpage pointer n = command.LogSense (record {
   page_code = page;
   subpage_code = subpage;
+  parameter_pointer = pointer;
   allocation_length = n;
 })
 

@@ -1,8 +1,10 @@
 -- The bits of a CDB that may have any value, beside the fields of its command (docs/PROFILE.md,
 -- "Commands").
-use Rattle.std.specs.Prelude.{ℕ, List, [], ◌∷◌}
+use Rattle.std.specs.Prelude.{ℕ, List, [], ◌∷◌, if◌then◌else◌}
 use Rattle.sg_wire.specs.CdbFields.{Place}
 use Rattle.sg_wire.specs.CdbFields.Place.{bit, bits, bytes}
+use Rattle.sg_wire.specs.ReservationAction.{has_type}
+use Rattle.sg_wire.specs.declared.command.out_action.OutAction.{OutAction}
 
 -- Bits beside the fields that may have any value.
 pub record FreeBits : Type 0 where
@@ -61,7 +63,20 @@ format_bits = record no_bits { ignored = bits 1 3 0 ∷ [] }
 abbrev pub sanitize_bits : FreeBits
 sanitize_bits = record { used = bit 1 7 ∷ []; ignored = bit 1 5 ∷ [] }
 
--- PC and PARAMETER POINTER of LOG SENSE: no page has values to choose from, or a parameter that is
--- left out.
+-- PC of LOG SENSE: no page has values to choose from.
 abbrev pub log_bits : FreeBits
-log_bits = record { used = bits 2 7 6 ∷ []; ignored = bytes 5 6 ∷ [] }
+log_bits = record no_bits { used = bits 2 7 6 ∷ [] }
+
+-- ---- Fields that the disk does not look at
+
+-- ADDRESS DESCRIPTOR INDEX of READ DEFECT DATA(12): the lists have no descriptor.
+abbrev pub index_bytes : FreeBits
+index_bytes = record no_bits { ignored = bytes 2 5 ∷ [] }
+
+-- BYTE TRANSFER LENGTH of WRITE LONG, which moves no data if WR_UNCOR is 1 (SBC-3, 5.41).
+abbrev pub length_bytes : FreeBits
+length_bytes = record no_bits { ignored = bytes 7 8 ∷ [] }
+
+-- SCOPE and TYPE of a service action of PERSISTENT RESERVE OUT that is for no type.
+abbrev pub out_bits : OutAction → FreeBits
+out_bits action = record no_bits { ignored = if has_type action then [] else bytes 2 2 ∷ [] }

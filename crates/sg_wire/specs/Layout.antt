@@ -44,8 +44,8 @@ use Rattle.sg_wire.specs.declared.command.verify.Verify16.{Verify16}
 use Rattle.sg_wire.specs.ByteCheck.{byte_check_code}
 use Rattle.sg_wire.specs.Commands as make
 use Rattle.sg_wire.specs.FreeBits.{FreeBits, cache_bits, diagnostic_bits, dpo_bit, dpo_fua_bits}
-use Rattle.sg_wire.specs.FreeBits.{format_bits, group_number, immed_bit, immed_bits, log_bits, no_bits}
-use Rattle.sg_wire.specs.FreeBits.{sanitize_bits, start_bits}
+use Rattle.sg_wire.specs.FreeBits.{format_bits, group_number, immed_bit, immed_bits, index_bytes}
+use Rattle.sg_wire.specs.FreeBits.{length_bytes, log_bits, no_bits, out_bits, sanitize_bits, start_bits}
 use Rattle.sg_wire.specs.PageControl.{page_control_code}
 use Rattle.sg_wire.specs.ReservationAction.{in_code, out_code, out_profile, each_in_action, each_out_action}
 use Rattle.sg_wire.specs.declared.profile.Profile.{Profile}
@@ -249,11 +249,11 @@ abbrev send_diagnostic : SendDiagnostic → List Field
 send_diagnostic c =
     field (bits 1 7 5) c.code ∷ field (bit 1 2) c.self_test ∷ field (bytes 3 4) c.list_length ∷ []
 
--- PAGE CODE, SUBPAGE CODE and ALLOCATION LENGTH.
+-- PAGE CODE, SUBPAGE CODE, PARAMETER POINTER and ALLOCATION LENGTH.
 abbrev log_sense : LogSense → List Field
 log_sense c =
     field (bits 2 5 0) c.page_code ∷ field (bytes 3 3) c.subpage_code
-    ∷ field (bytes 7 8) c.allocation_length ∷ []
+    ∷ field (bytes 5 6) c.parameter_pointer ∷ field (bytes 7 8) c.allocation_length ∷ []
 
 -- SELECT REPORT and ALLOCATION LENGTH.
 abbrev report_luns : ReportLuns → List Field
@@ -361,7 +361,7 @@ layout (command.ReadCapacity16 c) =
 layout (command.ReadDefectData10 c) =
     extended 0x37 none Reads blocked (read_defect_data_10 c) no_bits make.read_defect_data_10
 layout (command.ReadDefectData12 c) =
-    extended 0xB7 none Reads blocked (read_defect_data_12 c) no_bits make.read_defect_data_12
+    extended 0xB7 none Reads blocked (read_defect_data_12 c) index_bytes make.read_defect_data_12
 layout (command.SanitizeBlockErase c) = sanitizing 0x02 command.SanitizeBlockErase c
 layout (command.SanitizeCryptographicErase c) = sanitizing 0x03 command.SanitizeCryptographicErase c
 layout (command.SanitizeExitFailureMode c) = sanitizing 0x1F command.SanitizeExitFailureMode c
@@ -385,7 +385,7 @@ layout (command.WriteAndVerify16 c) =
 layout (command.WriteAtomic16 c) =
     extended 0x9C none Writes blocked (write_atomic_16 c) (dpo_fua_bits 14) make.write_atomic_16
 layout (command.WriteLong10 c) =
-    extended 0x3F none Writes blocked (write_long_10 c) no_bits make.write_long_10
+    extended 0x3F none Writes blocked (write_long_10 c) length_bytes make.write_long_10
 layout (command.WriteSame10 c) =
     base 0x41 none Writes blocked (write_same_10 c) (group_number 6) make.write_same_10
 layout (command.WriteSame16 c) =
@@ -397,8 +397,8 @@ layout (command.GetLbaStatus c) =
 layout (command.PersistentReserveIn c) =
     base 0x5E (named (in_code c.action)) Always blocked (reserve_in c) no_bits (make.reserve_in c.action)
 layout (command.PersistentReserveOut c) =
-    row (out_profile c.action) 0x5F (named (out_code c.action)) Always blocked (reserve_out c) no_bits
-    (make.reserve_out c.action)
+    row (out_profile c.action) 0x5F (named (out_code c.action)) Always blocked (reserve_out c)
+    (out_bits c.action) (make.reserve_out c.action)
 
 -- Each command once; if its service action is a value of it, the command comes once with each
 -- service action. Only the places of its fields matter here, not their values.
@@ -414,7 +414,7 @@ each_command =
     ∷ make.mode_select_10 false false 0
     ∷ make.mode_sense_6 false 0 0 0 0
     ∷ make.mode_sense_10 false false 0 0 0 0
-    ∷ make.log_sense 0 0 0
+    ∷ make.log_sense 0 0 0 0
     ∷ make.report_luns 0 0
     ∷ make.report_operation_codes false 0 0 0 0
     ∷ make.report_task_management false 0

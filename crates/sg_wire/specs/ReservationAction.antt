@@ -1,6 +1,6 @@
 -- The service actions of PERSISTENT RESERVE IN and PERSISTENT RESERVE OUT (SPC-4, 6.15 and
 -- 6.16).
-use Rattle.std.specs.Prelude.{ℕ, ◌==◌, List, [], ◌∷◌, filter, find, Option}
+use Rattle.std.specs.Prelude.{ℕ, ◌==◌, Bool, true, false, List, [], ◌∷◌, filter, find, Option}
 use Rattle.sg_wire.specs.Profile.{is_in}
 use Rattle.sg_wire.specs.declared.command.in_action.InAction.{InAction}
 use Rattle.sg_wire.specs.declared.command.in_action.InAction.TheVariants.{ReadKeys, ReadReservation}
@@ -31,6 +31,17 @@ out_code Preempt = 0x04
 out_code PreemptAndAbort = 0x05
 out_code RegisterAndIgnoreExistingKey = 0x06
 out_code RegisterAndMove = 0x07
+
+-- Whether a service action is for a SCOPE and a TYPE. The others ignore these fields (SPC-4, 6.16.2).
+abbrev pub has_type : OutAction → Bool
+has_type Register = false
+has_type Reserve = true
+has_type Release = true
+has_type Clear = false
+has_type Preempt = true
+has_type PreemptAndAbort = true
+has_type RegisterAndIgnoreExistingKey = false
+has_type RegisterAndMove = false
 
 abbrev pub each_in_action : List InAction
 each_in_action = ReadKeys ∷ ReadReservation ∷ ReportCapabilities ∷ ReadFullStatus ∷ []

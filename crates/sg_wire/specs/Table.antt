@@ -42,7 +42,7 @@ command_named name.ModeSense6 = make.mode_sense_6 false 0 0 0 0
 command_named name.ModeSense10 = make.mode_sense_10 false false 0 0 0 0
 command_named name.PersistentReserveIn = make.reserve_in ReadKeys 0
 command_named name.PersistentReserveOut = make.reserve_out Register 0 0
-command_named name.LogSense = make.log_sense 0 0 0
+command_named name.LogSense = make.log_sense 0 0 0 0
 command_named name.ReportLuns = make.report_luns 0 0
 command_named name.ReportSupportedOperationCodes = make.report_operation_codes false 0 0 0 0
 command_named name.ReportSupportedTaskManagementFunctions = make.report_task_management false 0
@@ -139,10 +139,6 @@ layouts_with profile opcode entries = filter (is_row profile opcode) (layouts_of
 abbrev pub descriptor_length : (timeouts : Bool) → ℕ
 descriptor_length false = 8
 descriptor_length true = 20
-
--- A row has what its operation code's commands are reported with.
-abbrev pub Describes : Row → Layout → Type 0
-Describes row l = (row.opcode ≡ l.opcode) × (row.usage.now ≡ usage l)
 
 -- ---- The row of a CDB
 

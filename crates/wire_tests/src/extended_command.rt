@@ -232,17 +232,20 @@ fn log_sense_is_read_and_written(rt: HostRuntime) -> Result<(), Fail> {
     let page_2f = Command::LogSense(LogSense {
         page_code: PageCode::new(0x2F).ok_or("no page code")?,
         subpage_code: 0x12,
+        parameter_pointer: 0x0102,
         allocation_length: 0x0304,
     });
     let largest = Command::LogSense(LogSense {
         page_code: PageCode::new(0x3F).ok_or("no page code")?,
         subpage_code: 0xFF,
+        parameter_pointer: 0xFFFF,
         allocation_length: 0xFFFF,
     });
-    assert!(rt; is_read_and_written(&[0x4D, 0, 0x2F, 0x12, 0, 0, 0, 3, 4, 0], page_2f));
-    assert!(rt; is_read_and_written(&[0x4D, 0, 0x3F, 0xFF, 0, 0, 0, 0xFF, 0xFF, 0], largest));
-    // PC and PARAMETER POINTER are ignored.
-    assert!(rt; read(&[0x4D, 0, 0xEF, 0x12, 0, 5, 6, 3, 4, 0]) == Ok(page_2f));
+    assert!(rt; is_read_and_written(&[0x4D, 0, 0x2F, 0x12, 0, 1, 2, 3, 4, 0], page_2f));
+    let cdb = [0x4D, 0, 0x3F, 0xFF, 0, 0xFF, 0xFF, 0xFF, 0xFF, 0];
+    assert!(rt; is_read_and_written(&cdb, largest));
+    // PC is ignored.
+    assert!(rt; read(&[0x4D, 0, 0xEF, 0x12, 0, 1, 2, 3, 4, 0]) == Ok(page_2f));
     Ok(())
 }
 

@@ -6,7 +6,7 @@ use std::alloc::Global;
 use std::test::Fail;
 
 /// The words of a tool, the CDB and the data-out that it sends, and how the answer is shown.
-const SENT: [(&str, &[u8], &[u8], Show); 55] = [
+const SENT: [(&str, &[u8], &[u8], Show); 57] = [
     ("sg_inq", b"\x12\x00\x00\x00\x24\x00", b"", Show::Inquiry),
     ("sg_inq --", b"\x12\x00\x00\x00\x24\x00", b"", Show::Inquiry),
     (
@@ -207,6 +207,18 @@ const SENT: [(&str, &[u8], &[u8], Show); 55] = [
         b"\x4D\x00\x0F\xFF\x00\x00\x00\x00\x40\x00",
         b"",
         Show::LogPage,
+    ),
+    (
+        "sg_logs -p 0ch --paramp=0x102",
+        b"\x4D\x00\x0C\x00\x00\x01\x02\xFF\xFC\x00",
+        b"",
+        Show::LogPage,
+    ),
+    (
+        "sg_logs -HP65535 -p 2fh -m 8",
+        b"\x4D\x00\x2F\x00\x00\xFF\xFF\x00\x08\x00",
+        b"",
+        Show::Hex,
     ),
     (
         "sg_readcap",

@@ -14,9 +14,12 @@ from mehdalung._library import DATA_OUT_LENGTH, LIBRARY, Command
 from mehdalung.methods import Commands
 
 # The bits that the disk does not look at (PROFILE, "Commands"): the report has none of them.
-IGNORED = {"ause", "cmplst", "devoffl", "fua_nv", "group_number", "parameter_pointer", "sync_nv",
-           "unitoffl"}
+IGNORED = {"address_descriptor_index", "ause", "byte_transfer_length", "cmplst", "devoffl", "fua_nv",
+           "group_number", "sync_nv", "unitoffl"}
 IGNORED_IN = {("format_unit", "defect_list_format"), ("send_diagnostic", "pf")}
+# These service actions of PERSISTENT RESERVE OUT ignore SCOPE and TYPE (SPC-4, 6.16.2).
+WITHOUT_TYPE = {ReserveOut.REGISTER, ReserveOut.CLEAR, ReserveOut.REGISTER_AND_IGNORE_EXISTING_KEY,
+                ReserveOut.REGISTER_AND_MOVE}
 
 Cdb = Callable[..., bytes]
 
@@ -51,6 +54,8 @@ def at_their_largest() -> Iterator[Tuple[str, bytes]]:
         actions = {"persistent_reserve_in": list(ReserveIn), "persistent_reserve_out": list(ReserveOut)}
         for action in actions.get(name, [0]):
             fixed = {"service_action": int(action)} if name in actions else {}
+            if name == "persistent_reserve_out" and action in WITHOUT_TYPE:
+                fixed.update(scope=0, type=0)
             values = {it: largest(function, it, fixed) for it in arguments(function)
                       if it not in fixed and it not in IGNORED and (name, it) not in IGNORED_IN}
             yield name, function(**fixed, **values)
@@ -94,6 +99,15 @@ def test_ignored_bits_change_no_reply(initiator: Initiator) -> None:
                 assert given == initiator.execute(function()), (name, argument)
                 tried.add(argument)
     assert tried == IGNORED | {argument for _, argument in IGNORED_IN}
+    for action in WITHOUT_TYPE:
+        key_0 = reserve_out_list(0, 0)
+        given = initiator.persistent_reserve_out(action, key_0, scope=15, type=15)
+        assert given == initiator.persistent_reserve_out(action, key_0), action
+
+
+def test_byte_transfer_length_of_write_long_is_ignored(initiator: Initiator) -> None:
+    assert initiator.execute(commands.write_long10(3, wr_uncor=True, byte_transfer_length=0xFFFF)).is_good
+    assert initiator.read10(3).sense_key == SenseKey.MEDIUM_ERROR
 
 
 def test_a_base_disk_has_the_commands_that_are_not_of_an_extended_disk() -> None:
@@ -140,6 +154,7 @@ BY_HAND = [
     (commands.format_unit(fmtdata=True), "04 10 00 00 00 00"),
     (commands.sanitize_block_erase(immed=True), "48 82 00 00 00 00 00 00 00 00"),
     (commands.write_long10(3, wr_uncor=True), "3f 40 00 00 00 03 00 00 00 00"),
+    (commands.log_sense(page_code=0x0C, parameter_pointer=0x0102), "4d 00 0c 00 00 01 02 ff ff 00"),
 ]
 
 
@@ -187,6 +202,8 @@ TOOLS: List[Tuple[str, Callable[[Initiator], object]]] = [
     ("sg_opcodes -tq", lambda it: it.report_supported_task_management_functions(
         repd=True, allocation_length=16)),
     ("sg_logs -p 2fh", lambda it: it.log_sense(page_code=0x2F, allocation_length=65532)),
+    ("sg_logs -p 0ch -P 2", lambda it: it.log_sense(
+        page_code=0x0C, parameter_pointer=2, allocation_length=65532)),
     ("sg_readcap", lambda it: it.read_capacity10()),
     ("sg_readcap --16", lambda it: it.read_capacity16(allocation_length=32)),
     ("sg_sync -l 16 -c 2", lambda it: it.synchronize_cache10(16, 2)),

@@ -56,8 +56,8 @@ def sg_opcodes(values):
 def sg_logs(values):
     """LOG SENSE (SPC-4, 6.8) of cumulative values, with PC 0, as the disk ignores PC."""
     page, subpage = values.get("page", (0, 0))
-    length = values.get("maxlen") or 65532
-    cdb = of_bytes((0x4D00, 2), (page, 1), (subpage, 1), (0, 3), (length, 2), (0, 1))
+    pointer, length = values.get("paramp", 0), values.get("maxlen") or 65532
+    cdb = of_bytes((0x4D00, 2), (page, 1), (subpage, 1), (0, 1), (pointer, 2), (length, 2), (0, 1))
     return Request(cdb, show=shown("log", values))
 
 
@@ -147,7 +147,9 @@ EXTENDED_TOOLS = {
         [Option("o", "opcode", BYTE), Option("s", "sa", TWO), Option("R", "rctd"),
          Option("t", "tmf"), Option("q", "repd"), Option("n", "no-inquiry"), HEX],
         sg_opcodes),
-    "sg_logs": Tool([Option("p", "page", mode_page), Option("m", "maxlen", TWO), HEX], sg_logs),
+    "sg_logs": Tool(
+        [Option("p", "page", mode_page), Option("P", "paramp", TWO), Option("m", "maxlen", TWO), HEX],
+        sg_logs),
     "sg_readcap": Tool([Option(None, "16"), Option("l", "long"), HEX], sg_readcap),
     "sg_sync": Tool(
         [Option("S", "16"), Option("l", "lba", EIGHT), Option("c", "count", FOUR)],

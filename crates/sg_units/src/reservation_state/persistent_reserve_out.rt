@@ -66,7 +66,7 @@ impl ReservationState {
                 self.register(rules, caller, list)
             }
             OutAction::Reserve => { self.reserve(caller, kind.ok_or(OutFault::BadType)?) }
-            OutAction::Release => self.release(rules, caller, kind),
+            OutAction::Release => self.release(caller, kind),
             OutAction::Clear => Ok(self.clear()),
             // No command is there to abort: each has ended before the next begins.
             OutAction::Preempt | OutAction::PreemptAndAbort => {

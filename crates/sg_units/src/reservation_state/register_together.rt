@@ -14,7 +14,7 @@ use sg_wire::{Initiator, TransportIds};
 
 impl ReservationState {
     /// Registers an initiator, and each that a TransportID names and that is not registered. All of
-    /// them get the same key. Either all are registered, or nothing changes.
+    /// them get the same key. Either all are registered, or nothing changes. Key 0 changes nothing.
     #[tactic(auto, unfolding(crate::specs::ReserveOut::register_together_cases))]
     pub(super) fn register_together(
         &self,
@@ -23,8 +23,11 @@ impl ReservationState {
     ) -> Result<ReservationChange, OutFault>
         ensures { result ≡ first_case (register_together_cases self.now caller list.now) }
     {
-        if self.registrations.has(caller) || list.service_action_key == 0 {
+        if self.registrations.has(caller) {
             return Err(OutFault::Field(OutList::FLAGS_AT as u16));
+        }
+        if list.service_action_key == 0 {
+            return Ok(self.unchanged());
         }
         if let Some(byte) = first_unknown(&list.others) {
             return Err(OutFault::Field(byte));

@@ -7,7 +7,7 @@ use super::ReservationState;
 use crate::registrations::Registrations;
 use crate::reservation_change::ReservationChange;
 use crate::{OutFault, Reservation, ReservationType, UnitAttention};
-use sg_wire::{Initiator, Rules};
+use sg_wire::Initiator;
 
 impl ReservationState {
     /// A registrant takes a reservation, if none is held.
@@ -31,20 +31,20 @@ impl ReservationState {
         Err(OutFault::Conflict)
     }
 
-    /// A holder ends the reservation. The rules say whether a registrant that holds nothing needs a
-    /// valid scope and type.
+    /// A holder ends the reservation, if it has this type. None is a scope and type that are not valid,
+    /// and that no reservation has.
     pub(super) fn release(
         &self,
-        rules: Rules,
         caller: Initiator,
         kind: Option<ReservationType>,
     ) -> Result<ReservationChange, OutFault>
-        ensures { result ≡ release_outcome rules self.now caller kind }
+        ensures { result ≡ release_outcome self.now caller kind }
     {
-        if rules.release_of_nothing_ignores_type && !self.is_holder(caller) {
-            return Ok(self.unchanged());
+        match kind {
+            Some(kind) => self.release_typed(caller, kind),
+            None if self.is_holder(caller) => Err(OutFault::BadRelease),
+            None => Ok(self.unchanged()),
         }
-        self.release_typed(caller, kind.ok_or(OutFault::BadType)?)
     }
 
     /// A holder ends the reservation, if it has this type.

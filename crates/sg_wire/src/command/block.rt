@@ -80,7 +80,7 @@ pub struct WriteLong10 {
     pub wr_uncor: bool,
     /// The block's address.
     pub lba: u32,
-    /// BYTE TRANSFER LENGTH, in bytes.
+    /// BYTE TRANSFER LENGTH, in bytes. It does not matter if `wr_uncor` is `true`.
     pub length: u16,
 }
 

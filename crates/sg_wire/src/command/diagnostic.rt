@@ -28,6 +28,8 @@ pub struct LogSense {
     pub page_code: PageCode,
     /// The subpage.
     pub subpage_code: u8,
+    /// PARAMETER POINTER: the code of the first parameter that is asked for.
+    pub parameter_pointer: u16,
     /// The allocation length, in bytes.
     pub allocation_length: u16,
 }
@@ -80,6 +82,7 @@ pub(super) fn decode_log_sense(cdb: &[u8]) -> Result<Command, CdbFault>
     Ok(Command::LogSense(LogSense {
         page_code: PageCode::of_byte(cdb[2]),
         subpage_code: cdb[3],
+        parameter_pointer: BigEndian::read_u16(&cdb[5..]),
         allocation_length: BigEndian::read_u16(&cdb[7..]),
     }))
 }
@@ -131,6 +134,7 @@ impl LogSense {
         let mut cdb = LOG_SENSE.begin();
         cdb[2] = self.page_code.number();
         cdb[3] = self.subpage_code;
+        BigEndian::write_u16(&mut cdb[5..], self.parameter_pointer);
         BigEndian::write_u16(&mut cdb[7..], self.allocation_length);
         CdbBytes::new(cdb, 10)
     }

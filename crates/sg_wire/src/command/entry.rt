@@ -1,8 +1,8 @@
 // The table's commands in its order, one entry for each operation code and service action.
 ghost use Rattle.std.specs.Prelude.{◌≡◌, length, true};
 ghost use Rattle.sg_wire.specs.Profile.{is_in};
-ghost use Rattle.sg_wire.specs.SupportedOperations.{has_action_if, is_requested};
-ghost use Rattle.sg_wire.specs.Table.{AreEntries, Describes, IsRow, action_option, entry_layout};
+ghost use Rattle.sg_wire.specs.SupportedOperations.{has_action_if, is_requested, usage};
+ghost use Rattle.sg_wire.specs.Table.{AreEntries, IsRow, action_option, entry_layout};
 ghost use Rattle.sg_wire.specs.Table.{is_row, names_block_command};
 
 use super::rows::{
@@ -13,9 +13,9 @@ use super::rows::{
     REPORT_SUPPORTED_OPERATION_CODES, REPORT_SUPPORTED_TASK_MANAGEMENT_FUNCTIONS,
     REPORT_TARGET_PORT_GROUPS, REQUEST_SENSE, SANITIZE_BLOCK_ERASE, SANITIZE_CRYPTOGRAPHIC_ERASE,
     SANITIZE_EXIT_FAILURE_MODE, SEND_DIAGNOSTIC, START_STOP_UNIT, SYNCHRONIZE_CACHE_10,
-    SYNCHRONIZE_CACHE_16, TEST_UNIT_READY, UNMAP, VERIFY_10, VERIFY_12, VERIFY_16, WRITE_6,
-    WRITE_10, WRITE_12, WRITE_16, WRITE_AND_VERIFY_10, WRITE_AND_VERIFY_12, WRITE_AND_VERIFY_16,
-    WRITE_ATOMIC_16, WRITE_LONG_10, WRITE_SAME_10, WRITE_SAME_16,
+    SYNCHRONIZE_CACHE_16, TEST_UNIT_READY, UNMAP, USAGE_WITH_TYPE, VERIFY_10, VERIFY_12, VERIFY_16,
+    WRITE_6, WRITE_10, WRITE_12, WRITE_16, WRITE_AND_VERIFY_10, WRITE_AND_VERIFY_12,
+    WRITE_AND_VERIFY_16, WRITE_ATOMIC_16, WRITE_LONG_10, WRITE_SAME_10, WRITE_SAME_16,
 };
 use super::table::{Name, Row};
 use super::{InAction, OutAction};
@@ -104,14 +104,26 @@ impl Entry {
         &ENTRIES
     }
 
-    /// The row of the command.
-    pub(super) fn row(self) -> &'static Row
-        ensures { Describes result.now (entry_layout self) }
+    /// The operation code.
+    pub(super) fn opcode(self) -> u8
+        ensures { result ≡ (entry_layout self).opcode }
     {
         match self {
-            Entry::Named(name) => row_named(name),
-            Entry::ReserveIn(_) => &PERSISTENT_RESERVE_IN,
-            Entry::ReserveOut(_) => &PERSISTENT_RESERVE_OUT,
+            Entry::Named(name) => row_named(name).opcode,
+            Entry::ReserveIn(_) => PERSISTENT_RESERVE_IN.opcode,
+            Entry::ReserveOut(_) => PERSISTENT_RESERVE_OUT.opcode,
+        }
+    }
+
+    /// The bits of each byte of its CDB that mean something.
+    pub(super) fn usage(self) -> &'static [u8]
+        ensures { result.now ≡ usage (entry_layout self) }
+    {
+        match self {
+            Entry::Named(name) => row_named(name).usage,
+            Entry::ReserveIn(_) => PERSISTENT_RESERVE_IN.usage,
+            Entry::ReserveOut(action) if action.has_type() => &USAGE_WITH_TYPE,
+            Entry::ReserveOut(_) => PERSISTENT_RESERVE_OUT.usage,
         }
     }
 
@@ -163,7 +175,7 @@ impl Entry {
     pub(super) fn is_of(self, profile: Profile, opcode: u8) -> bool
         ensures { result ≡ is_row profile opcode (entry_layout self) }
     {
-        self.row().opcode == opcode && self.is_in(profile)
+        self.opcode() == opcode && self.is_in(profile)
     }
 }
 

@@ -1,6 +1,6 @@
 // All service actions except REPLACE LOST RESERVATION, which no disk has.
 ghost use Rattle.std.specs.Prelude.{◌≡◌};
-ghost use Rattle.sg_wire.specs.ReservationAction.{out_action_with, out_code, out_profile};
+ghost use Rattle.sg_wire.specs.ReservationAction.{has_type, out_action_with, out_code, out_profile};
 
 use crate::profile::Profile;
 
@@ -55,6 +55,22 @@ impl OutAction {
         match self {
             OutAction::RegisterAndMove => Profile::Extended,
             _ => Profile::Base,
+        }
+    }
+
+    /// Returns `true` if it is for a SCOPE and a TYPE, and `false` if it ignores both (SPC-4, 6.16.2).
+    pub(super) fn has_type(self) -> bool
+        ensures { result ≡ has_type self }
+    {
+        match self {
+            OutAction::Reserve
+            | OutAction::Release
+            | OutAction::Preempt
+            | OutAction::PreemptAndAbort => true,
+            OutAction::Register
+            | OutAction::Clear
+            | OutAction::RegisterAndIgnoreExistingKey
+            | OutAction::RegisterAndMove => false,
         }
     }
 

@@ -234,21 +234,20 @@ fn put_descriptor(entry: Entry, timeouts: bool, cut: &mut Cut)
 fn command_fields(entry: Entry, timeouts: bool) -> [u8; 8]
     ensures { result ≡ fields_bytes (command_fields timeouts (entry_layout entry)) }
 {
-    let row = entry.row();
     let ctdp = if timeouts { CTDP } else { 0 };
     let (action, servactv) = match entry.action() {
         Some(action) => (action, SERVACTV),
         None => (0, 0),
     };
     [
-        row.opcode,
+        entry.opcode(),
         0,
         0,
         action,
         0,
         ctdp + servactv,
         0,
-        row.usage.len() as u8,
+        entry.usage().len() as u8,
     ]
 }
 
@@ -282,7 +281,7 @@ fn put_supported(entry: Entry, timeouts: bool, cut: &mut Cut)
 {
     parts_are_put_in_turn();
     let ctdp = if timeouts { CTDP_OF_ONE } else { 0 };
-    let length = entry.row().usage.len();
+    let length = entry.usage().len();
     cut.put(&[0, ctdp + AS_IN_STANDARD, 0, length as u8]);
     put_usage_data(entry, cut);
     put_timeouts(timeouts, cut);
@@ -293,11 +292,11 @@ fn put_usage_data(entry: Entry, cut: &mut Cut)
     ensures { Puts cut.old cut.new (usage_data (entry_layout entry)) }
 {
     parts_are_put_in_turn();
-    let row = entry.row();
+    let usage = entry.usage();
     let byte_1 = match entry.action() {
-        Some(action) => row.usage[1] - ACTION_BITS + action,
-        None => row.usage[1],
+        Some(action) => usage[1] - ACTION_BITS + action,
+        None => usage[1],
     };
-    cut.put(&[row.opcode, byte_1]);
-    cut.put(&row.usage[2..]);
+    cut.put(&[entry.opcode(), byte_1]);
+    cut.put(&usage[2..]);
 }

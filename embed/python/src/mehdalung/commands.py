@@ -70,12 +70,12 @@ def mode_sense10(*, llbaa: bool = False, dbd: bool = False, pc: int = 0, page_co
                ("allocation_length", allocation_length, 8, 0, 16))
 
 
-def log_sense(*, page_code: int = 0, subpage_code: int = 0, allocation_length: int = 0xFFFF,
-              pc: int = 0, parameter_pointer: int = 0) -> bytes:
+def log_sense(*, page_code: int = 0, subpage_code: int = 0, parameter_pointer: int = 0,
+              allocation_length: int = 0xFFFF, pc: int = 0) -> bytes:
     """LOG SENSE, operation code 4Dh (SPC-4, 6.8). Only an extended disk has it."""
     return cdb(10, 0x4D, ("page_code", page_code, 2, 0, 6), ("subpage_code", subpage_code, 3, 0, 8),
-               ("allocation_length", allocation_length, 8, 0, 16), ("pc", pc, 2, 6, 2),
-               ("parameter_pointer", parameter_pointer, 6, 0, 16))
+               ("parameter_pointer", parameter_pointer, 6, 0, 16),
+               ("allocation_length", allocation_length, 8, 0, 16), ("pc", pc, 2, 6, 2))
 
 
 def report_luns(*, select_report: int = 0, allocation_length: int = 0xFFFFFFFF) -> bytes:

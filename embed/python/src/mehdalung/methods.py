@@ -64,13 +64,12 @@ class Commands:
                                     subpage_code=subpage_code, allocation_length=allocation_length)
         return self.send(cdb)
 
-    def log_sense(self, *, page_code: int = 0, subpage_code: int = 0,
-                  allocation_length: int = 0xFFFF, pc: int = 0,
-                  parameter_pointer: int = 0) -> "Reply":
+    def log_sense(self, *, page_code: int = 0, subpage_code: int = 0, parameter_pointer: int = 0,
+                  allocation_length: int = 0xFFFF, pc: int = 0) -> "Reply":
         """LOG SENSE, operation code 4Dh (SPC-4, 6.8). Only an extended disk has it."""
         cdb = commands.log_sense(page_code=page_code, subpage_code=subpage_code,
-                                 allocation_length=allocation_length, pc=pc,
-                                 parameter_pointer=parameter_pointer)
+                                 parameter_pointer=parameter_pointer,
+                                 allocation_length=allocation_length, pc=pc)
         return self.send(cdb)
 
     def report_luns(self, *, select_report: int = 0, allocation_length: int = 0xFFFFFFFF) -> "Reply":

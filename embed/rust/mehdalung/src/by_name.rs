@@ -61,9 +61,11 @@ impl<'a> Initiator<'a> {
         self,
         page_code: u8,
         subpage_code: u8,
+        parameter_pointer: u16,
         allocation_length: u16,
     ) -> Result<Reply<'a>, Error> {
-        let cdb = commands::log_sense(page_code, subpage_code, allocation_length);
+        let cdb =
+            commands::log_sense(page_code, subpage_code, parameter_pointer, allocation_length);
         self.send(&cdb, &[])
     }
 
@@ -238,9 +240,17 @@ impl<'a> Initiator<'a> {
     /// Executes READ DEFECT DATA(12) by [`commands::read_defect_data12`].
     pub fn read_defect_data12(
         self,
-        fields: commands::ReadDefectData12,
+        req_plist: bool,
+        req_glist: bool,
+        defect_list_format: u8,
+        allocation_length: u32,
     ) -> Result<Reply<'a>, Error> {
-        let cdb = commands::read_defect_data12(fields);
+        let cdb = commands::read_defect_data12(
+            req_plist,
+            req_glist,
+            defect_list_format,
+            allocation_length,
+        );
         self.send(&cdb, &[])
     }
 
@@ -377,14 +387,8 @@ impl<'a> Initiator<'a> {
     }
 
     /// Executes WRITE LONG(10) by [`commands::write_long10`].
-    pub fn write_long10(
-        self,
-        lba: u32,
-        cor_dis: bool,
-        wr_uncor: bool,
-        byte_transfer_length: u16,
-    ) -> Result<Reply<'a>, Error> {
-        let cdb = commands::write_long10(lba, cor_dis, wr_uncor, byte_transfer_length);
+    pub fn write_long10(self, lba: u32, cor_dis: bool, wr_uncor: bool) -> Result<Reply<'a>, Error> {
+        let cdb = commands::write_long10(lba, cor_dis, wr_uncor);
         self.send(&cdb, &[])
     }
 

@@ -180,6 +180,8 @@ pub struct LogSense {
     pub page_code: u8,
     /// SUBPAGE CODE, byte 3.
     pub subpage_code: u8,
+    /// PARAMETER POINTER, bytes 5 to 6.
+    pub parameter_pointer: u16,
     /// ALLOCATION LENGTH, bytes 7 to 8.
     pub allocation_length: u16,
     /// PC, bits 7 to 6 of byte 2.
@@ -196,6 +198,7 @@ impl LogSense {
         Cdb::of(0x4D)
             .bits(2, 5, 0, self.page_code)
             .number(3, 3, self.subpage_code as u64)
+            .number(5, 6, self.parameter_pointer as u64)
             .number(7, 8, self.allocation_length as u64)
             .bits(2, 7, 6, self.pc)
             .end()
@@ -204,7 +207,13 @@ impl LogSense {
 
 impl Default for LogSense {
     fn default() -> Self {
-        LogSense { page_code: 0, subpage_code: 0, allocation_length: u16::MAX, pc: 0 }
+        LogSense {
+            page_code: 0,
+            subpage_code: 0,
+            parameter_pointer: 0,
+            allocation_length: u16::MAX,
+            pc: 0,
+        }
     }
 }
 
@@ -213,13 +222,19 @@ impl Default for LogSense {
 ///
 /// - `page_code`: PAGE CODE, bits 5 to 0 of byte 2
 /// - `subpage_code`: SUBPAGE CODE, byte 3
+/// - `parameter_pointer`: PARAMETER POINTER, bytes 5 to 6
 /// - `allocation_length`: ALLOCATION LENGTH, bytes 7 to 8
 ///
 /// # Panics
 ///
 /// If `page_code` has more than 6 bits.
-pub const fn log_sense(page_code: u8, subpage_code: u8, allocation_length: u16) -> [u8; 10] {
-    LogSense { page_code, subpage_code, allocation_length, pc: 0 }.cdb()
+pub const fn log_sense(
+    page_code: u8,
+    subpage_code: u8,
+    parameter_pointer: u16,
+    allocation_length: u16,
+) -> [u8; 10] {
+    LogSense { page_code, subpage_code, parameter_pointer, allocation_length, pc: 0 }.cdb()
 }
 
 /// REPORT LUNS, operation code A0h (SPC-4, 6.33). Only an extended disk has it.
@@ -741,62 +756,28 @@ pub const fn read_defect_data10(
         .end()
 }
 
-/// The fields of READ DEFECT DATA(12), operation code B7h (SBC-3, 5.18). Only an extended disk has
-/// it.
-///
-/// By default ALLOCATION LENGTH is the largest, and the other fields are 0.
-#[derive(Clone, Copy, Debug, PartialEq, Eq)]
-pub struct ReadDefectData12 {
-    /// REQ_PLIST, bit 4 of byte 1.
-    pub req_plist: bool,
-    /// REQ_GLIST, bit 3 of byte 1.
-    pub req_glist: bool,
-    /// DEFECT LIST FORMAT, bits 2 to 0 of byte 1.
-    pub defect_list_format: u8,
-    /// ADDRESS DESCRIPTOR INDEX, bytes 2 to 5.
-    pub address_descriptor_index: u32,
-    /// ALLOCATION LENGTH, bytes 6 to 9.
-    pub allocation_length: u32,
-}
-
-impl ReadDefectData12 {
-    /// Returns the CDB.
-    ///
-    /// # Panics
-    ///
-    /// If `defect_list_format` has more than 3 bits.
-    pub const fn cdb(self) -> [u8; 12] {
-        Cdb::of(0xB7)
-            .bit(1, 4, self.req_plist)
-            .bit(1, 3, self.req_glist)
-            .bits(1, 2, 0, self.defect_list_format)
-            .number(2, 5, self.address_descriptor_index as u64)
-            .number(6, 9, self.allocation_length as u64)
-            .end()
-    }
-}
-
-impl Default for ReadDefectData12 {
-    fn default() -> Self {
-        ReadDefectData12 {
-            req_plist: false,
-            req_glist: false,
-            defect_list_format: 0,
-            address_descriptor_index: 0,
-            allocation_length: u32::MAX,
-        }
-    }
-}
-
 /// READ DEFECT DATA(12), operation code B7h (SBC-3, 5.18). Only an extended disk has it.
 ///
-/// - `fields`: the fields, as [`ReadDefectData12`] has them
+/// - `req_plist`: REQ_PLIST, bit 4 of byte 1
+/// - `req_glist`: REQ_GLIST, bit 3 of byte 1
+/// - `defect_list_format`: DEFECT LIST FORMAT, bits 2 to 0 of byte 1
+/// - `allocation_length`: ALLOCATION LENGTH, bytes 6 to 9
 ///
 /// # Panics
 ///
 /// If `defect_list_format` has more than 3 bits.
-pub const fn read_defect_data12(fields: ReadDefectData12) -> [u8; 12] {
-    fields.cdb()
+pub const fn read_defect_data12(
+    req_plist: bool,
+    req_glist: bool,
+    defect_list_format: u8,
+    allocation_length: u32,
+) -> [u8; 12] {
+    Cdb::of(0xB7)
+        .bit(1, 4, req_plist)
+        .bit(1, 3, req_glist)
+        .bits(1, 2, 0, defect_list_format)
+        .number(6, 9, allocation_length as u64)
+        .end()
 }
 
 /// The fields of SANITIZE, BLOCK ERASE, operation code 48h, service action 02h (SBC-3, 5.24). Only
@@ -1316,19 +1297,8 @@ pub const fn write_atomic16(lba: u64, blocks: u16, atomic_boundary: u16) -> [u8;
 /// - `lba`: LOGICAL BLOCK ADDRESS, bytes 2 to 5
 /// - `cor_dis`: COR_DIS, bit 7 of byte 1
 /// - `wr_uncor`: WR_UNCOR, bit 6 of byte 1
-/// - `byte_transfer_length`: BYTE TRANSFER LENGTH, bytes 7 to 8
-pub const fn write_long10(
-    lba: u32,
-    cor_dis: bool,
-    wr_uncor: bool,
-    byte_transfer_length: u16,
-) -> [u8; 10] {
-    Cdb::of(0x3F)
-        .number(2, 5, lba as u64)
-        .bit(1, 7, cor_dis)
-        .bit(1, 6, wr_uncor)
-        .number(7, 8, byte_transfer_length as u64)
-        .end()
+pub const fn write_long10(lba: u32, cor_dis: bool, wr_uncor: bool) -> [u8; 10] {
+    Cdb::of(0x3F).number(2, 5, lba as u64).bit(1, 7, cor_dis).bit(1, 6, wr_uncor).end()
 }
 
 /// WRITE SAME(10), operation code 41h (SBC-3, 5.43).

@@ -72,10 +72,10 @@ fn primary_commands_are_as_by_hand() {
         "1A 00 00 00 FF 00" mode_sense6(ModeSense6::default());
         "5A 10 48 01 00 00 00 01 02 00"
             mode_sense10(ModeSense10 { subpage_code: 1, allocation_length: 0x0102, ..page });
-        "4D 00 4C 01 00 00 00 02 03 00" LogSense {
-            pc: 1, page_code: 0x0C, subpage_code: 1, allocation_length: 0x0203,
+        "4D 00 4C 01 00 04 05 02 03 00" LogSense {
+            pc: 1, page_code: 0x0C, subpage_code: 1, parameter_pointer: 0x0405, allocation_length: 0x0203,
         }.cdb();
-        "4D 00 0C 01 00 00 00 02 03 00" log_sense(0x0C, 1, 0x0203);
+        "4D 00 0C 01 00 04 05 02 03 00" log_sense(0x0C, 1, 0x0405, 0x0203);
         "A0 00 02 00 00 00 01 02 03 04 00 00" report_luns(2, 0x0102_0304);
         "A3 0C 81 2A 01 02 03 04 05 06 00 00" ReportSupportedOperationCodes {
             requested_operation_code: 0x2A, requested_service_action: 0x0102, allocation_length: 0x0304_0506, ..codes
@@ -138,16 +138,13 @@ fn other_block_commands_are_as_by_hand() {
         "9E 10 00 00 00 00 00 00 00 00 01 02 03 04 00 00" read_capacity16(0x0102_0304);
         "9E 12 01 02 03 04 05 06 07 08 09 0A 0B 0C 00 00" get_lba_status(LBA, 0x090A_0B0C);
         "37 00 15 00 00 00 00 01 02 00" read_defect_data10(true, false, 5, 0x0102);
-        "B7 0D 01 02 03 04 05 06 07 08 00 00" read_defect_data12(ReadDefectData12 {
-            req_plist: false, req_glist: true, defect_list_format: 5, address_descriptor_index: 0x0102_0304,
-            allocation_length: 0x0506_0708,
-        });
+        "B7 0D 00 00 00 00 05 06 07 08 00 00" read_defect_data12(false, true, 5, 0x0506_0708);
         "41 08 01 02 03 04 00 05 06 00" write_same10(0x0102_0304, 0x0506, false, true);
         "93 19 01 02 03 04 05 06 07 08 09 0A 0B 0C 00 00" write_same16(WriteSame16 {
             anchor: true, unmap: true, ndob: true, lba: LBA, blocks: 0x090A_0B0C,
         });
         "42 01 00 00 00 00 00 01 02 00" unmap(true, 0x0102);
-        "3F 40 01 02 03 04 00 05 06 00" write_long10(0x0102_0304, false, true, 0x0506);
+        "3F 40 01 02 03 04 00 00 00 00" write_long10(0x0102_0304, false, true);
         "04 10 00 00 00 00" format_unit(false, true);
         "48 82 00 00 00 00 00 00 00 00" SanitizeBlockErase { parameter_list_length: 0, immed: true }.cdb();
         "48 03 00 00 00 00 00 00 00 00" sanitize_cryptographic_erase(0);
@@ -225,7 +222,7 @@ fn a_reply_has_the_kind_that_a_tool_gives_it() -> Result<(), Error> {
         ("sg_readcap", read_capacity10().to_vec()),
         ("sg_readcap --16", read_capacity16(32).to_vec()),
         ("sg_get_lba_status", get_lba_status(0, 24).to_vec()),
-        ("sg_logs -p 0ch", log_sense(0x0C, 0, 100).to_vec()),
+        ("sg_logs -p 0ch", log_sense(0x0C, 0, 0, 100).to_vec()),
         ("sg_persist -k", persistent_reserve_in(reserve_in::READ_KEYS, 100).to_vec()),
         ("sg_persist -r", persistent_reserve_in(reserve_in::READ_RESERVATION, 100).to_vec()),
         ("sg_persist -c", persistent_reserve_in(reserve_in::REPORT_CAPABILITIES, 100).to_vec()),
@@ -242,7 +239,7 @@ fn a_reply_has_the_kind_that_a_tool_gives_it() -> Result<(), Error> {
         (inquiry(true, 0x83, 252).to_vec(), kind::VPD_EXTENDED),
         (request_sense(false, 18).to_vec(), kind::SENSE_EXTENDED),
         (read_defect_data10(true, true, 0, 8).to_vec(), kind::DEFECTS_10),
-        (read_defect_data12(Default::default()).to_vec(), kind::DEFECTS_12),
+        (read_defect_data12(true, true, 0, 8).to_vec(), kind::DEFECTS_12),
         (Vec::new(), kind::HEX),
     ] {
         assert_eq!(kind_of(&cdb), kind);

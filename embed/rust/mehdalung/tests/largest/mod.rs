@@ -1,4 +1,4 @@
-//! Each command with each field at its largest.
+//! Each command with each field at its largest, if the disk looks at it.
 // Made by `embed/rust/generate` from the proved table of CDBs. Do not edit it.
 use mehdalung::commands::*;
 
@@ -32,6 +32,7 @@ pub fn cdbs() -> Vec<Vec<u8>> {
         LogSense {
             page_code: 0x3F,
             subpage_code: u8::MAX,
+            parameter_pointer: u16::MAX,
             allocation_length: u16::MAX,
             pc: 0x3,
         }
@@ -66,15 +67,7 @@ pub fn cdbs() -> Vec<Vec<u8>> {
         read_capacity10().to_vec(),
         read_capacity16(u32::MAX).to_vec(),
         read_defect_data10(true, true, 0x7, u16::MAX).to_vec(),
-        ReadDefectData12 {
-            req_plist: true,
-            req_glist: true,
-            defect_list_format: 0x7,
-            address_descriptor_index: u32::MAX,
-            allocation_length: u32::MAX,
-        }
-        .cdb()
-        .to_vec(),
+        read_defect_data12(true, true, 0x7, u32::MAX).to_vec(),
         SanitizeBlockErase { parameter_list_length: u16::MAX, immed: true }.cdb().to_vec(),
         SanitizeCryptographicErase { parameter_list_length: u16::MAX, immed: true }.cdb().to_vec(),
         SanitizeExitFailureMode { parameter_list_length: u16::MAX, immed: true }.cdb().to_vec(),
@@ -105,7 +98,7 @@ pub fn cdbs() -> Vec<Vec<u8>> {
         }
         .cdb()
         .to_vec(),
-        write_long10(u32::MAX, true, true, u16::MAX).to_vec(),
+        write_long10(u32::MAX, true, true).to_vec(),
         write_same10(u32::MAX, u16::MAX, true, true).to_vec(),
         WriteSame16 {
             lba: u64::MAX,
@@ -122,13 +115,13 @@ pub fn cdbs() -> Vec<Vec<u8>> {
         persistent_reserve_in(1, u16::MAX).to_vec(),
         persistent_reserve_in(2, u16::MAX).to_vec(),
         persistent_reserve_in(3, u16::MAX).to_vec(),
-        persistent_reserve_out(0, 0xF, 0xF, u32::MAX).to_vec(),
+        persistent_reserve_out(0, 0, 0, u32::MAX).to_vec(),
         persistent_reserve_out(1, 0xF, 0xF, u32::MAX).to_vec(),
         persistent_reserve_out(2, 0xF, 0xF, u32::MAX).to_vec(),
-        persistent_reserve_out(3, 0xF, 0xF, u32::MAX).to_vec(),
+        persistent_reserve_out(3, 0, 0, u32::MAX).to_vec(),
         persistent_reserve_out(4, 0xF, 0xF, u32::MAX).to_vec(),
         persistent_reserve_out(5, 0xF, 0xF, u32::MAX).to_vec(),
-        persistent_reserve_out(6, 0xF, 0xF, u32::MAX).to_vec(),
-        persistent_reserve_out(7, 0xF, 0xF, u32::MAX).to_vec(),
+        persistent_reserve_out(6, 0, 0, u32::MAX).to_vec(),
+        persistent_reserve_out(7, 0, 0, u32::MAX).to_vec(),
     ]
 }

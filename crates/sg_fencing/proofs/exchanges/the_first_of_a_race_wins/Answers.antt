@@ -1,5 +1,5 @@
 use Rattle.sg_fencing.proofs.RaceLemmas.{first-wins-race}
-use Rattle.sg_fencing.proofs.laws.the_first_of_a_race_wins.Goals as goal
+use Rattle.sg_fencing.proofs.exchanges.the_first_of_a_race_wins.Goals as goal
 
 pub returns : goal.returns
 returns c =

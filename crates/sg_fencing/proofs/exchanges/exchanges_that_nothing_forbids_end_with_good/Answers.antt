@@ -1,5 +1,5 @@
 use Rattle.sg_fencing.proofs.FreeExchangeLemmas.{free-exchanges}
-use Rattle.sg_fencing.proofs.laws.exchanges_that_nothing_forbids_end_with_good.Goals as goal
+use Rattle.sg_fencing.proofs.exchanges.exchanges_that_nothing_forbids_end_with_good.Goals as goal
 
 pub returns : goal.returns
 returns c =

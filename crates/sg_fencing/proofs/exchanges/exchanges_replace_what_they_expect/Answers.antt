@@ -1,5 +1,5 @@
 use Rattle.sg_fencing.proofs.ExchangeLemmas.{exchanges-replace}
-use Rattle.sg_fencing.proofs.laws.exchanges_replace_what_they_expect.Goals as goal
+use Rattle.sg_fencing.proofs.exchanges.exchanges_replace_what_they_expect.Goals as goal
 
 pub returns : goal.returns
 returns c =

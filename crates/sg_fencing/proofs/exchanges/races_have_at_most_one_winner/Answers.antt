@@ -1,5 +1,5 @@
 use Rattle.sg_fencing.proofs.RaceLemmas.{decided}
-use Rattle.sg_fencing.proofs.laws.races_have_at_most_one_winner.Goals as goal
+use Rattle.sg_fencing.proofs.exchanges.races_have_at_most_one_winner.Goals as goal
 
 pub returns : goal.returns
 returns c =
