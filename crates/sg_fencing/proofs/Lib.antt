@@ -13,6 +13,7 @@ mod WriteLemmas
 mod ExchangeLemmas
 mod FreeExchangeLemmas
 mod MiscompareLemmas
+mod VerifyLemmas
 -- Commands of others.
 mod AccessLemmas
 mod OthersLemmas

@@ -1,7 +1,7 @@
 -- COMPARE AND WRITE (SBC-3, 5.2): what one of them finds in its blocks and leaves there, and how many of
 -- those that compete for a block end with GOOD.
 use Rattle.std.specs.Prelude.{◌≡◌, ◌≢◌, ℕ, ◌*◌, ◌-◌, List, length, take, drop, Option, Some, None}
-use Rattle.std.specs.Prelude.{Result, Ok, ◌∷◌, All, ◌⊎◌, ◌<◌, ◌≤◌, Bool, true, false, is_some, slice_get}
+use Rattle.std.specs.Prelude.{Result, Ok, ◌∷◌, All, ◌⊎◌, ◌<◌, ◌≤◌, ◌==◌, ◌&&◌, Bool, true, false, slice_get}
 use Rattle.std.specs.Prelude.{slice_index}
 use Rattle.std.specs.List.{count_by}
 use Rattle.sg_wire.specs.CdbDecoding.{command_in, command_of}
@@ -12,10 +12,12 @@ use Rattle.sg_wire.specs.declared.extent.Extent.{Extent}
 use Rattle.sg_wire.specs.declared.lba_status.ProvisioningStatus.TheVariants.{Mapped}
 use Rattle.sg_store.specs.Disk.{block_at, block_length, lies_in}
 use Rattle.sg_target.specs.BlockCommands.{blocks_at, bytes_of}
-use Rattle.sg_target.specs.CommandLaws.{Changes}
+use Rattle.sg_target.specs.CommandLaws.{Changes, blocks_written}
+use Rattle.sg_target.specs.Config.{ConfigFields}
 use Rattle.sg_target.specs.Demands.{extent}
+use Rattle.sg_target.specs.Laws.{lies_in_any}
 use Rattle.sg_target.specs.Runs.{answers, state_after_all, step_of}
-use Rattle.sg_target.specs.State.{IsWithinLimits, State, profile_of}
+use Rattle.sg_target.specs.State.{IsWithinLimits, State, config_of, profile_of}
 use Rattle.sg_target.specs.Step.{Answer, Step, refusal_answer, sense_format, step}
 use Rattle.sg_target.specs.declared.call.Call.{Call}
 use Rattle.sg_target.specs.declared.refusal.Reason.TheVariants.{Miscompare}
@@ -23,7 +25,7 @@ use Rattle.sg_target.specs.declared.refusal.Refusal.TheVariants.{CheckCondition}
 use Rattle.sg_target.specs.declared.reply.Status.{Status}
 use Rattle.sg_target.specs.declared.reply.Status.TheVariants.{Good}
 use Rattle.sg_fencing.specs.ChosenAnswers.{answers_where}
-use Rattle.sg_fencing.specs.Laws.{NothingForbids, may_change_blocks}
+use Rattle.sg_fencing.specs.Laws.{NothingForbids}
 
 -- ---- One command
 
@@ -107,31 +109,42 @@ pub record Competes (lba : ℕ) (old : List ℕ) (call : Call) : Type 0 where
   pub expects : take block_length call.data_out.now ≡ old
   pub writes_another : drop block_length call.data_out.now ≢ old
 
--- Each command of a list competes for the block, or is a command that may not change blocks.
-abbrev pub IsRace : (lba : ℕ) → (old : List ℕ) → List Call → Type 0
-IsRace lba old calls =
-    All (λ call. Competes lba old call ⊎ (may_change_blocks (command_of call.cdb.now) ≡ false)) calls
+-- A command that may write the block, on a disk of a configuration.
+abbrev pub may_write : ConfigFields → (lba : ℕ) → Call → Bool
+may_write config lba call =
+    lies_in_any (blocks_written config (command_of call.cdb.now) call.data_out.now) lba
 
-abbrev pub is_compare_and_write : Call → Bool
-is_compare_and_write call = is_some (blocks_to_exchange (command_of call.cdb.now))
+-- Each command of a list competes for the block, or does not write it.
+abbrev pub IsRace : ConfigFields → (lba : ℕ) → (old : List ℕ) → List Call → Type 0
+IsRace config lba old calls =
+    All (λ call. Competes lba old call ⊎ (may_write config lba call ≡ false)) calls
+
+-- A COMPARE AND WRITE of that one block.
+abbrev pub names_only : (lba : ℕ) → Option Extent → Bool
+names_only lba None = false
+names_only lba (Some named) = named.lba == lba && named.count == 1
+
+abbrev pub is_for_block : (lba : ℕ) → Call → Bool
+is_for_block lba call = names_only lba (blocks_to_exchange (command_of call.cdb.now))
 
 abbrev pub is_good : Status → Bool
 is_good Good = true
 is_good _ = false
 
--- A COMPARE AND WRITE wins if it ends with GOOD. This is the number of winners in a list.
-abbrev pub winners : State → List Call → ℕ
-winners state calls =
-    count_by (λ answer. is_good answer.status) (answers_where is_compare_and_write state calls)
+-- Such a command wins if it ends with GOOD. This is the number of winners in a list.
+abbrev pub winners : (lba : ℕ) → State → List Call → ℕ
+winners lba state calls =
+    count_by (λ answer. is_good answer.status) (answers_where (is_for_block lba) state calls)
 
--- At most one wins. If none wins, the disk is as it was. If one wins, the block is the one that it wrote,
+-- At most one wins. If none wins, the block is as it was. If one wins, the block is the one that it wrote,
 -- up to the end of the list.
 pub record IsDecided (state : State) (lba : ℕ) (calls : List Call) : Type 0 where
-  pub at_most_one : winners state calls ≤ 1
-  pub none : winners state calls ≡ 0 → (state_after_all state calls).disk ≡ state.disk
+  pub at_most_one : winners lba state calls ≤ 1
+  pub none : winners lba state calls ≡ 0
+      → blocks_at (state_after_all state calls) (extent lba 1) ≡ blocks_at state (extent lba 1)
   pub one : (n : ℕ) (call : Call) (answer : Answer)
       → slice_get calls n ≡ Some call → slice_get (answers state calls) n ≡ Some answer
-      → is_compare_and_write call ≡ true → answer.status ≡ Good
+      → is_for_block lba call ≡ true → answer.status ≡ Good
       → blocks_at (state_after_all state calls) (extent lba 1)
       ≡ drop block_length call.data_out.now
 
@@ -139,17 +152,17 @@ pub record IsDecided (state : State) (lba : ℕ) (calls : List Call) : Type 0 wh
 abbrev pub RacesHaveAtMostOneWinner : Type 0
 RacesHaveAtMostOneWinner =
     (state : State) (lba : ℕ) (old : List ℕ) (calls : List Call)
-    → IsWithinLimits state → IsRace lba old calls → IsDecided state lba calls
+    → IsWithinLimits state → IsRace (config_of state) lba old calls → IsDecided state lba calls
 
 -- The first command of a race wins if nothing forbids it, and then nobody else does.
-pub record FirstWins (state : State) (first : Call) (others : List Call) : Type 0 where
+pub record FirstWins (state : State) (lba : ℕ) (first : Call) (others : List Call) : Type 0 where
   pub good : (step_of state first).answer.status ≡ Good
-  pub only_one : winners state (first ∷ others) ≡ 1
+  pub only_one : winners lba state (first ∷ others) ≡ 1
 
 abbrev pub TheFirstOfARaceWins : Type 0
 TheFirstOfARaceWins =
     (state : State) (lba : ℕ) (old : List ℕ) (first : Call) (others : List Call)
-    → IsWithinLimits state → IsRace lba old (first ∷ others)
+    → IsWithinLimits state → IsRace (config_of state) lba old (first ∷ others)
     → blocks_to_exchange (command_in (profile_of state) first.cdb.now) ≡ Some (extent lba 1)
     → NothingForbidsExchange state first.initiator first.data_out.now (extent lba 1)
-    → FirstWins state first others
+    → FirstWins state lba first others

@@ -2,6 +2,7 @@
 pub mod Laws
 pub mod ChosenAnswers
 pub mod Exchanges
+pub mod Comparisons
 pub mod Fencing
 pub mod Registrants
 pub mod Group

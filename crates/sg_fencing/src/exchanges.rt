@@ -3,12 +3,11 @@ ghost use Rattle.sg_fencing.specs.Exchanges.{ExchangesReplaceWhatTheyExpect, Rac
 ghost use Rattle.sg_fencing.specs.Exchanges.{ExchangesThatNothingForbidsEndWithGood, TheFirstOfARaceWins};
 ghost use Rattle.sg_fencing.specs.Exchanges.{MiscomparesPointToTheFirstDifference};
 
-use crate::laws::other_commands_leave_the_disk;
 use sg_store::laws::{
     a_write_maps_the_addresses_of_its_range, a_write_replaces_the_blocks_of_its_range,
     remapping_takes_what_is_needed,
 };
-use sg_target::laws::limits_are_kept;
+use sg_target::laws::{commands_write_only_their_blocks, limits_are_kept, the_configuration_stays};
 use sg_wire::laws::commands_have_their_class;
 
 /// A COMPARE AND WRITE that ends with GOOD has found the first half of its data-out in its blocks. Its
@@ -22,14 +21,16 @@ pub fn exchanges_replace_what_they_expect()
 }
 
 /// Several initiators race for a block: each sends a COMPARE AND WRITE that expects the same old block
-/// and writes another. No other command of the list may change blocks. Then at most one of them ends
-/// with GOOD, and the block is the one that it wrote. If none does, the disk is as it was.
+/// and writes another. No other command of the list writes the block, whatever else it writes. Then at
+/// most one of them ends with GOOD, and the block is the one that it wrote. If none does, the block is as
+/// it was.
 pub fn races_have_at_most_one_winner()
     ensures { RacesHaveAtMostOneWinner }
 {
     limits_are_kept();
     exchanges_replace_what_they_expect();
-    other_commands_leave_the_disk();
+    commands_write_only_their_blocks();
+    the_configuration_stays();
 }
 
 /// A COMPARE AND WRITE ends with GOOD if nothing forbids it. That is so if nothing forbids a WRITE of
@@ -55,6 +56,7 @@ pub fn the_first_of_a_race_wins()
 {
     limits_are_kept();
     exchanges_replace_what_they_expect();
-    other_commands_leave_the_disk();
+    commands_write_only_their_blocks();
+    the_configuration_stays();
     exchanges_that_nothing_forbids_end_with_good();
 }

@@ -2,6 +2,7 @@
 //! holder of a persistent reservation (SPC-4, 5.13). Others are of a stopped unit. Nothing here runs.
 #![tactic(auto)]
 
+pub mod comparisons;
 pub mod exchanges;
 pub mod laws;
 pub mod room;
