@@ -39,6 +39,8 @@ mod PreemptLemmas
 mod AgreeLemmas
 mod GroupLemmas
 mod InsideLemmas
+-- Commands that only report.
+mod ReportLemmas
 -- Lists of commands.
 mod RaceLemmas
 mod OutsiderRunLemmas

@@ -3,6 +3,7 @@ pub mod Laws
 pub mod ChosenAnswers
 pub mod Exchanges
 pub mod Comparisons
+pub mod Reports
 pub mod Fencing
 pub mod Registrants
 pub mod Group
