@@ -601,7 +601,8 @@ typedef enum mdl_kind {
     MDL_FULL_STATUS = 11,      /* parameter data of READ FULL STATUS */
     MDL_SENSE = 12,            /* sense data */
     /* A script on an extended disk shows these. The first three are in the place of MDL_INQUIRY,
-     * MDL_VPD and MDL_SENSE there. */
+     * MDL_VPD and MDL_SENSE there, and the last two in the place of MDL_CAPABILITIES and
+     * MDL_FULL_STATUS. */
     MDL_INQUIRY_EXTENDED = 13, /* standard INQUIRY data, with version descriptors */
     MDL_VPD_EXTENDED = 14,     /* the same as MDL_VPD, with more pages' fields */
     MDL_SENSE_EXTENDED = 15,   /* sense data, of deferred errors too */
@@ -613,7 +614,9 @@ typedef enum mdl_kind {
     MDL_CAPACITY_10 = 21,      /* data of READ CAPACITY(10) */
     MDL_CAPACITY_16 = 22,      /* data of READ CAPACITY(16) */
     MDL_DEFECTS_10 = 23,       /* data of READ DEFECT DATA(10) */
-    MDL_DEFECTS_12 = 24        /* data of READ DEFECT DATA(12) */
+    MDL_DEFECTS_12 = 24,       /* data of READ DEFECT DATA(12) */
+    MDL_CAPABILITIES_EXTENDED = 25, /* the same as MDL_CAPABILITIES, with all fields */
+    MDL_FULL_STATUS_EXTENDED = 26   /* the same as MDL_FULL_STATUS, with ALL_TG_PT */
 } mdl_kind;
 
 /* Writes into `text` what an answer contains, in lines. The text is cut to `text_length` bytes, and

@@ -70,7 +70,7 @@ static void decode_every_length(void)
     size_t length;
 
     memset(untouched, '?', sizeof untouched);
-    for (kind = MDL_NOTHING; kind <= MDL_DEFECTS_12; kind++) {
+    for (kind = MDL_NOTHING; kind <= MDL_FULL_STATUS_EXTENDED; kind++) {
         memset(whole, '?', sizeof whole);
         length = mdl_decode(kind, bytes, sizeof bytes, whole, sizeof whole);
         WANT(length < sizeof cut && strlen(whole) == length && whole[length + 1] == '?');
@@ -79,7 +79,7 @@ static void decode_every_length(void)
         WANT(is_cut(kind, bytes, sizeof bytes, whole, length));
     }
     memset(cut, '?', sizeof cut);
-    kind = MDL_DEFECTS_12 + 1;
+    kind = MDL_FULL_STATUS_EXTENDED + 1;
     WANT(mdl_decode(kind, bytes, sizeof bytes, cut, sizeof cut) == MDL_NO_TEXT);
     kind = 256 + MDL_HEX;
     WANT(mdl_decode(kind, bytes, sizeof bytes, cut, sizeof cut) == MDL_NO_TEXT);
@@ -95,6 +95,25 @@ static void decode_every_length(void)
     }
     WANT(!memcmp(cut, untouched, sizeof cut));
     WANT(mdl_decode(MDL_HEX, NULL, 0, cut, sizeof cut) == 0 && cut[0] == 0);
+}
+
+/* The two texts of PERSISTENT RESERVE IN that an extended disk shows with more fields. */
+static void decode_with_all_fields(void)
+{
+    static const uint8_t capabilities[] = { 0, 8, 0x0D, 0xB0, 0, 0, 0, 0 };
+    static const uint8_t full[] = { 0, 0, 0, 1, 0, 0, 0, 24, 0, 0, 0, 0, 0, 0, 0, 0xA1,
+        0, 0, 0, 0, 2, 0, 0, 0, 0, 0, 0, 1, 0, 0, 0, 0 };
+    static char text[4096];
+
+    mdl_decode(MDL_CAPABILITIES_EXTENDED, capabilities, sizeof capabilities, text, sizeof text);
+    WANT(!strcmp(text, "  length: 8\n  RLR_C: 0, CRH: 0, SIP_C: 1, ATP_C: 1, PTPL_C: 1\n"
+                       "  TMV: 1, ALLOW COMMANDS: 3, PTPL_A: 0\n  types:\n"));
+    mdl_decode(MDL_CAPABILITIES, capabilities, sizeof capabilities, text, sizeof text);
+    WANT(!strcmp(text, "  length: 8\n  PTPL_C: 1\n  TMV: 1, PTPL_A: 0\n  types:\n"));
+    mdl_decode(MDL_FULL_STATUS_EXTENDED, full, sizeof full, text, sizeof text);
+    WANT(strstr(text, "  key: 0x00000000000000a1, all target ports: 1, holder: 0, scope: 0, "));
+    mdl_decode(MDL_FULL_STATUS, full, sizeof full, text, sizeof text);
+    WANT(strstr(text, "  key: 0x00000000000000a1, holder: 0, scope: 0, "));
 }
 
 /* Words, and why they are refused: the first fault that applies. */
@@ -516,6 +535,7 @@ int main(void)
     mdl_free(&disk);
     mdl_free(NULL);
     decode_every_length();
+    decode_with_all_fields();
     plan_words();
     WANT(held == held_before);
     show_version();

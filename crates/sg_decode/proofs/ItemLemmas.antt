@@ -14,6 +14,7 @@ use Rattle.sg_decode.specs.declared.entry.EntryKind.{EntryKind}
 use Rattle.sg_decode.specs.declared.entry.EntryKind.TheVariants.{SupportedPages, Designators}
 use Rattle.sg_decode.specs.declared.entry.EntryKind.TheVariants.{ModePages, LbaStatusDescriptors}
 use Rattle.sg_decode.specs.declared.entry.EntryKind.TheVariants.{ReservationKeys, FullStatusDescriptors}
+use Rattle.sg_decode.specs.declared.entry.EntryKind.TheVariants.{ExtendedFullStatusDescriptors}
 use Rattle.sg_decode.specs.declared.entry.EntryKind.TheVariants.{Luns, CommandDescriptors, Timeouts}
 use Rattle.sg_decode.specs.declared.entry.EntryKind.TheVariants.{LogPages, LogSubpages, LogParameters}
 use Rattle.sg_decode.specs.declared.entry.EntryKind.TheVariants.{LogExceptions, LogResourceCounts}
@@ -203,6 +204,7 @@ header_own ModePages (x ∷ xs) (suc n) some = refl
 header_own LbaStatusDescriptors rest n some = refl
 header_own ReservationKeys rest n some = refl
 header_own FullStatusDescriptors rest n some = refl
+header_own ExtendedFullStatusDescriptors rest n some = refl
 header_own Luns rest n some = refl
 header_own CommandDescriptors rest n some = refl
 header_own Timeouts rest n some = refl

@@ -14,6 +14,7 @@ use Rattle.sg_decode.specs.declared.entry.EntryKind.TheVariants.{SupportedPages,
 use Rattle.sg_decode.specs.declared.entry.EntryKind.TheVariants.{ModePages, ReservationKeys}
 use Rattle.sg_decode.specs.declared.entry.EntryKind.TheVariants.{LbaStatusDescriptors}
 use Rattle.sg_decode.specs.declared.entry.EntryKind.TheVariants.{FullStatusDescriptors}
+use Rattle.sg_decode.specs.declared.entry.EntryKind.TheVariants.{ExtendedFullStatusDescriptors}
 use Rattle.sg_decode.specs.declared.entry.EntryKind.TheVariants.{Luns, CommandDescriptors, Timeouts}
 use Rattle.sg_decode.specs.declared.entry.EntryKind.TheVariants.{LogPages, LogSubpages}
 use Rattle.sg_decode.specs.declared.entry.EntryKind.TheVariants.{LogParameters, LogExceptions}
@@ -188,7 +189,7 @@ abbrev reservation_key : Line
 reservation_key = part (codes "  key: ") (Address 0) ∷ []
 
 -- A full status descriptor of READ FULL STATUS, with its TransportID (SPC-4, 6.15.5). ALL_TG_PT is
--- not shown.
+-- shown only by a script on an extended disk.
 abbrev full_status_descriptor : Line
 full_status_descriptor =
     part (codes "  key: ") (Address 0)
@@ -198,6 +199,25 @@ full_status_descriptor =
     ∷ part (codes ", port: ") (Number 18 2)
     ∷ part (codes ", transport: ") (HexFrom 24)
     ∷ []
+
+abbrev extended_full_status_descriptor : Line
+extended_full_status_descriptor =
+    part (codes "  key: ") (Address 0)
+    ∷ part (codes ", all target ports: ") (Bits 12 1 1)
+    ∷ part (codes ", holder: ") (Bits 12 0 0)
+    ∷ part (codes ", scope: ") (Bits 13 7 4)
+    ∷ part (codes ", type: ") (Bits 13 3 0)
+    ∷ part (codes ", port: ") (Number 18 2)
+    ∷ part (codes ", transport: ") (HexFrom 24)
+    ∷ []
+
+-- A full status descriptor in a line.
+abbrev full_status_entry : Line → Entry
+full_status_entry line = record {
+  header = λ bytes. 24;
+  following = λ bytes. big_number 4 (drop 20 bytes);
+  lines = λ own. line ∷ [];
+}
 
 -- A logical unit number of REPORT LUNS (SPC-4, 6.33).
 abbrev lun : Line
@@ -261,11 +281,8 @@ entry_of ModePages = record {
 }
 entry_of LbaStatusDescriptors = fixed_entry status_descriptor_length lba_status_descriptor
 entry_of ReservationKeys = fixed_entry 8 reservation_key
-entry_of FullStatusDescriptors = record {
-  header = λ bytes. 24;
-  following = λ bytes. big_number 4 (drop 20 bytes);
-  lines = λ own. full_status_descriptor ∷ [];
-}
+entry_of FullStatusDescriptors = full_status_entry full_status_descriptor
+entry_of ExtendedFullStatusDescriptors = full_status_entry extended_full_status_descriptor
 entry_of Luns = fixed_entry 8 lun
 entry_of CommandDescriptors = record {
   header = λ bytes. 8;

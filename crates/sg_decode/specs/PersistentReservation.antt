@@ -7,6 +7,7 @@ use Rattle.sg_decode.specs.Entries.{entry_of}
 use Rattle.sg_decode.specs.declared.entry.EntryKind.{EntryKind}
 use Rattle.sg_decode.specs.declared.entry.EntryKind.TheVariants.{ReservationKeys}
 use Rattle.sg_decode.specs.declared.entry.EntryKind.TheVariants.{FullStatusDescriptors}
+use Rattle.sg_decode.specs.declared.entry.EntryKind.TheVariants.{ExtendedFullStatusDescriptors}
 use Rattle.sg_decode.specs.declared.value.Value.TheVariants.{Bits, Number, Address}
 use Rattle.sg_decode.specs.declared.value.Value.TheVariants.{ReservationTypes}
 
@@ -36,6 +37,10 @@ keys = list_of ReservationKeys
 abbrev pub full_status : Decoder
 full_status = list_of FullStatusDescriptors
 
+-- The same, as a script on an extended disk shows it.
+abbrev pub extended_full_status : Decoder
+extended_full_status = list_of ExtendedFullStatusDescriptors
+
 -- READ RESERVATION.
 abbrev pub reservation_lines : List Line
 reservation_lines =
@@ -61,17 +66,42 @@ reservation = record {
 abbrev pub capabilities_length : List Line
 capabilities_length = (part (codes "  length: ") (Number 0 2) ∷ []) ∷ []
 
+abbrev reservation_types : Line
+reservation_types = part (codes "  types:") (ReservationTypes 4) ∷ []
+
 -- RLR_C, CRH, SIP_C, ATP_C and ALLOW COMMANDS are not shown.
 abbrev pub capabilities_lines : List Line
 capabilities_lines =
     (part (codes "  PTPL_C: ") (Bits 2 0 0) ∷ [])
     ∷ (part (codes "  TMV: ") (Bits 3 7 7) ∷ part (codes ", PTPL_A: ") (Bits 3 0 0) ∷ [])
-    ∷ (part (codes "  types:") (ReservationTypes 4) ∷ [])
+    ∷ reservation_types
     ∷ []
 
-abbrev pub capabilities : Decoder
-capabilities = record {
+-- All fields, as a script on an extended disk shows them.
+abbrev pub extended_capabilities_lines : List Line
+extended_capabilities_lines =
+    (part (codes "  RLR_C: ") (Bits 2 7 7)
+    ∷ part (codes ", CRH: ") (Bits 2 4 4)
+    ∷ part (codes ", SIP_C: ") (Bits 2 3 3)
+    ∷ part (codes ", ATP_C: ") (Bits 2 2 2)
+    ∷ part (codes ", PTPL_C: ") (Bits 2 0 0)
+    ∷ [])
+    ∷ (part (codes "  TMV: ") (Bits 3 7 7)
+    ∷ part (codes ", ALLOW COMMANDS: ") (Bits 3 6 4)
+    ∷ part (codes ", PTPL_A: ") (Bits 3 0 0)
+    ∷ [])
+    ∷ reservation_types
+    ∷ []
+
+abbrev pub capabilities_with : List Line → Decoder
+capabilities_with lines = record {
   header = line_items capabilities_length;
   reported_end = λ bytes. big_number 2 bytes;
-  body = λ bytes end. line_items capabilities_lines;
+  body = λ bytes end. line_items lines;
 }
+
+abbrev pub capabilities : Decoder
+capabilities = capabilities_with capabilities_lines
+
+abbrev pub extended_capabilities : Decoder
+extended_capabilities = capabilities_with extended_capabilities_lines

@@ -29,6 +29,8 @@ pub(crate) enum EntryKind {
     ReservationKeys,
     /// Full status descriptors: 24 bytes and the TransportID (SPC-4, 6.15.5).
     FullStatusDescriptors,
+    /// The same, shown with ALL_TG_PT.
+    ExtendedFullStatusDescriptors,
     /// Logical unit numbers of REPORT LUNS (SPC-4, 6.33).
     Luns,
     /// Command descriptors: 8 bytes, and a command timeouts descriptor if CTDP is set (SPC-4, 6.35.2).
@@ -116,6 +118,16 @@ const RESERVATION_KEY: &[Field] = &[Field(b"  key: ", Value::Address(0))];
 
 const FULL_STATUS: &[Field] = &[
     Field(b"  key: ", Value::Address(0)),
+    Field(b", holder: ", Value::Bits(12, 0, 0)),
+    Field(b", scope: ", Value::Bits(13, 7, 4)),
+    Field(b", type: ", Value::Bits(13, 3, 0)),
+    Field(b", port: ", Value::Number(18, 2)),
+    Field(b", transport: ", Value::HexFrom(24)),
+];
+
+const EXTENDED_FULL_STATUS: &[Field] = &[
+    Field(b"  key: ", Value::Address(0)),
+    Field(b", all target ports: ", Value::Bits(12, 1, 1)),
     Field(b", holder: ", Value::Bits(12, 0, 0)),
     Field(b", scope: ", Value::Bits(13, 7, 4)),
     Field(b", type: ", Value::Bits(13, 3, 0)),
@@ -224,7 +236,7 @@ impl EntryKind {
             | EntryKind::CommandDescriptors
             | EntryKind::ScsiPorts
             | EntryKind::LongDefects => 8,
-            EntryKind::FullStatusDescriptors => 24,
+            EntryKind::FullStatusDescriptors | EntryKind::ExtendedFullStatusDescriptors => 24,
             EntryKind::Timeouts => TIMEOUTS_LENGTH,
             EntryKind::LogPages => 1,
             EntryKind::LogSubpages => 2,
@@ -258,7 +270,9 @@ impl EntryKind {
             | EntryKind::LogExceptions
             | EntryKind::LogResourceCounts => usize::from(bytes[3]),
             EntryKind::ModePages => parameter_length(bytes),
-            EntryKind::FullStatusDescriptors => number_of_four(20, bytes),
+            EntryKind::FullStatusDescriptors | EntryKind::ExtendedFullStatusDescriptors => {
+                number_of_four(20, bytes)
+            }
             EntryKind::CommandDescriptors => timeouts_length(bytes),
             EntryKind::ScsiPorts => port_names_length(bytes),
         }
@@ -276,6 +290,7 @@ impl EntryKind {
             EntryKind::LbaStatusDescriptors => put_line(LBA_STATUS, bytes, out),
             EntryKind::ReservationKeys => put_line(RESERVATION_KEY, bytes, out),
             EntryKind::FullStatusDescriptors => put_line(FULL_STATUS, bytes, out),
+            EntryKind::ExtendedFullStatusDescriptors => put_line(EXTENDED_FULL_STATUS, bytes, out),
             EntryKind::Luns => put_line(LUN, bytes, out),
             EntryKind::CommandDescriptors => put_command(bytes, out),
             EntryKind::Timeouts => put_line(TIMEOUTS, bytes, out),

@@ -38,7 +38,10 @@ pub use lba_status::{next_start, put_lba_status};
 pub use log_pages::put_log_page;
 pub use mode_parameters::put_modes;
 pub use number_text::put_number;
-pub use persistent_reservation::{put_capabilities, put_full_status, put_keys, put_reservation};
+pub use persistent_reservation::{
+    put_capabilities, put_extended_capabilities, put_extended_full_status, put_full_status,
+    put_keys, put_reservation,
+};
 pub use print::{
     GATHERED, print_capabilities, print_full_status, print_hex, print_inquiry, print_keys,
     print_lba_status, print_modes, print_reservation, print_sense, print_vpd,

@@ -35,6 +35,8 @@ extended_kinds =
     ∷ show.Capacity16
     ∷ show.Defects10
     ∷ show.Defects12
+    ∷ show.ExtendedCapabilities
+    ∷ show.ExtendedFullStatus
     ∷ []
 
 abbrev pub kind_numbered : ℕ → Option Show

@@ -20,7 +20,7 @@ const BASE_KINDS: [Show; 13] = [
     Show::Sense,
 ];
 
-const EXTENDED_KINDS: [Show; 12] = [
+const EXTENDED_KINDS: [Show; 14] = [
     Show::ExtendedInquiry,
     Show::ExtendedVpd,
     Show::ExtendedSense,
@@ -33,6 +33,8 @@ const EXTENDED_KINDS: [Show; 12] = [
     Show::Capacity16,
     Show::Defects10,
     Show::Defects12,
+    Show::ExtendedCapabilities,
+    Show::ExtendedFullStatus,
 ];
 
 /// The kind of answers with a number of the header.

@@ -9,6 +9,7 @@ use Rattle.sg_decode.specs.LbaStatus.{lba_status}
 use Rattle.sg_decode.specs.LogPages.{log_page}
 use Rattle.sg_decode.specs.ModeParameters.{mode_parameters}
 use Rattle.sg_decode.specs.PersistentReservation.{capabilities, full_status, keys}
+use Rattle.sg_decode.specs.PersistentReservation.{extended_capabilities, extended_full_status}
 use Rattle.sg_decode.specs.PersistentReservation.{reservation}
 use Rattle.sg_decode.specs.ReportLuns.{luns}
 use Rattle.sg_decode.specs.SenseText.{extended_sense_line, sense_line}
@@ -44,3 +45,5 @@ answer_text show.Capacity10 data_in = decoded capacity_10 data_in
 answer_text show.Capacity16 data_in = decoded capacity_16 data_in
 answer_text show.Defects10 data_in = decoded defects_10 data_in
 answer_text show.Defects12 data_in = decoded defects_12 data_in
+answer_text show.ExtendedCapabilities data_in = decoded extended_capabilities data_in
+answer_text show.ExtendedFullStatus data_in = decoded extended_full_status data_in

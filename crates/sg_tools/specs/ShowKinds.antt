@@ -14,6 +14,8 @@ use Rattle.sg_tools.specs.declared.show.Show.TheVariants.{ExtendedSense, Luns, A
 use Rattle.sg_tools.specs.declared.show.Show.TheVariants.{OneCommand, TaskManagement, LogPage}
 use Rattle.sg_tools.specs.declared.show.Show.TheVariants.{Capacity10, Capacity16}
 use Rattle.sg_tools.specs.declared.show.Show.TheVariants.{Defects10, Defects12}
+use Rattle.sg_tools.specs.declared.show.Show.TheVariants.{ExtendedCapabilities}
+use Rattle.sg_tools.specs.declared.show.Show.TheVariants.{ExtendedFullStatus}
 
 -- A kind by its name, and the profile that it belongs to.
 pub record ShowKind : Type 0 where
@@ -60,10 +62,12 @@ show_named profile (kind ∷ kinds) word =
     else show_named profile kinds word
 
 -- How a disk of a profile shows what is shown so on a base disk. An extended disk shows more fields of
--- INQUIRY data, pages of vital product data and sense data.
+-- INQUIRY data, pages of vital product data, sense data, capabilities and full status.
 abbrev pub shown_in : Profile → Show → Show
 shown_in Base show = show
 shown_in Extended Inquiry = ExtendedInquiry
 shown_in Extended Vpd = ExtendedVpd
 shown_in Extended Sense = ExtendedSense
+shown_in Extended Capabilities = ExtendedCapabilities
+shown_in Extended FullStatus = ExtendedFullStatus
 shown_in Extended show = show

@@ -57,6 +57,10 @@ pub enum Show {
     Defects10,
     /// As the data of READ DEFECT DATA(12).
     Defects12,
+    /// As the parameter data of REPORT CAPABILITIES, with all fields.
+    ExtendedCapabilities,
+    /// As the parameter data of READ FULL STATUS, with ALL_TG_PT.
+    ExtendedFullStatus,
 }
 
 impl Show {
@@ -108,7 +112,7 @@ impl Show {
     }
 
     /// How a disk of a profile shows what is shown so on a base disk: an extended disk shows more fields
-    /// of INQUIRY data, pages of vital product data and sense data.
+    /// of INQUIRY data, pages of vital product data, sense data, capabilities and full status.
     pub fn in_profile(self, profile: Profile) -> Show
         ensures { result ≡ shown_in profile self }
     {
@@ -116,6 +120,8 @@ impl Show {
             (Profile::Extended, Show::Inquiry) => Show::ExtendedInquiry,
             (Profile::Extended, Show::Vpd) => Show::ExtendedVpd,
             (Profile::Extended, Show::Sense) => Show::ExtendedSense,
+            (Profile::Extended, Show::Capabilities) => Show::ExtendedCapabilities,
+            (Profile::Extended, Show::FullStatus) => Show::ExtendedFullStatus,
             (_, show) => show,
         }
     }

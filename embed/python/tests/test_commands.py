@@ -243,7 +243,8 @@ def test_a_method_sends_what_a_tool_sends(words: str, call: Callable[[Initiator]
     assert sent == bytes(data_out[:planned.data_out_length])
     # a tool plans the kind of a base disk's text, and prints nothing of what it does not expect
     extended = {Kind.INQUIRY: Kind.INQUIRY_EXTENDED, Kind.VPD: Kind.VPD_EXTENDED,
-                Kind.SENSE: Kind.SENSE_EXTENDED, Kind.NOTHING: Kind.HEX}
+                Kind.SENSE: Kind.SENSE_EXTENDED, Kind.CAPABILITIES: Kind.CAPABILITIES_EXTENDED,
+                Kind.FULL_STATUS: Kind.FULL_STATUS_EXTENDED, Kind.NOTHING: Kind.HEX}
     assert Kind(kind) == extended.get(Kind(planned.kind), Kind(planned.kind))
 
 

@@ -2,7 +2,7 @@
 import pytest
 
 from mehdalung import (GOOD, BadStatus, CheckCondition, Disk, FaultOutcome, Initiator, Kind, Profile,
-                       Reply, SenseKey, Status, kind_of)
+                       Reply, SenseKey, Status, decode, kind_of)
 
 READ_ONE = bytes.fromhex("28000000000500000100")
 
@@ -48,6 +48,20 @@ def test_the_kind_of_a_command_prints_its_data(initiator: Initiator) -> None:
     reply = initiator.execute(read_capacity, kind=kind_of(read_capacity))
     assert reply.text() == "  returned logical block address: 4095\n  logical block length: 512\n"
     assert (kind_of(b""), kind_of(b"\x12"), kind_of(READ_ONE)) == (Kind.HEX, Kind.INQUIRY_EXTENDED, Kind.HEX)
+
+
+def test_the_kinds_of_an_extended_disk_have_all_fields_of_reservations() -> None:
+    capabilities = bytes.fromhex("00080db0ea010000")
+    types = "  types: WE EA WE-RO EA-RO WE-AR EA-AR"
+    assert decode(Kind.CAPABILITIES, capabilities).splitlines() == [
+        "  length: 8", "  PTPL_C: 1", "  TMV: 1, PTPL_A: 0", types]
+    assert decode(Kind.CAPABILITIES_EXTENDED, capabilities).splitlines() == [
+        "  length: 8", "  RLR_C: 0, CRH: 0, SIP_C: 1, ATP_C: 1, PTPL_C: 1",
+        "  TMV: 1, ALLOW COMMANDS: 3, PTPL_A: 0", types]
+    full = bytes.fromhex("000000010000001c 00000000000000a1 00000000 03 05 00000000 0001 00000004 0a0b0c0d")
+    key, rest = "  key: 0x00000000000000a1, ", "holder: 1, scope: 0, type: 5, port: 1, transport: 0a0b0c0d"
+    assert decode(Kind.FULL_STATUS, full).splitlines()[2:] == [key + rest]
+    assert decode(Kind.FULL_STATUS_EXTENDED, full).splitlines()[2:] == [key + "all target ports: 1, " + rest]
 
 
 def test_the_sense_keys_are_those_of_spc_4() -> None:

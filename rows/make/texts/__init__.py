@@ -24,10 +24,12 @@ KINDS = {
     "sense": lambda data: [sense.line(data)],
 }
 
-# An extended disk has more kinds, and shows more fields of three.
+# An extended disk has more kinds, and shows more fields of five.
 EXTENDED_KINDS = KINDS | {
     "inq": inquiry.extended_text,
     "vpd": vital.extended_text,
+    "caps": reservations.extended_capabilities,
+    "full": reservations.extended_full_status,
     "sense": lambda data: [sense.line_of_any_error(data)],
     "luns": reports.luns,
     "opcodes": reports.opcodes,

@@ -17,15 +17,21 @@ CAPABILITIES = [
     [("PTPL_C", "2.0")],
     [("TMV", "3.7"), ("PTPL_A", "3.0")],
 ]
+# An extended disk shows all their bits.
+EXTENDED_CAPABILITIES = [
+    [("RLR_C", "2.7"), ("CRH", "2.4"), ("SIP_C", "2.3"), ("ATP_C", "2.2"), ("PTPL_C", "2.0")],
+    [("TMV", "3.7"), ("ALLOW COMMANDS", "3.6-4"), ("PTPL_A", "3.0")],
+]
 TYPES = [
     ("WE", "4.1"), ("EA", "4.3"), ("WE-RO", "4.5"), ("EA-RO", "4.6"), ("WE-AR", "4.7"),
     ("EA-AR", "5.0"),
 ]
 
 # A descriptor of READ FULL STATUS (SPC-4, 6.15.5), before its TransportID.
-REGISTRANT = KEY + [
-    ("holder", "12.0"), ("scope", "13.7-4"), ("type", "13.3-0"), ("port", "18-19"),
-]
+HELD = [("holder", "12.0"), ("scope", "13.7-4"), ("type", "13.3-0"), ("port", "18-19")]
+REGISTRANT = KEY + HELD
+# An extended disk shows ALL_TG_PT, too.
+EXTENDED_REGISTRANT = KEY + [("all target ports", "12.1")] + HELD
 
 
 def keys(data):
@@ -43,17 +49,17 @@ def reservation(data):
     yield from ["  no reservation"] if answer.end == 8 else answer.lines(RESERVATION)
 
 
-def capabilities(data):
+def capabilities(data, table=CAPABILITIES):
     """REPORT CAPABILITIES: LENGTH counts all bytes, its own two too."""
     answer = Answer(data, "0-1", least=2)
     yield f"  length: {answer.number('0-1')}"
     answer.end = answer.number("0-1")
-    yield from answer.lines(CAPABILITIES)
+    yield from answer.lines(table)
     mask = answer.take(0, 6)
     yield " ".join(["  types:"] + [name for name, bit in TYPES if number(mask, bit)])
 
 
-def full_status(data):
+def full_status(data, row=REGISTRANT):
     """READ FULL STATUS: a line for each descriptor, whose last bytes are the TransportID."""
     answer = Answer(data, "4-7", least=8)
     yield from answer.lines(HEADER)
@@ -61,5 +67,15 @@ def full_status(data):
     while at < answer.end:
         length = number(answer.take(at, 24), "20-23")
         whole = answer.take(at, 24 + length)
-        yield "  " + line(whole, REGISTRANT) + f", transport: {whole[24:].hex()}"
+        yield "  " + line(whole, row) + f", transport: {whole[24:].hex()}"
         at += len(whole)
+
+
+def extended_capabilities(data):
+    """REPORT CAPABILITIES as an extended disk shows it."""
+    return capabilities(data, EXTENDED_CAPABILITIES)
+
+
+def extended_full_status(data):
+    """READ FULL STATUS as an extended disk shows it."""
+    return full_status(data, EXTENDED_REGISTRANT)

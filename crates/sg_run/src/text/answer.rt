@@ -7,9 +7,10 @@ ghost use Rattle.sg_run.specs.AnswerText.{answer_text};
 
 use sg_decode::{
     GATHERED, GATHERED_TEXT, put_all_commands, put_capabilities, put_capacity_10, put_capacity_16,
-    put_defects_10, put_defects_12, put_extended_inquiry, put_extended_sense, put_extended_vpd,
-    put_full_status, put_hex_lines, put_inquiry, put_keys, put_lba_status, put_log_page, put_luns,
-    put_modes, put_one_command, put_reservation, put_sense, put_task_management, put_vpd,
+    put_defects_10, put_defects_12, put_extended_capabilities, put_extended_full_status,
+    put_extended_inquiry, put_extended_sense, put_extended_vpd, put_full_status, put_hex_lines,
+    put_inquiry, put_keys, put_lba_status, put_log_page, put_luns, put_modes, put_one_command,
+    put_reservation, put_sense, put_task_management, put_vpd,
 };
 use sg_tools::Show;
 use sg_wire::{CdbWidth, Printer, Watched};
@@ -53,6 +54,8 @@ pub(crate) fn put_answer<W: Write>(
         Show::Capacity16 => put_capacity_16(data_in, out),
         Show::Defects10 => put_defects_10(data_in, out),
         Show::Defects12 => put_defects_12(data_in, out),
+        Show::ExtendedCapabilities => put_extended_capabilities(data_in, out),
+        Show::ExtendedFullStatus => put_extended_full_status(data_in, out),
     }
 }
 

@@ -121,6 +121,8 @@ class Kind(IntEnum):
     CAPACITY_16 = 22
     DEFECTS_10 = 23
     DEFECTS_12 = 24
+    CAPABILITIES_EXTENDED = 25
+    FULL_STATUS_EXTENDED = 26
 
 
 class Slot(ctypes.Structure):

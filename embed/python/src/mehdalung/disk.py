@@ -153,9 +153,10 @@ def identity_of_seed(seed: int) -> IdentityRecord:
 KINDS = {
     (0x03, None): Kind.SENSE_EXTENDED, (0x1A, None): Kind.MODES_6, (0x25, None): Kind.CAPACITY_10,
     (0x37, None): Kind.DEFECTS_10, (0x4D, None): Kind.LOG_PAGE, (0x5A, None): Kind.MODES_10,
-    (0x5E, 0x00): Kind.KEYS, (0x5E, 0x01): Kind.RESERVATION, (0x5E, 0x02): Kind.CAPABILITIES,
-    (0x5E, 0x03): Kind.FULL_STATUS, (0x9E, 0x10): Kind.CAPACITY_16, (0x9E, 0x12): Kind.LBA_STATUS,
-    (0xA0, None): Kind.LUNS, (0xA3, 0x0D): Kind.TASK_MANAGEMENT, (0xB7, None): Kind.DEFECTS_12,
+    (0x5E, 0x00): Kind.KEYS, (0x5E, 0x01): Kind.RESERVATION,
+    (0x5E, 0x02): Kind.CAPABILITIES_EXTENDED, (0x5E, 0x03): Kind.FULL_STATUS_EXTENDED,
+    (0x9E, 0x10): Kind.CAPACITY_16, (0x9E, 0x12): Kind.LBA_STATUS, (0xA0, None): Kind.LUNS,
+    (0xA3, 0x0D): Kind.TASK_MANAGEMENT, (0xB7, None): Kind.DEFECTS_12,
 }
 
 

@@ -182,7 +182,8 @@ pub mod happening {
 
 /// Kinds of answers that [`mdl_decode`](crate::mdl_decode) prints, `mdl_kind`. A script on an
 /// extended disk shows `INQUIRY_EXTENDED` and the kinds after it; the first three are in the place
-/// of `INQUIRY`, `VPD` and `SENSE` there.
+/// of `INQUIRY`, `VPD` and `SENSE` there, and the last two in the place of `CAPABILITIES` and
+/// `FULL_STATUS`.
 pub mod kind {
     /// Bytes that are not printed.
     pub const NOTHING: u32 = 0;
@@ -234,4 +235,8 @@ pub mod kind {
     pub const DEFECTS_10: u32 = 23;
     /// Data of READ DEFECT DATA(12).
     pub const DEFECTS_12: u32 = 24;
+    /// Parameter data of REPORT CAPABILITIES, with all fields.
+    pub const CAPABILITIES_EXTENDED: u32 = 25;
+    /// Parameter data of READ FULL STATUS, with ALL_TG_PT.
+    pub const FULL_STATUS_EXTENDED: u32 = 26;
 }

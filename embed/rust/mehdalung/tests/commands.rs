@@ -4,7 +4,7 @@ mod largest;
 
 use mehdalung::commands::*;
 use mehdalung::lists::{reserve_out_list, unmap_list};
-use mehdalung::{kind, kind_of, profile, Disk, Error, GOOD};
+use mehdalung::{decode, kind, kind_of, profile, Disk, Error, GOOD};
 
 /// What REPORT SUPPORTED OPERATION CODES of an extended disk returns with a header of 4 bytes.
 fn reported(disk: &mut Disk, fields: ReportSupportedOperationCodes) -> Result<Vec<u8>, Error> {
@@ -225,8 +225,6 @@ fn a_reply_has_the_kind_that_a_tool_gives_it() -> Result<(), Error> {
         ("sg_logs -p 0ch", log_sense(0x0C, 0, 0, 100).to_vec()),
         ("sg_persist -k", persistent_reserve_in(reserve_in::READ_KEYS, 100).to_vec()),
         ("sg_persist -r", persistent_reserve_in(reserve_in::READ_RESERVATION, 100).to_vec()),
-        ("sg_persist -c", persistent_reserve_in(reserve_in::REPORT_CAPABILITIES, 100).to_vec()),
-        ("sg_persist -s", persistent_reserve_in(reserve_in::READ_FULL_STATUS, 100).to_vec()),
         ("sg_luns", report_luns(0, 100).to_vec()),
         ("sg_opcodes", report_supported_operation_codes(Default::default()).to_vec()),
         ("sg_opcodes -o 28h", report_supported_operation_codes(one).to_vec()),
@@ -238,6 +236,14 @@ fn a_reply_has_the_kind_that_a_tool_gives_it() -> Result<(), Error> {
         (inquiry(false, 0, 36).to_vec(), kind::INQUIRY_EXTENDED),
         (inquiry(true, 0x83, 252).to_vec(), kind::VPD_EXTENDED),
         (request_sense(false, 18).to_vec(), kind::SENSE_EXTENDED),
+        (
+            persistent_reserve_in(reserve_in::REPORT_CAPABILITIES, 8).to_vec(),
+            kind::CAPABILITIES_EXTENDED,
+        ),
+        (
+            persistent_reserve_in(reserve_in::READ_FULL_STATUS, 100).to_vec(),
+            kind::FULL_STATUS_EXTENDED,
+        ),
         (read_defect_data10(true, true, 0, 8).to_vec(), kind::DEFECTS_10),
         (read_defect_data12(true, true, 0, 8).to_vec(), kind::DEFECTS_12),
         (Vec::new(), kind::HEX),
@@ -247,4 +253,20 @@ fn a_reply_has_the_kind_that_a_tool_gives_it() -> Result<(), Error> {
     let printed = "GOOD\n  returned logical block address: 63\n  logical block length: 512";
     assert_eq!(disk.initiator(0).read_capacity10()?.to_string(), printed);
     Ok(())
+}
+
+#[test]
+fn the_kinds_of_an_extended_disk_have_all_fields_of_reservations() {
+    let capabilities = [0, 8, 0x0D, 0xB0, 0, 0, 0, 0];
+    let text = "  length: 8\n  RLR_C: 0, CRH: 0, SIP_C: 1, ATP_C: 1, PTPL_C: 1\n  \
+        TMV: 1, ALLOW COMMANDS: 3, PTPL_A: 0\n  types:\n";
+    assert_eq!(decode(kind::CAPABILITIES_EXTENDED, &capabilities).unwrap(), text);
+    let text = "  length: 8\n  PTPL_C: 1\n  TMV: 1, PTPL_A: 0\n  types:\n";
+    assert_eq!(decode(kind::CAPABILITIES, &capabilities).unwrap(), text);
+    let mut full = [0; 32];
+    (full[7], full[15], full[20], full[27]) = (24, 0xA1, 2, 1);
+    let text = decode(kind::FULL_STATUS_EXTENDED, &full).unwrap();
+    assert!(text.contains("  key: 0x00000000000000a1, all target ports: 1, holder: 0, "), "{text}");
+    let text = decode(kind::FULL_STATUS, &full).unwrap();
+    assert!(text.contains("  key: 0x00000000000000a1, holder: 0, "), "{text}");
 }

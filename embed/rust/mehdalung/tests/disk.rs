@@ -256,7 +256,7 @@ fn calls_are_refused() -> Result<(), Error> {
     assert_eq!(extended.execute(0, &INQUIRY, &[])?.status(), GOOD);
     let mut cut = Disk::with_profile(profile::EXTENDED_CUT, 64, 4, None)?;
     assert_eq!(cut.execute(0, &INQUIRY, &[])?.status(), GOOD);
-    assert_eq!(decode(kind::DEFECTS_12 + 1, &[]), None);
+    assert_eq!(decode(kind::FULL_STATUS_EXTENDED + 1, &[]), None);
     assert!(version().unwrap().starts_with("mehdalung "));
     Ok(())
 }

@@ -22,6 +22,11 @@ returns-in-FullStatusDescriptors g c =
     rw c.in-FullStatusDescriptors.is
     (one_line _ _ _ _ c.put_line-in-FullStatusDescriptors.ensures)
 
+pub returns-in-ExtendedFullStatusDescriptors : goal.returns-in-ExtendedFullStatusDescriptors
+returns-in-ExtendedFullStatusDescriptors g c =
+    rw c.in-ExtendedFullStatusDescriptors.is
+    (one_line _ _ _ _ c.put_line-in-ExtendedFullStatusDescriptors.ensures)
+
 pub returns-in-Luns : goal.returns-in-Luns
 returns-in-Luns g c =
     rw c.in-Luns.is (one_line _ _ _ _ c.put_line-in-Luns.ensures)
