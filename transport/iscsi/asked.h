@@ -1,9 +1,9 @@
 /* Which disk the path of a logical unit asks for. tgtadm takes it as the backing store.
  *
- *     blocks=4096:pool=16                          a disk of the base profile in memory
- *     blocks=8:pool=4:profile=extended:seed=0x2a   another one
- *     file=/srv/vm.disk                            the disk that a file has
- *     blocks=4096:pool=16:file=/srv/vm.disk        the same if it has these sizes; or a new one of them
+ *     blocks=4096:pool=16                      a disk of the extended profile in memory
+ *     blocks=8:pool=4:profile=base:seed=0x2a   one of the base profile
+ *     file=/srv/vm.disk                        the disk that a file has
+ *     blocks=4096:pool=16:file=/srv/vm.disk    the same if it has these sizes; or a new one of them
  *
  * The parts are in any order, except that the path of a file is the last. It begins with a slash. */
 #ifndef ASKED_H

@@ -161,7 +161,7 @@ static int execute(int tid, struct scsi_cmd *cmd)
     return status;
 }
 
-/* The seed of a new logical unit that asks for none. That of an extended disk is random. A base disk has
+/* The seed of a new logical unit that asks for none. An extended disk gets a random one. A base disk has
  * a number of its own in this tgtd: LUN 1 of target 1 has 1, which makes the standard identity. */
 static int choose_seed(const struct scsi_lu *lu, struct asked *asked)
 {
@@ -186,7 +186,8 @@ static mdl_error check_sizes(const struct asked *asked)
 }
 
 /* Makes the disk of a logical unit, or opens it. Returns 0 if that fails, with a text of why. The disk
- * that a file has keeps its names, if no seed is asked for. */
+ * that a file has keeps its names, if no seed is asked for, and its profile. A new one is an extended disk,
+ * if no profile is asked for. */
 static int make_disk(struct scsi_lu *lu, struct asked *asked, char *reason)
 {
     int is_new = !asked->file || is_without_disk(asked->file);
@@ -195,7 +196,7 @@ static int make_disk(struct scsi_lu *lu, struct asked *asked, char *reason)
     mdl_error error = check_sizes(asked);
 
     if (is_new && asked->profile == MDL_ANY_PROFILE)
-        asked->profile = MDL_PROFILE_BASE;
+        asked->profile = MDL_PROFILE_EXTENDED;
     wanted.profile = asked->profile;
     if (is_new && !choose_seed(lu, asked)) {
         strcpy(reason, "there are no random bytes for a seed");

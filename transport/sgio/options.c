@@ -164,8 +164,9 @@ const char *read_options(int count, char **words, int needs_socket, struct optio
         return fault;
     is_new = !options->disk || is_without_disk(options->disk);
     options->has_identity = is_new || has_option(count, words, names, sizeof names / sizeof names[0]);
+    /* Initiators are tested against the standards, which an extended disk follows more closely. */
     if (is_new && options->profile == MDL_ANY_PROFILE)
-        options->profile = MDL_PROFILE_BASE;
+        options->profile = MDL_PROFILE_EXTENDED;
     *word = "--seed";
     if (!make_identity(options, is_new))
         return "there are no random bytes to make it of";

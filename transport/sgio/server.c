@@ -3,9 +3,10 @@
  *     server --socket PATH [--disk FILE] [--blocks N] [--pool N] [--profile NAME]
  *            [--seed N] [--vendor TEXT] [--product TEXT] [--revision TEXT] [--serial TEXT] [--local N]
  *
- * The disk is in memory, or FILE keeps it. Blocks and pool have to be given, unless FILE has a disk. It
- * prints a line when it listens, and ends with status 0 on SIGTERM, SIGINT or SIGHUP. A disk in memory is
- * gone then, and one in a file is all there. The socket is gone. */
+ * The disk is in memory, or FILE keeps it. Blocks and pool have to be given, unless FILE has a disk. A new
+ * disk has the extended profile, unless NAME is another one. The program prints a line when it listens, and
+ * ends with status 0 on SIGTERM, SIGINT or SIGHUP. A disk in memory is gone then, and one in a file is all
+ * there. The socket is gone. */
 #include <errno.h>
 #include <stdio.h>
 #include <string.h>

@@ -3,11 +3,12 @@
  *     serve [--disk FILE] [--blocks N] [--pool N] [--profile NAME] [--seed N] [--vendor TEXT]
  *           [--product TEXT] [--revision TEXT] [--serial TEXT] [--local N] [--socket PATH] SOCKET ..
  *
- * Each SOCKET is an initiator of the disk, from 0 on, and serves one guest at a time. A base disk has at most
- * 8 of them, and an extended disk 64. PATH is a socket for `happen`, `power` and `join` of transport/sgio.
- * The disk is in memory, or FILE keeps it. Blocks and pool have to be given, unless FILE has a disk. It
- * prints a line for each socket when it listens, and ends with status 0 on SIGTERM, SIGINT or SIGHUP. A disk
- * in memory is gone then, and one in a file is all there. The sockets are gone. */
+ * Each SOCKET is an initiator of the disk, from 0 on, and serves one guest at a time. An extended disk has at
+ * most 64 of them, and a base disk 8. PATH is a socket for `happen`, `power` and `join` of transport/sgio.
+ * The disk is in memory, or FILE keeps it. Blocks and pool have to be given, unless FILE has a disk. A new
+ * disk has the extended profile, unless NAME is another one. The program prints a line for each socket when
+ * it listens, and ends with status 0 on SIGTERM, SIGINT or SIGHUP. A disk in memory is gone then, and one in
+ * a file is all there. The sockets are gone. */
 #include <errno.h>
 #include <inttypes.h>
 #include <poll.h>

@@ -1,7 +1,7 @@
 /* Sends random and malformed commands to a target, and compares each reply with the library's:
  *     compare URL BLOCKS POOL COUNT SEED
  *
- * The disk at URL is new and has these sizes. Eight initiators send COUNT commands. They have
+ * The disk at URL is a new base disk and has these sizes. Eight initiators send COUNT commands. They have
  * operation codes of all kinds with random fields, or wholly random CDBs. Parameter lists are
  * random, cut or too long. Some data has the wrong direction, and some Expected Data Transfer
  * Lengths are too short or too long. Between commands initiators reset the logical unit or the
