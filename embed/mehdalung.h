@@ -337,7 +337,7 @@ void mdl_free(mdl_disk *disk);
  *           REQUEST SENSE              18
  *           READ CAPACITY(16)          32
  *           INQUIRY                    76
- *           MODE SENSE                 80
+ *           MODE SENSE                112
  *           PERSISTENT RESERVE IN   3,080
  *           GET LBA STATUS          8,200
  *           LOG SENSE               1,284

@@ -329,7 +329,7 @@ static void refuse_paths(void)
 static void refuse_files(void)
 {
     static const char text[] = "This is a text, and it is longer than sixteen bytes.";
-    static const uint8_t versions[] = { 1, 2, 4 };
+    static const uint8_t versions[] = { 1, 2, 3, 5 };
     mdl_damage damage = { 1, 1 };
     size_t at, length;
 
@@ -339,13 +339,13 @@ static void refuse_files(void)
     write_block(1, 1, 0x08);
     WANT(mdl_close(&disk) == MDL_OK);
     length = read_bytes(name, bytes);
-    WANT(bytes[11] == 3);
+    WANT(bytes[11] == 4);
     for (at = 0; at < sizeof versions; at++) {
         bytes[11] = versions[at];
         write_bytes(copied, bytes, length);
         WANT(open_any(&disk, copied, &damage) == MDL_OTHER_VERSION && damage.offset == versions[at]);
     }
-    bytes[11] = 3;
+    bytes[11] = 4;
     bytes[12] ^= 1; /* the length of a sector */
     write_bytes(copied, bytes, length);
     WANT(open_any(&disk, copied, &damage) == MDL_DAMAGED_FILE);

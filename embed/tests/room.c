@@ -53,9 +53,9 @@ static const struct {
     { { 0x12, 1, 0xFF, 0, 36 }, 6, 0, MDL_CHECK_CONDITION },      /* a page that is not there */
     { { 0x03, 0, 0, 0, 17 }, 6, 17, MDL_GOOD },                   /* REQUEST SENSE */
     { { 0x03, 0, 0, 0, 252 }, 6, 18, MDL_GOOD },
-    { { 0x1A, 0, 0x3F, 0, 255 }, 6, 80, MDL_GOOD },               /* MODE SENSE(6) */
-    { { 0x5A, 0x10, 0x3F, [7] = 1, 2 }, 10, 80, MDL_GOOD },       /* MODE SENSE(10) */
-    { { 0x1A, 0, 0x3E, 0, 255 }, 6, 80, MDL_CHECK_CONDITION },    /* refused as it is executed */
+    { { 0x1A, 0, 0x3F, 0, 255 }, 6, 112, MDL_GOOD },              /* MODE SENSE(6) */
+    { { 0x5A, 0x10, 0x3F, [7] = 1, 2 }, 10, 112, MDL_GOOD },      /* MODE SENSE(10) */
+    { { 0x1A, 0, 0x3E, 0, 255 }, 6, 112, MDL_CHECK_CONDITION },   /* refused as it is executed */
     { { 0x25 }, 10, 8, MDL_GOOD },                                /* READ CAPACITY(10) */
     { { 0x9E, 0x10, [13] = 12 }, 16, 12, MDL_GOOD },              /* READ CAPACITY(16) */
     { { 0x9E, 0x10, [12] = 1 }, 16, 32, MDL_GOOD },

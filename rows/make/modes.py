@@ -5,33 +5,45 @@ from provisioning import BLOCK_LENGTH
 from sense import (
     MODE_PARAMETERS_CHANGED, invalid_field_in_parameter_list, parameter_list_length_error)
 
-# Of each page what comes after PAGE LENGTH: the default values, and the bits that can be changed.
+# Of each page, by PAGE CODE and SUBPAGE CODE, what comes after PAGE LENGTH: the default values, and the bits
+# that can be changed. The table is in ascending order.
 PAGES = {
     # Read-Write Error Recovery (SBC-3, 6.4): AWRE and ARRE, READ and WRITE RETRY COUNT
-    0x01: ("C0 08 00 00 00 00 08 00 00 00", "C0 FF 00 00 00 00 FF 00 00 00"),
+    (0x01, 0x00): ("C0 08 00 00 00 00 08 00 00 00", "C0 FF 00 00 00 00 FF 00 00 00"),
     # Caching (SBC-3, 6.4): WCE
-    0x08: ("04" + 17 * " 00", "04" + 17 * " 00"),
+    (0x08, 0x00): ("04" + 17 * " 00", "04" + 17 * " 00"),
     # Control (SPC-4, 7.5): D_SENSE, SWP
-    0x0A: ("00 00 00 00 00 00 00 00 00 00", "04 00 08 00 00 00 00 00 00 00"),
+    (0x0A, 0x00): ("00 00 00 00 00 00 00 00 00 00", "04 00 08 00 00 00 00 00 00 00"),
     # Informational Exceptions Control (SPC-4, 7.5): DEXCPT
-    0x1C: ("08 00 00 00 00 00 00 00 00 00", "00 00 00 00 00 00 00 00 00 00"),
+    (0x1C, 0x00): ("08 00 00 00 00 00 00 00 00 00", "00 00 00 00 00 00 00 00 00 00"),
+    # Logical Block Provisioning (SBC-3, 6.4): SITUA and reserved bytes, then two threshold descriptors. One
+    # is of resources that are available, 01h, and armed decreasing, 0. The other is of used ones, 02h, and
+    # armed increasing, 1. None of them is enabled, and both thresholds are soft.
+    (0x1C, 0x02): (12 * "00 " + "00 01 00 00 00 00 00 00 01 02 00 00 00 00 00 00", 28 * "00 "),
 }
-DEFAULT = {code: bytes.fromhex(default) for code, (default, _) in PAGES.items()}
-CHANGEABLE = {code: bytes.fromhex(bits) for code, (_, bits) in PAGES.items()}
+DEFAULT = {page: bytes.fromhex(default) for page, (default, _) in PAGES.items()}
+CHANGEABLE = {page: bytes.fromhex(bits) for page, (_, bits) in PAGES.items()}
+CONTROL = 0x0A, 0x00
+PAGES_OF = {
+    "base": [page for page in PAGES if page != (0x1C, 0x02)],
+    "extended": [*PAGES],
+}
 # The fields of several bytes: of each page, and of the short and the long block descriptor, the numbers
 # of the first and the last byte. What is reserved or obsolete counts as in the standards' figures: an
 # obsolete field of several bytes is a field, and a reserved byte is one by itself.
 PAGE_FIELDS = {
     # RECOVERY TIME LIMIT (SBC-3, 6.4)
-    0x01: ((10, 11),),
+    (0x01, 0x00): ((10, 11),),
     # DISABLE PRE-FETCH TRANSFER LENGTH, MINIMUM PRE-FETCH, MAXIMUM PRE-FETCH, MAXIMUM PRE-FETCH CEILING,
     # CACHE SEGMENT SIZE, and the obsolete NON CACHE SEGMENT SIZE (SBC-3, 6.4)
-    0x08: ((4, 5), (6, 7), (8, 9), (10, 11), (14, 15), (17, 19)),
+    (0x08, 0x00): ((4, 5), (6, 7), (8, 9), (10, 11), (14, 15), (17, 19)),
     # the obsolete READY AER HOLDOFF PERIOD, BUSY TIMEOUT PERIOD, EXTENDED SELF-TEST COMPLETION TIME
     # (SPC-4, 7.5)
-    0x0A: ((6, 7), (8, 9), (10, 11)),
+    (0x0A, 0x00): ((6, 7), (8, 9), (10, 11)),
     # INTERVAL TIMER, REPORT COUNT (SPC-4, 7.5)
-    0x1C: ((4, 7), (8, 11)),
+    (0x1C, 0x00): ((4, 7), (8, 11)),
+    # PAGE LENGTH of a page with a subpage code (SPC-4, 7.5); THRESHOLD COUNT, twice (SBC-3, 6.4)
+    (0x1C, 0x02): ((2, 3), (20, 23), (28, 31)),
 }
 # NUMBER OF LOGICAL BLOCKS, LOGICAL BLOCK LENGTH (SBC-3, 6.4.2)
 SHORT_DESCRIPTOR_FIELDS = ((0, 3), (5, 7))
@@ -39,6 +51,7 @@ LONG_DESCRIPTOR_FIELDS = ((0, 7), (12, 15))
 ALL_PAGES = 0x3F
 ALL_SUBPAGES = 0xFF
 PS = 0x80  # all pages can be saved
+SPF = 0x40  # a header of 4 bytes, with a subpage code
 WP, DPOFUA = 0x80, 0x10  # SBC-3, 6.4.1, the device-specific parameter
 LONGLBA = 0x01
 
@@ -54,14 +67,23 @@ class Modes:
 
     @property
     def d_sense(self):
-        return bool(self.current[0x0A][0] & 0x04)
+        return bool(self.current[CONTROL][0] & 0x04)
 
     @property
     def swp(self):
-        return bool(self.current[0x0A][2] & 0x08)
+        return bool(self.current[CONTROL][2] & 0x08)
 
     def values(self, page_control):
         return (self.current, CHANGEABLE, DEFAULT, self.saved)[page_control]
+
+
+def page_header(page):
+    """The first 2 or 4 bytes of a page, with PS 0 (SPC-4, 7.5)"""
+    code, subpage = page
+    length = len(DEFAULT[page])
+    if subpage:
+        return bytes([SPF | code, subpage]) + length.to_bytes(2, "big")
+    return bytes([code, length])
 
 
 def block_descriptor(device, long):
@@ -79,21 +101,36 @@ def is_of_six_bytes(command):
 # -------------------------------------------------------------------------------------- MODE SENSE
 
 
+def asked_pages(device, command):
+    """The pages that PAGE CODE and SUBPAGE CODE ask for, in ascending order (SPC-4, 6.13)
+
+    Subpage 00h asks for pages without a subpage code, and FFh for all pages. Any other subpage code has to
+    be one of the page. All pages, 3Fh, have no such subpage.
+    """
+    code, subpage = command["page_code"], command["subpage_code"]
+    pages = [page for page in PAGES_OF[device.profile] if code in (page[0], ALL_PAGES)]
+    if not pages:
+        raise command.unsupported("page_code")
+    if subpage == ALL_SUBPAGES:
+        return pages
+    pages = [page for page in pages if page[1] == subpage]
+    if not pages or subpage and code == ALL_PAGES:
+        raise command.unsupported("subpage_code")
+    return pages
+
+
 def mode_sense(device, _initiator, command, _data_out):
     """SPC-4, 6.13 and 6.14: a header (7.5.5), a block descriptor unless DBD is 1, pages
 
     LONGLBA says that the descriptor is the long one. Without a descriptor it is 0.
     """
-    if command["page_code"] not in (*PAGES, ALL_PAGES):
-        raise command.unsupported("page_code")
-    if command["subpage_code"] not in (0x00, ALL_SUBPAGES):
-        raise command.unsupported("subpage_code")
+    asked = asked_pages(device, command)
     long = not is_of_six_bytes(command) and command["llbaa"] and not command["dbd"]
     descriptor = b"" if command["dbd"] else block_descriptor(device, long)
     values = device.modes.values(command["pc"])
     pages = b"".join(
-        bytes([PS | code, len(values[code])]) + values[code]
-        for code in sorted(PAGES) if command["page_code"] in (code, ALL_PAGES))
+        bytes([PS | header[0]]) + header[1:] + values[page]
+        for page, header in zip(asked, map(page_header, asked)))
     specific = DPOFUA | (WP if device.modes.swp else 0)
     if is_of_six_bytes(command):
         after_length = bytes([0x00, specific, len(descriptor)])
@@ -197,23 +234,34 @@ def check_descriptor(device, parameters, place, length):
     return place + length
 
 
+def page_at(device, parameters, place):
+    """The page whose header is at `place`, which the page's own header has to equal. PS is ignored.
+
+    SPF of a code that has no subpage makes it unknown. A code has one page with SPF at most.
+    """
+    first = parameters[place] & ~PS
+    for page in PAGES_OF[device.profile]:
+        header = page_header(page)
+        if header[0] == first:
+            need_equal(parameters, place + 1, header[1:], to_fields(device, place, PAGE_FIELDS[page]))
+            return page
+    raise invalid_field_in_parameter_list(place)
+
+
 def pages_from(device, parameters, place):
-    """The pages of the list by their codes: of one that is sent twice the last one counts."""
+    """The pages of the list: of one that is sent twice the last one counts."""
     current = device.modes.current
     selected = {}  # all are compared with what they were before the command
     while place < len(parameters):
-        code = parameters[place] & ~PS
-        if code not in PAGES:  # an SPF of 1 makes it unknown, too
-            raise invalid_field_in_parameter_list(place)
-        length = len(DEFAULT[code])
-        need_equal(parameters, place + 1, bytes([length]))
-        pointer = to_fields(device, place, PAGE_FIELDS[code])
-        place += 2
+        page = page_at(device, parameters, place)
+        pointer = to_fields(device, place, PAGE_FIELDS[page])
+        place += len(page_header(page))
+        length = len(DEFAULT[page])
         sent = parameters[place:place + length]
-        values = zip(sent, current[code], CHANGEABLE[code])
+        values = zip(sent, current[page], CHANGEABLE[page])
         wanted = bytes(old & ~bits | new & bits for new, old, bits in values)
         need_equal(parameters, place, wanted, pointer)
         present(parameters, place + length)
-        selected[code] = sent
+        selected[page] = sent
         place += length
     return selected

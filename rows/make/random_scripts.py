@@ -8,7 +8,7 @@ import random
 
 from device import PROFILES, Device
 from layouts import LAYOUTS_OF
-from modes import CHANGEABLE, DEFAULT
+from modes import CHANGEABLE, DEFAULT, PAGES_OF, page_header
 from random_words import attention_words, fault_words, in_any_form, show_line, tool_line
 from reservations import ALL_TG_PT, INITIATORS, SPEC_I_PT, TYPES, UNREG, transport_id
 from script import Run
@@ -52,7 +52,10 @@ EXTENDED_LINES = (
     "sg_verify -l A -c N -i B", "sg_verify -l A -c N -E 3 -i B", "sg_compare_and_write -l A -i B",
     "sg_compare_and_write -l A -i B", "sg_write_same -l A -n N -i B", "sg_write_same -S -l A -n N -U",
     "sg_write_same --10 -l A -n N -i B", "sg_write_same -N -l A -n N", "sg_write_same -NUa -l A -n N",
+    "sg_modes -p 0x1c,2 -c 1", "sg_modes -p 63,255", "sg_modes --six -p 1ch,0ffh",
     "sg_start", "sg_start -s", "sg_start -S", "sg_start -p 3 -m 1")
+# Subpage codes of MODE SENSE and LOG SENSE, by profile.
+SUBPAGES = {"base": (0, 0, 0xFF), "extended": (0, 0, 0x02, 0xFF, 0xFF)}
 # Verbs of an extended disk
 HAPPENINGS = ("reset", "reset", "reset target", "nexus", "nexus", "grow", *4 * ("attention",),
               *7 * ("fault",), "faults", "faults", "heal", "heal")
@@ -241,7 +244,7 @@ class Script:
             "boundary": 0,
             "allocation_length": self.random.choice((0, 5, 18, 24, 40, 255, 255, 255)),
             "page_code": self.random.choice(pages),
-            "subpage_code": self.random.choice((0, 0, 0xFF)),
+            "subpage_code": self.random.choice(SUBPAGES[self.profile]),
             "parameter_pointer": self.random.choice((0, 0, 0, 1, 2, 3)),
             "pf": 1,
             "ndob": self.random.choice((0, 0, 1) if self.profile == "extended" else (0,)),
@@ -347,10 +350,11 @@ class Script:
             blocks = self.random.choice((0, min(self.capacity, 2**32 - 1), self.small()))
             data[header - 1] = 8
             data += blocks.to_bytes(4, "big") + (512).to_bytes(4, "big")
-        for code in self.random.sample(tuple(DEFAULT), self.random.choice((0, 1, 1, 2))):
-            page = [kept ^ self.random.randrange(256) & bits
-                    for kept, bits in zip(DEFAULT[code], CHANGEABLE[code])]
-            data += bytes([code, len(page), *page])
+        pages = PAGES_OF[self.profile]
+        for page in self.random.sample(pages, self.random.choice((0, 1, 1, 2))):
+            values = [kept ^ self.random.randrange(256) & bits
+                      for kept, bits in zip(DEFAULT[page], CHANGEABLE[page])]
+            data += page_header(page) + bytes(values)
         if self.is_rare(0.1):
             data[self.random.randrange(len(data))] ^= 1 << self.random.randrange(8)
         return bytes(data)

@@ -2,7 +2,7 @@
 use sg_changes::Sink;
 use std::marker::Model;
 
-/// Takes up to 1,024 bytes.
+/// Takes up to 4,096 bytes.
 #[derive(Drop)]
 pub struct Buffer {
     bytes: [u8; 4096],

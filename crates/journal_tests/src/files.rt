@@ -14,7 +14,7 @@ pub(crate) fn file_of_one_batch(alloc: Global) -> Result<Vec<u8>, AllocError>
     ensures { IfOk result (λ file. vec_len file ≡ 2048) }
 {
     let mut file = vec![in alloc; 0; 2048]?;
-    file[..16].copy_from_slice(b"MEHDDISK\0\0\0\x03\0\0\x02\0");
+    file[..16].copy_from_slice(b"MEHDDISK\0\0\0\x04\0\0\x02\0");
     file[512] = 1;
     file[1024 + 7] = 2;
     file[1024 + 11] = 22;

@@ -12,7 +12,7 @@ fn a_file_is_made_by_the_first_flush(rt: HostRuntime) -> Result<(), Fail> {
     journal.flush(&mut batch)?;
     let file = journal.device.bytes();
     assert_eq!(rt; file.len(), 4 * 4096);
-    assert!(rt; file.starts_with(b"MEHDDISK\0\0\0\x03\0\0\x10\0\0"));
+    assert!(rt; file.starts_with(b"MEHDDISK\0\0\0\x04\0\0\x10\0\0"));
     assert!(rt; file.get(4096..4098) == Some([1, 0].as_slice()));
     let body = [0, 0, 0, 0, 0, 0, 0, 2, 0, 0, 0, 22, 0, 0, 0, 15, 7, 8, 0];
     assert!(rt; file.get(8192..8211) == Some(body.as_slice()));

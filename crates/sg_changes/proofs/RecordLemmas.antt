@@ -32,12 +32,20 @@ pages-exact : IsExact pages
 unfolding pages
 pages-exact =
     renamed_exact
-    (λ p. record { error_recovery = p.0; caching = p.1.0; control = p.1.1.0; exceptions_control = p.1.1.1 })
-    (λ v. (v.error_recovery, (v.caching, (v.control, v.exceptions_control))))
-    (pair (plain 10) (pair (plain 18) (pair (plain 10) (plain 10))))
-    (pair_exact (plain 10) (pair (plain 18) (pair (plain 10) (plain 10))) (plain_exact 10)
-    (pair_exact (plain 18) (pair (plain 10) (plain 10)) (plain_exact 18)
-    (pair_exact (plain 10) (plain 10) (plain_exact 10) (plain_exact 10))))
+    (λ p. record {
+      error_recovery = p.0;
+      caching = p.1.0;
+      control = p.1.1.0;
+      exceptions_control = p.1.1.1.0;
+      provisioning = p.1.1.1.1;
+    })
+    (λ v. (v.error_recovery, (v.caching, (v.control, (v.exceptions_control, v.provisioning)))))
+    (pair (plain 10) (pair (plain 18) (pair (plain 10) (pair (plain 10) (plain 28)))))
+    (pair_exact (plain 10) (pair (plain 18) (pair (plain 10) (pair (plain 10) (plain 28))))
+    (plain_exact 10)
+    (pair_exact (plain 18) (pair (plain 10) (pair (plain 10) (plain 28))) (plain_exact 18)
+    (pair_exact (plain 10) (pair (plain 10) (plain 28)) (plain_exact 10)
+    (pair_exact (plain 10) (plain 28) (plain_exact 10) (plain_exact 28)))))
     (λ p. refl) (λ v. refl)
 
 abbrev Row : {X : Type 0} → Format X → (X → Change) → ℕ → Type 0

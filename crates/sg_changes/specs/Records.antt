@@ -25,7 +25,7 @@ fill = pair extent (plain block_length)
 unfoldable pub range : Format (ℕ × ℕ)
 range = pair (number 8) (number 8)
 
--- The values of page 01h 10, of page 08h 18, of page 0Ah 10, of page 1Ch 10.
+-- The values of page 01h 10, of page 08h 18, of page 0Ah 10, of page 1Ch 10, of page 1Ch/02h 28.
 unfoldable pub pages : Format PageValues
 pages =
     coded
@@ -33,10 +33,12 @@ pages =
       error_recovery = p.0;
       caching = p.1.0;
       control = p.1.1.0;
-      exceptions_control = p.1.1.1;
+      exceptions_control = p.1.1.1.0;
+      provisioning = p.1.1.1.1;
     }))
-    (λ (v : PageValues). Some (v.error_recovery, (v.caching, (v.control, v.exceptions_control))))
-    (pair (plain 10) (pair (plain 18) (pair (plain 10) (plain 10))))
+    (λ (v : PageValues).
+    Some (v.error_recovery, (v.caching, (v.control, (v.exceptions_control, v.provisioning)))))
+    (pair (plain 10) (pair (plain 18) (pair (plain 10) (pair (plain 10) (plain 28)))))
 
 -- CAPACITY 8.
 abbrev pub capacity : Format ℕ

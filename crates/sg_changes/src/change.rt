@@ -62,7 +62,7 @@ impl Change<'_> {
             Change::Fill { .. } => 525,
             Change::Unmap { .. } => 17,
             Change::Anchor { .. } => 13,
-            Change::Pages(_) => 49,
+            Change::Pages(_) => 77,
             Change::Reservations(_) => 583,
             Change::Faults(_) => 3289,
             Change::Grow { .. } => 9,

@@ -98,11 +98,13 @@ pub(crate) fn pages_at(bytes: &[u8]) -> Option<(PageValues, &[u8])>
     let (caching, rest) = array_at(rest)?;
     let (control, rest) = array_at(rest)?;
     let (exceptions_control, rest) = array_at(rest)?;
+    let (provisioning, rest) = array_at(rest)?;
     let values = PageValues {
         error_recovery: *error_recovery,
         caching: *caching,
         control: *control,
         exceptions_control: *exceptions_control,
+        provisioning: *provisioning,
     };
     Some((values, rest))
 }

@@ -95,13 +95,14 @@ pub(crate) fn put_optional_u8<S: Sink>(sink: &mut S, n: Option<u8>)
 /// The values of the mode pages.
 #[tactic(auto, unfolding(crate::specs::Records::pages))]
 pub(crate) fn put_pages<S: Sink>(sink: &mut S, values: &PageValues)
-    requires { 48 ≤ S.room sink.old }
-    ensures { Takes S.contents S.room pages 48 sink.old sink.new values.now }
+    requires { 76 ≤ S.room sink.old }
+    ensures { Takes S.contents S.room pages 76 sink.old sink.new values.now }
 {
     put_bytes(sink, &values.error_recovery);
     put_bytes(sink, &values.caching);
     put_bytes(sink, &values.control);
     put_bytes(sink, &values.exceptions_control);
+    put_bytes(sink, &values.provisioning);
 }
 
 /// A range: the first address, and the number of addresses.

@@ -190,26 +190,21 @@ reservation_key = part (codes "  key: ") (Address 0) ∷ []
 
 -- A full status descriptor of READ FULL STATUS, with its TransportID (SPC-4, 6.15.5). ALL_TG_PT is
 -- shown only by a script on an extended disk.
-abbrev full_status_descriptor : Line
-full_status_descriptor =
-    part (codes "  key: ") (Address 0)
-    ∷ part (codes ", holder: ") (Bits 12 0 0)
+abbrev from_holder : Line
+from_holder =
+    part (codes ", holder: ") (Bits 12 0 0)
     ∷ part (codes ", scope: ") (Bits 13 7 4)
     ∷ part (codes ", type: ") (Bits 13 3 0)
     ∷ part (codes ", port: ") (Number 18 2)
     ∷ part (codes ", transport: ") (HexFrom 24)
     ∷ []
 
+abbrev full_status_descriptor : Line
+full_status_descriptor = part (codes "  key: ") (Address 0) ∷ from_holder
+
 abbrev extended_full_status_descriptor : Line
 extended_full_status_descriptor =
-    part (codes "  key: ") (Address 0)
-    ∷ part (codes ", all target ports: ") (Bits 12 1 1)
-    ∷ part (codes ", holder: ") (Bits 12 0 0)
-    ∷ part (codes ", scope: ") (Bits 13 7 4)
-    ∷ part (codes ", type: ") (Bits 13 3 0)
-    ∷ part (codes ", port: ") (Number 18 2)
-    ∷ part (codes ", transport: ") (HexFrom 24)
-    ∷ []
+    part (codes "  key: ") (Address 0) ∷ part (codes ", all target ports: ") (Bits 12 1 1) ∷ from_holder
 
 -- A full status descriptor in a line.
 abbrev full_status_entry : Line → Entry

@@ -1,10 +1,11 @@
 -- The kinds of answers, in the order of their numbers in the header, from 0 on.
-use Rattle.std.specs.Prelude.{ℕ, ◌-◌, List, [], ◌∷◌, Option, slice_get, nat_lt, if◌then◌else◌}
+use Rattle.std.specs.Prelude.{ℕ, List, [], ◌∷◌, Option, slice_get}
 use Rattle.sg_tools.specs.declared.show.Show.{Show}
 use Rattle.sg_tools.specs.declared.show.Show.TheVariants as show
 
-abbrev pub base_kinds : List Show
-base_kinds =
+-- Only a script on an extended disk shows those from ExtendedInquiry on.
+abbrev pub kinds : List Show
+kinds =
     show.Nothing
     ∷ show.Hex
     ∷ show.Inquiry
@@ -18,12 +19,7 @@ base_kinds =
     ∷ show.Capabilities
     ∷ show.FullStatus
     ∷ show.Sense
-    ∷ []
-
--- The kinds that only a script on an extended disk shows, from 13 on.
-abbrev pub extended_kinds : List Show
-extended_kinds =
-    show.ExtendedInquiry
+    ∷ show.ExtendedInquiry
     ∷ show.ExtendedVpd
     ∷ show.ExtendedSense
     ∷ show.Luns
@@ -40,5 +36,4 @@ extended_kinds =
     ∷ []
 
 abbrev pub kind_numbered : ℕ → Option Show
-kind_numbered number =
-    if nat_lt number 13 then slice_get base_kinds number else slice_get extended_kinds (number - 13)
+kind_numbered number = slice_get kinds number

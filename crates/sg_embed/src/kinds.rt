@@ -1,10 +1,10 @@
 // The kinds of answers, by the numbers that the header has for C.
-ghost use Rattle.std.specs.Prelude.{◌≡◌, Some, slice_get};
-ghost use Rattle.sg_embed.specs.Kinds.{extended_kinds, kind_numbered};
+ghost use Rattle.std.specs.Prelude.{◌≡◌, Some};
+ghost use Rattle.sg_embed.specs.Kinds.{kind_numbered};
 
 use sg_tools::Show;
 
-const BASE_KINDS: [Show; 13] = [
+const KINDS: [Show; 27] = [
     Show::Nothing,
     Show::Hex,
     Show::Inquiry,
@@ -18,9 +18,6 @@ const BASE_KINDS: [Show; 13] = [
     Show::Capabilities,
     Show::FullStatus,
     Show::Sense,
-];
-
-const EXTENDED_KINDS: [Show; 14] = [
     Show::ExtendedInquiry,
     Show::ExtendedVpd,
     Show::ExtendedSense,
@@ -41,25 +38,13 @@ const EXTENDED_KINDS: [Show; 14] = [
 pub(crate) fn kind_numbered(number: u32) -> Option<Show>
     ensures { result ≡ kind_numbered number }
 {
-    let index = number as usize;
-    if index < 13 {
-        BASE_KINDS.get(index).copied()
-    } else {
-        extended_kind(index - 13)
-    }
-}
-
-/// The kind at a place of the kinds that only a script on an extended disk shows.
-fn extended_kind(index: usize) -> Option<Show>
-    ensures { result ≡ slice_get extended_kinds index }
-{
-    EXTENDED_KINDS.get(index).copied()
+    KINDS.get(number as usize).copied()
 }
 
 /// The number of a kind of answers.
 pub(crate) fn kind_number(show: Show) -> u32
     ensures { kind_numbered result ≡ Some show }
 {
-    // It has the same place in `Show` as in the two lists together.
+    // It has the same place in `Show` as in the list.
     show as u32
 }

@@ -17,7 +17,7 @@ use Rattle.sg_target.specs.declared.refusal.Reason.TheVariants.{UnitAttention as
 use Rattle.sg_target.specs.declared.refusal.Refusal.TheVariants.{CheckCondition}
 use Rattle.sg_target.proofs.LiftLemmas.{lifted, outcome-by}
 use Rattle.sg_fencing.specs.Laws.{OtherCommandsLeaveTheDisk, may_change_blocks}
-use Rattle.sg_fencing.proofs.OperationLemmas.{asked-reads, changes_blocks}
+use Rattle.sg_fencing.proofs.ReadLemmas.{asked-reads, changes_blocks}
 
 -- ---- An operation
 

@@ -7,7 +7,9 @@ mod ReserveOutLemmas
 mod OwnReserveOutLemmas
 -- From a command to its operation.
 mod OperationLemmas
+mod ReadLemmas
 mod DiskLemmas
+mod UnitLemmas
 mod SpaceLemmas
 mod WriteLemmas
 mod ExchangeLemmas
@@ -39,7 +41,7 @@ mod PreemptLemmas
 mod AgreeLemmas
 mod GroupLemmas
 mod InsideLemmas
--- Commands that only report.
+-- REPORT LUNS and LOG SENSE.
 mod ReportLemmas
 -- Lists of commands.
 mod RaceLemmas

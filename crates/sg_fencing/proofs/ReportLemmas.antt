@@ -1,163 +1,33 @@
--- A command that reports on the unit or tests it changes only conditions of its initiator. What REPORT LUNS
--- and LOG SENSE return.
-use Rattle.std.proofs.Common.{◌≡◌, ℕ, Bool, true, false, List, Option, Some, None, Result, Ok, Err}
-use Rattle.std.proofs.Common.{refl, sym, ap, subst, ◌∙◌, zero, suc, arith}
+-- What REPORT LUNS and LOG SENSE return.
+use Rattle.std.proofs.Common.{◌≡◌, ℕ, Bool, List, Option, Some, None, Result, Ok, Err}
+use Rattle.std.proofs.Common.{refl, ap, subst, zero, suc, arith}
 use Rattle.std.proofs.lemmas.Bool.Decides.{nat_tests}
 use Rattle.std.specs.FinMap.{len}
 use Rattle.std.specs.Prelude.{ok_or, ◌-◌}
 use Rattle.sg_wire.specs.FirstBytes.{first_bytes}
-use Rattle.sg_wire.specs.SupportedOperations.{requested_report}
 use Rattle.sg_wire.specs.declared.command.Command.{Command}
 use Rattle.sg_wire.specs.declared.command.Command.TheVariants as command
 use Rattle.sg_wire.specs.declared.command.diagnostic.LogSense.{LogSense}
 use Rattle.sg_wire.specs.declared.command.report.ReportLuns.{ReportLuns}
-use Rattle.sg_units.specs.declared.unit_attention.UnitAttention.TheVariants.{ReportedLunsDataChanged}
 use Rattle.sg_pages.specs.ProvisioningPages.{threshold_sets}
-use Rattle.sg_pages.specs.Reports.{extended_header_asked, lists_unit, log_page_data, log_page_with}
+use Rattle.sg_pages.specs.Reports.{lists_unit, log_page_data, log_page_with}
 use Rattle.sg_pages.specs.Reports.{report_data}
 use Rattle.sg_pages.specs.declared.reports.LogPage.{LogPage}
 use Rattle.sg_pages.specs.declared.reports.LogPage.TheVariants.{LogicalBlockProvisioning}
 use Rattle.sg_pages.specs.declared.reports.Report.TheVariants as report
 use Rattle.sg_target.specs.Charge.{step_by}
-use Rattle.sg_target.specs.Config.{ConfigFields}
 use Rattle.sg_target.specs.Demands.{demands, log_sense}
-use Rattle.sg_target.specs.Effect.{Effect, returning_up_to}
-use Rattle.sg_target.specs.ModeCommands.{mode_parameters}
-use Rattle.sg_target.specs.PrimaryCommands.{inquiry_page}
 use Rattle.sg_target.specs.Refusal.{or_refused, when_sound}
-use Rattle.sg_target.specs.Semantics.{effect_of}
 use Rattle.sg_target.specs.State.{State, config_of, profile_of, resources_of}
-use Rattle.sg_target.specs.Step.{Step, outcome, refused}
+use Rattle.sg_target.specs.Step.{Step}
 use Rattle.sg_target.specs.declared.operation.Operation.{Operation}
 use Rattle.sg_target.specs.declared.operation.Operation.TheVariants as operation
 use Rattle.sg_target.specs.declared.refusal.Reason.TheVariants.{InvalidFieldInCdb}
-use Rattle.sg_target.specs.declared.refusal.Reason.TheVariants.{UnitAttention as Attention}
-use Rattle.sg_target.specs.declared.refusal.Refusal.{Refusal}
 use Rattle.sg_target.specs.declared.refusal.Refusal.TheVariants.{CheckCondition}
 use Rattle.sg_target.specs.declared.reply.Status.TheVariants.{Good}
-use Rattle.sg_target.proofs.LiftLemmas.{lifted, not_good, outcome-by}
-use Rattle.sg_fencing.specs.Reports.{LeavesTheUnit, ReportsLeaveTheUnit, only_reports}
+use Rattle.sg_target.proofs.LiftLemmas.{lifted, not_good}
 use Rattle.sg_fencing.specs.Reports.{AsksForCounts, TheLogCountsThePool, TheOnlyUnitIsListed}
 use Rattle.sg_fencing.specs.Reports.{log_of_counts, luns_of}
-use Rattle.sg_fencing.proofs.HolderLemmas.{cleared-other, without-other}
-
--- ---- The operation
-
-abbrev reports : Operation → Bool
-reports operation.Nothing = true
-reports operation.TestReady = true
-reports (operation.ReturnSense format n) = true
-reports (operation.ReturnInquiry page n) = true
-reports (operation.ReturnModes request n) = true
-reports (operation.ReturnLuns listed n) = true
-reports (operation.ReturnReport report n) = true
-reports operation.ReturnCapacity10 = true
-reports (operation.ReturnCapacity16 n) = true
-reports (operation.ReturnLbaStatus start n) = true
-reports (operation.ReturnReservations action n) = true
-reports _ = false
-
-abbrev returned : Operation → Result Operation Refusal
-returned found = Ok found
-
-module _ (asked : Operation) where
-  direct : (found : Operation) → returned found ≡ Ok asked → reports found ≡ true
-      → reports asked ≡ true
-  direct found same h = cc
-
-  sound : {A : Type 0} (value : Result A Refusal) (becomes : A → Operation)
-      → ((a : A) → reports (becomes a) ≡ true) → when_sound value becomes ≡ Ok asked
-      → reports asked ≡ true
-  sound (Ok value) becomes h same = direct (becomes value) same (h value)
-  sound (Err refusal) becomes h same = cc
-
-asked-reports : (config : ConfigFields) (c : Command) (data_out : List ℕ) (asked : Operation)
-    → (demands config c data_out).operation ≡ Ok asked → only_reports (Ok c) ≡ true
-    → reports asked ≡ true
-asked-reports config (command.Inquiry c) data_out asked same h =
-    sound asked
-    (ok_or (inquiry_page config.identity.profile c.evpd c.page_code)
-    (CheckCondition (InvalidFieldInCdb 2)))
-    (λ page. operation.ReturnInquiry page c.allocation_length) (λ page. refl) same
-asked-reports config (command.LogSense c) data_out asked same h =
-    sound asked
-    (or_refused (λ byte. CheckCondition (InvalidFieldInCdb byte))
-    (log_page_with c.page_code c.subpage_code c.parameter_pointer))
-    (λ page. operation.ReturnReport (report.Log page c.parameter_pointer) c.allocation_length)
-    (λ page. refl) same
-asked-reports config (command.ReportLuns c) data_out asked same h =
-    sound asked (ok_or (lists_unit c.select) (CheckCondition (InvalidFieldInCdb 2)))
-    (λ listed. operation.ReturnLuns listed c.allocation_length) (λ listed. refl) same
-asked-reports config (command.ReportSupportedOperationCodes c) data_out asked same h =
-    sound asked
-    (ok_or (requested_report config.identity.profile c) (CheckCondition (InvalidFieldInCdb 2)))
-    (λ requested. operation.ReturnReport (report.Commands requested) c.allocation_length)
-    (λ requested. refl) same
-asked-reports config (command.ReportTargetPortGroups c) data_out asked same h =
-    sound asked (ok_or (extended_header_asked c.format) (CheckCondition (InvalidFieldInCdb 1)))
-    (λ header. operation.ReturnReport (report.TargetPortGroups header) c.allocation_length)
-    (λ header. refl) same
-asked-reports config c data_out asked same h = cc
-
--- ---- What it leaves
-
-module _ (state : State) (i : ℕ) where
-  abbrev Leaves : Result Effect Refusal → Type 0
-  Leaves (Ok effect) = LeavesTheUnit i state effect.after
-  Leaves (Err refusal) = Unit {0}
-
-  stays : LeavesTheUnit i state state
-  stays = record { rest = refl; others = λ other different. refl }
-
-  refused-leaves : (refusal : Refusal) → LeavesTheUnit i state (refused state i refusal).state
-  refused-leaves (CheckCondition (Attention condition)) = record {
-    rest = refl;
-    others = λ other different. cleared-other state.attentions other i (λ e. different (sym e));
-  }
-  refused-leaves _ = stays
-
-  modes-leave : (n : ℕ) (list : Result (List ℕ) Refusal)
-      → Leaves (when_sound list (returning_up_to state n))
-  modes-leave n (Ok list) = stays
-  modes-leave n (Err refusal) = tt
-
-  operation-leaves : (asked : Operation) → reports asked ≡ true → Leaves (effect_of state i asked)
-  operation-leaves (operation.ReturnSense format n) h = record {
-    rest = refl;
-    others = λ other different. cleared-other state.attentions other i (λ e. different (sym e));
-  }
-  operation-leaves (operation.ReturnModes request n) h =
-      modes-leave n (mode_parameters state.modes request)
-  operation-leaves (operation.ReturnLuns listed n) h = record {
-    rest = refl;
-    others =
-        λ other different. without-other state.attentions other i (λ e. different (sym e))
-        ReportedLunsDataChanged;
-  }
-  operation-leaves operation.Nothing h = stays
-  operation-leaves operation.TestReady h = stays
-  operation-leaves (operation.ReturnInquiry page n) h = stays
-  operation-leaves (operation.ReturnReport report n) h = stays
-  operation-leaves operation.ReturnCapacity10 h = stays
-  operation-leaves (operation.ReturnCapacity16 n) h = stays
-  operation-leaves (operation.ReturnLbaStatus start n) h = stays
-  operation-leaves (operation.ReturnReservations action n) h = stays
-  operation-leaves _ h = cc
-
-  effect-leaves : (effect : Result Effect Refusal) → Leaves effect
-      → LeavesTheUnit i state (outcome state i effect).state
-  effect-leaves (Ok effect) h =
-      outcome-by state i (λ (done : Step). LeavesTheUnit i state done.state) effect refused-leaves
-      (λ none. h)
-  effect-leaves (Err refusal) h = refused-leaves refusal
-
-pub reports-leave : ReportsLeaveTheUnit
-reports-leave state i cdb data_out is =
-    lifted state i cdb data_out (λ (done : Step). LeavesTheUnit i state done.state)
-    (refused-leaves state i)
-    (λ asked k. effect-leaves state i (effect_of state i asked)
-    (operation-leaves state i asked (asked-reports (config_of state) k.command data_out asked
-    k.operation_is (ap only_reports (sym k.command_is) ∙ is))))
 
 -- ---- REPORT LUNS
 

@@ -14,7 +14,7 @@ use Rattle.sg_store.specs.Disk.{Contents}
 use Rattle.sg_store.specs.LbaStatus.{status_at}
 use Rattle.sg_pages.specs.ModePage.{write_protected}
 use Rattle.sg_units.specs.Access.{allows}
-use Rattle.sg_units.specs.Attentions.{oldest, without_oldest}
+use Rattle.sg_units.specs.Attentions.{oldest, pending_for, without_oldest}
 use Rattle.sg_target.specs.BlockCommands.{bytes_of}
 use Rattle.sg_target.specs.Checks.{outranking_attention}
 use Rattle.sg_target.specs.CommandLaws.{AreUsed, blocks_to_write}
@@ -85,6 +85,28 @@ OtherCommandsLeaveTheDisk =
     (state : State) (initiator : ℕ) (cdb data_out : List ℕ)
     → may_change_blocks (command_of cdb) ≡ false
     → (step state initiator cdb data_out).state.disk ≡ state.disk
+
+-- The commands that may change the unit: those that may change blocks, MODE SELECT, PERSISTENT RESERVE
+-- OUT and START STOP UNIT.
+abbrev pub may_change_unit : Result Command CdbFault → Bool
+may_change_unit (Ok (command.ModeSelect6 c)) = true
+may_change_unit (Ok (command.ModeSelect10 c)) = true
+may_change_unit (Ok (command.PersistentReserveOut c)) = true
+may_change_unit (Ok (command.StartStopUnit c)) = true
+may_change_unit read = may_change_blocks read
+
+-- Nothing has changed but the conditions that are pending for one initiator.
+pub record LeavesTheUnit (initiator : ℕ) (before after : State) : Type 0 where
+  pub rest : after ≡ record before { attentions = after.attentions }
+  pub others : (other : ℕ) → other ≢ initiator
+      → pending_for after.attentions other ≡ pending_for before.attentions other
+
+-- Every other command only clears conditions that are pending for its initiator, whatever its answer is.
+abbrev pub OtherCommandsLeaveTheUnit : Type 0
+OtherCommandsLeaveTheUnit =
+    (state : State) (initiator : ℕ) (cdb data_out : List ℕ)
+    → may_change_unit (command_of cdb) ≡ false
+    → LeavesTheUnit initiator state (step state initiator cdb data_out).state
 
 -- A WRITE over addresses that are all mapped or anchored takes no more of the pool (SBC-3, 4.7.4).
 -- So no check refuses it for space: its answer is not SPACE ALLOCATION FAILED WRITE PROTECT, in

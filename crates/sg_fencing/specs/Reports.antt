@@ -1,54 +1,16 @@
--- Commands that report on the unit or test it (SPC-4, 6; SBC-3, 5): what they leave, the list of logical
--- units, and the log of the pool.
-use Rattle.std.specs.Prelude.{◌≡◌, ◌≢◌, ℕ, List, [], ◌∷◌, Bool, true, false, Result, Ok, ◌==◌}
-use Rattle.std.specs.Prelude.{if◌then◌else◌, ◌-◌, ◌++◌}
+-- Commands that report on the unit (SPC-4, 6): the list of logical units, and the log of the pool.
+use Rattle.std.specs.Prelude.{◌≡◌, ℕ, List, [], ◌∷◌, Ok, ◌==◌, if◌then◌else◌, ◌-◌, ◌++◌}
 use Rattle.std.specs.FinMap.{len}
 use Rattle.sg_wire.specs.CdbDecoding.{command_of}
 use Rattle.sg_wire.specs.Fields.{field, fields_bytes}
 use Rattle.sg_wire.specs.FirstBytes.{first_bytes}
-use Rattle.sg_wire.specs.declared.command.CdbFault.{CdbFault}
-use Rattle.sg_wire.specs.declared.command.Command.{Command}
 use Rattle.sg_wire.specs.declared.command.Command.TheVariants as command
 use Rattle.sg_wire.specs.declared.command.diagnostic.LogSense.{LogSense}
 use Rattle.sg_wire.specs.declared.command.report.ReportLuns.{ReportLuns}
 use Rattle.sg_pages.specs.ProvisioningPages.{threshold_sets}
-use Rattle.sg_units.specs.Attentions.{pending_for}
 use Rattle.sg_target.specs.State.{State, profile_of}
 use Rattle.sg_target.specs.Step.{step}
 use Rattle.sg_target.specs.declared.reply.Status.TheVariants.{Good}
-
--- ---- What they leave
-
-abbrev pub only_reports : Result Command CdbFault → Bool
-only_reports (Ok command.TestUnitReady) = true
-only_reports (Ok (command.RequestSense c)) = true
-only_reports (Ok (command.Inquiry c)) = true
-only_reports (Ok (command.ModeSense6 c)) = true
-only_reports (Ok (command.ModeSense10 c)) = true
-only_reports (Ok (command.LogSense c)) = true
-only_reports (Ok (command.ReportLuns c)) = true
-only_reports (Ok (command.ReportSupportedOperationCodes c)) = true
-only_reports (Ok (command.ReportSupportedTaskManagementFunctions c)) = true
-only_reports (Ok (command.ReportTargetPortGroups c)) = true
-only_reports (Ok (command.SendDiagnostic c)) = true
-only_reports (Ok command.ReadCapacity10) = true
-only_reports (Ok (command.ReadCapacity16 c)) = true
-only_reports (Ok (command.ReadDefectData10 c)) = true
-only_reports (Ok (command.ReadDefectData12 c)) = true
-only_reports (Ok (command.GetLbaStatus c)) = true
-only_reports (Ok (command.PersistentReserveIn c)) = true
-only_reports _ = false
-
--- Nothing has changed but the conditions that are pending for one initiator.
-pub record LeavesTheUnit (initiator : ℕ) (before after : State) : Type 0 where
-  pub rest : after ≡ record before { attentions = after.attentions }
-  pub others : (other : ℕ) → other ≢ initiator
-      → pending_for after.attentions other ≡ pending_for before.attentions other
-
-abbrev pub ReportsLeaveTheUnit : Type 0
-ReportsLeaveTheUnit =
-    (state : State) (initiator : ℕ) (cdb data_out : List ℕ) → only_reports (command_of cdb) ≡ true
-    → LeavesTheUnit initiator state (step state initiator cdb data_out).state
 
 -- ---- REPORT LUNS (SPC-4, 6.33)
 

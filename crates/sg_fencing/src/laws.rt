@@ -6,7 +6,8 @@ ghost use Rattle.sg_fencing.specs.Fencing.{OnlyPreemptionEnds, OthersSeeNoBlock}
 ghost use Rattle.sg_fencing.specs.Group.{EqualGroupViewsEndAlike, EqualGroupViewsRunAlike};
 ghost use Rattle.sg_fencing.specs.Group.{NewcomersAreSeen, OutsidersMayBeLeftOut};
 ghost use Rattle.sg_fencing.specs.Laws.{ConflictChangesNothing, OnlyReadsReturnData, OnlyWritesChangeBlocks};
-ghost use Rattle.sg_fencing.specs.Laws.{OtherCommandsLeaveTheDisk, RefusedByReservation};
+ghost use Rattle.sg_fencing.specs.Laws.{OtherCommandsLeaveTheDisk, OtherCommandsLeaveTheUnit};
+ghost use Rattle.sg_fencing.specs.Laws.{RefusedByReservation};
 ghost use Rattle.sg_fencing.specs.Laws.{RefusedChangesNothing, RefusedReturnsNothing};
 ghost use Rattle.sg_fencing.specs.Laws.{WritesOverUsedAddressesAreNeverRefusedForSpace};
 ghost use Rattle.sg_fencing.specs.Laws.{WritesThatNothingForbidsEndWithGood};
@@ -48,11 +49,18 @@ pub fn only_reads_return_data()
     remapping_takes_what_is_needed();
 }
 
-/// Only WRITE, WRITE SAME, COMPARE AND WRITE and UNMAP change blocks. Every other command leaves the
-/// disk as it was, whatever its answer is. SYNCHRONIZE CACHE and WRITE LONG do so too, although a
-/// reservation treats them as commands that write.
+/// Only WRITE, WRITE AND VERIFY, WRITE SAME, COMPARE AND WRITE, ORWRITE, WRITE ATOMIC, UNMAP, FORMAT UNIT
+/// and the erases of SANITIZE change blocks. Every other command leaves the disk as it was, whatever its
+/// answer is. SYNCHRONIZE CACHE and WRITE LONG do so too, although a reservation treats them as commands
+/// that write.
 pub fn other_commands_leave_the_disk()
     ensures { OtherCommandsLeaveTheDisk }
+{}
+
+/// Only these, MODE SELECT, PERSISTENT RESERVE OUT and START STOP UNIT change the unit. Every other
+/// command, whatever its answer is, only clears conditions that are pending for its initiator.
+pub fn other_commands_leave_the_unit()
+    ensures { OtherCommandsLeaveTheUnit }
 {}
 
 /// A WRITE whose addresses are all mapped or anchored takes no more of the pool. So no check

@@ -1,13 +1,5 @@
-//! Laws of the commands that report on the unit or test it.
-ghost use Rattle.sg_fencing.specs.Reports.{ReportsLeaveTheUnit, TheLogCountsThePool};
-ghost use Rattle.sg_fencing.specs.Reports.{TheOnlyUnitIsListed};
-
-/// A command that reports on the unit or tests it changes nothing, however it ends. It only clears
-/// conditions that are pending for its initiator: SEND DIAGNOSTIC, INQUIRY, MODE SENSE, LOG SENSE,
-/// PERSISTENT RESERVE IN and their like.
-pub fn reports_leave_the_unit()
-    ensures { ReportsLeaveTheUnit }
-{}
+//! Laws of the commands that report on the unit.
+ghost use Rattle.sg_fencing.specs.Reports.{TheLogCountsThePool, TheOnlyUnitIsListed};
 
 /// REPORT LUNS lists LUN 0 and nothing else, or nothing if it asks for well known logical units
 /// (SPC-4, 6.33).

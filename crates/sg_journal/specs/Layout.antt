@@ -17,7 +17,7 @@ abbrev pub magic : List ℕ
 magic = 77 ∷ 69 ∷ 72 ∷ 68 ∷ 68 ∷ 73 ∷ 83 ∷ 75 ∷ []
 
 abbrev pub format_version : ℕ
-format_version = 3
+format_version = 4
 
 -- The powers of two from 512 to 65,536.
 unfoldable pub is_sector_length : ℕ → Bool

@@ -20,7 +20,7 @@ pub const ROOM_AHEAD: usize = 1 << 18;
 pub(crate) const MAGIC: [u8; 8] = [77, 69, 72, 68, 68, 73, 83, 75];
 
 /// The version of the format.
-pub(crate) const FORMAT_VERSION: u32 = 3;
+pub(crate) const FORMAT_VERSION: u32 = 4;
 
 /// The length of the fields of a first sector: magic, version and sector length.
 pub(crate) const HEADER_LENGTH: usize = 16;

@@ -197,7 +197,7 @@ fn add_head<S: Store>(batch: &mut BatchSink, target: &Target<S>)
     requires sound { IsSoundDisk target.now.state.disk }
     requires limits { IsWithinLimits target.now.state }
     ensures begun { begun batch.new.records ≡ Some (kept_below (kept (disk_of target.now)) 0) }
-    ensures at_most { length batch.new.records ≤ 3980 }
+    ensures at_most { length batch.new.records ≤ 4008 }
     ensures sector { batch.new.sector ≡ batch.old.sector }
 {
     first_records_are_exact();

@@ -1,27 +1,32 @@
 -- The changes of an accepted list.
 use Rattle.std.proofs.Common.{◌≡◌, ℕ, ◌+◌, List, [], ◌∷◌, ◌++◌, length, drop, Bool, true, false}
-use Rattle.std.proofs.Common.{cond, refl, sym, ap, Option, ◌∙◌, map}
-use Rattle.std.specs.Prelude.{Some, Result, Ok, Err, bit_or, unwrap_or, ◌==◌}
+use Rattle.std.proofs.Common.{cond, refl, sym, ap, Option, ◌∙◌, map, suc, arith}
+use Rattle.std.specs.Prelude.{None, Result, Ok, Err, bit_or, unwrap_or, ◌==◌}
 use Rattle.std.specs.List.{flat_map}
 use Rattle.std.specs.Option.{option_map_or}
 use Rattle.std.specs.Result.{result_map_both}
 use Rattle.std.proofs.lemmas.Bool.{eq-eqb, eqb-true}
 use Rattle.std.proofs.lemmas.List.{drop-drop}
+use Rattle.sg_wire.specs.declared.profile.Profile.{Profile}
+use Rattle.sg_wire.specs.declared.profile.Profile.TheVariants.{Base, Extended}
 use Rattle.sg_wire.specs.declared.command.mode.CdbWidth.{CdbWidth}
 use Rattle.sg_pages.specs.declared.mode_pages.mode_page.ModePage.{ModePage}
 use Rattle.sg_pages.specs.declared.mode_pages.mode_page.ModePage.TheVariants.{ReadWriteErrorRecovery}
 use Rattle.sg_pages.specs.declared.mode_pages.mode_page.ModePage.TheVariants.{Caching, Control}
 use Rattle.sg_pages.specs.declared.mode_pages.mode_page.ModePage.TheVariants.{InformationalExceptionsControl}
+use Rattle.sg_pages.specs.declared.mode_pages.mode_page.ModePage.TheVariants.{LogicalBlockProvisioning}
 use Rattle.sg_pages.specs.declared.mode_pages.mode_page.PageValues.{PageValues}
 use Rattle.sg_pages.specs.declared.mode_pages.mode_select.ModeSelectFault.{ModeSelectFault}
-use Rattle.sg_pages.specs.ModePage.{ModeState, row_of, code_of, page_with_code, values_of}
-use Rattle.sg_pages.specs.ModePage.{by_page, page_bytes}
-use Rattle.sg_pages.specs.ModeSelect.{Part, sent_code, differences, truncation_of, faults_against}
+use Rattle.sg_pages.specs.ModePage.{ModeState, row_of, first_byte, has_page, page_with, values_of}
+use Rattle.sg_pages.specs.ModePage.{by_page, page_bytes, page_header, page_header_length}
+use Rattle.sg_pages.specs.ModeSelect.{Part, sent_first, differences, truncation_of, faults_against}
+use Rattle.sg_pages.specs.ModeSelect.{ignored_page_header_bits}
 use Rattle.sg_pages.specs.ModeSelect.{page_faults, header_faults, descriptor_faults, list_faults}
 use Rattle.sg_pages.specs.ModeSelect.{pages_in, first_fault, unless_fault, last_sent, values_after}
 use Rattle.sg_pages.specs.ModeSelect.{selected_values, saved_after}
-use Rattle.sg_pages.specs.ModeLaws.{OnlyChangeableBitsChange}
+use Rattle.sg_pages.specs.ModeLaws.{EachPageIsFound, OnlyChangeableBitsChange}
 use Rattle.sg_pages.proofs.FaultLemmas.{differences-nil}
+use Rattle.sg_pages.proofs.PageHeaderLemmas.{mask-length}
 use Rattle.sg_pages.proofs.SentPagesLemmas.{last_sent-cons}
 
 -- ---- Lists without offsets
@@ -76,69 +81,109 @@ tail-nil offset o i expected ignored (x ∷ xs) e = by (bit_or x i == bit_or o i
     by true e = e
     by false e = cc
 
+-- after the first piece
+piece-nil : (offset : ℕ) (head more ignored others bytes : List ℕ) → length ignored ≡ length head
+    → differences offset (head ++ more) (ignored ++ others) bytes ≡ []
+    → differences (length head) more others (drop (length head) bytes) ≡ []
+piece-nil offset [] more [] others bytes same e = differences-at offset 0 more others bytes e
+piece-nil offset [] more (i ∷ ignored) others bytes same e = absurd (omega arith)
+piece-nil offset (h ∷ head) more [] others bytes same e = absurd (omega arith)
+piece-nil offset (h ∷ head) more (i ∷ ignored) others bytes same e =
+    let k = length head in
+    let rest = piece-nil (offset + 1) head more ignored others (drop 1 bytes) (omega arith)
+    (tail-nil offset h i (head ++ more) (ignored ++ others) bytes e) in
+    let far : 1 + k ≡ suc k = omega arith in
+    ap (λ n. differences (suc k) more others (drop n bytes)) (sym far)
+    ∙ (ap (differences (suc k) more others) (sym (drop-drop k 1 bytes))
+    ∙ differences-at k (suc k) more others (drop k (drop 1 bytes)) rest)
+
 -- ---- The values of a page
 
 -- they differ only in bits that can be changed
 abbrev Kept : PageValues → ModePage → List ℕ → Type 0
 Kept current page values =
-    differences 2 (values_of current page) (row_of page).changeable values ≡ []
+    differences (page_header_length page) (values_of current page) (row_of page).changeable values ≡ []
 
-sent-kept : (points : Bool) (current : PageValues) (sent : Part) (page : ModePage)
-    → faults_against points current sent page ≡ [] → Kept current page (drop 2 sent.bytes)
+sent-kept : (profile : Profile) (current : PageValues) (sent : Part) (page : ModePage)
+    → faults_against profile current sent page ≡ []
+    → Kept current page (drop (page_header_length page) sent.bytes)
 unfolding page_bytes
-sent-kept points current sent page e =
+sent-kept profile current sent page e =
     let own = values_of current page in
-    let mask = (row_of page).changeable in
-    let expected : List ℕ = (0x80 + code_of page) ∷ length own ∷ own in
-    let all = differences sent.offset expected (0x80 ∷ 0x00 ∷ mask) sent.bytes in
-    let first = tail-nil sent.offset (0x80 + code_of page) 0x80 (length own ∷ own) (0x00 ∷ mask)
-    sent.bytes (unmapped _ all (starts-nil _ (truncation_of sent) e)) in
-    let second = tail-nil (sent.offset + 1) (length own) 0x00 own mask (drop 1 sent.bytes) first in
-    ap (differences 2 own mask) (sym (drop-drop 1 1 sent.bytes))
-    ∙ differences-at (sent.offset + 1 + 1) 2 own mask (drop 1 (drop 1 sent.bytes)) second
+    let mask = ignored_page_header_bits page in
+    let all = differences sent.offset (page_header page ++ own) (mask ++ (row_of page).changeable)
+    sent.bytes in
+    piece-nil sent.offset (page_header page) own mask (row_of page).changeable sent.bytes
+    (mask-length page) (unmapped _ all (starts-nil _ (truncation_of sent) e))
 
-found : (page : ModePage) → page_with_code (code_of page) ≡ Some page
-found ReadWriteErrorRecovery = refl
-found Caching = refl
-found Control = refl
-found InformationalExceptionsControl = refl
+-- the first byte of a page names this page, or no page if the disk does not have it
+pub page-found : EachPageIsFound
+page-found profile ReadWriteErrorRecovery h = refl
+page-found profile Caching h = refl
+page-found profile Control h = refl
+page-found profile InformationalExceptionsControl h = refl
+page-found Base LogicalBlockProvisioning h = cc
+page-found Extended LogicalBlockProvisioning h = refl
 
-known-kept : (points : Bool) (current : PageValues) (sent : Part) (page : ModePage)
-    → page_faults points current sent ≡ [] → (sent_code sent == code_of page) ≡ true
-    → Kept current page (drop 2 sent.bytes)
-known-kept points current sent page e same =
-    let known : page_with_code (sent_code sent) ≡ Some page =
-    ap page_with_code (eqb-true (sent_code sent) (code_of page) same) ∙ found page in
-    sent-kept points current sent page
-    (sym (ap (λ o. option_map_or (faults_against points current sent) o (sent.offset ∷ [])) known) ∙ e)
+not-found : (profile : Profile) (page : ModePage) → has_page profile page ≡ false
+    → page_with profile (first_byte page) ≡ None
+not-found profile ReadWriteErrorRecovery h = cc
+not-found profile Caching h = cc
+not-found profile Control h = cc
+not-found profile InformationalExceptionsControl h = cc
+not-found Base LogicalBlockProvisioning h = refl
+not-found Extended LogicalBlockProvisioning h = cc
 
-next-kept : (points : Bool) (current : PageValues) (sent : Part) (page : ModePage) (values : List ℕ)
-    → page_faults points current sent ≡ [] → Kept current page values
-    → Kept current page (cond (sent_code sent == code_of page) (drop 2 sent.bytes) values)
-next-kept points current sent page values e k = by (sent_code sent == code_of page) refl
+known-kept : (profile : Profile) (current : PageValues) (sent : Part) (page : ModePage)
+    → page_faults profile current sent ≡ [] → (sent_first sent == first_byte page) ≡ true
+    → Kept current page (drop (page_header_length page) sent.bytes)
+known-kept profile current sent page e same = by (has_page profile page) refl
   where
-    by : (c : Bool) → (sent_code sent == code_of page) ≡ c
-        → Kept current page (cond c (drop 2 sent.bytes) values)
-    by true same = known-kept points current sent page e same
+    at : Option ModePage → List ℕ
+    at o = option_map_or (faults_against profile current sent) o (sent.offset ∷ [])
+
+    named : page_with profile (sent_first sent) ≡ page_with profile (first_byte page)
+    named = ap (page_with profile) (eqb-true (sent_first sent) (first_byte page) same)
+
+    not-nil : (sent.offset ∷ []) ≡ [] → ⊥
+    not-nil none = cc
+
+    by : (c : Bool) → has_page profile page ≡ c
+        → Kept current page (drop (page_header_length page) sent.bytes)
+    by true there =
+        sent-kept profile current sent page (sym (ap at (named ∙ page-found profile page there)) ∙ e)
+    by false none = absurd (not-nil (sym (ap at (named ∙ not-found profile page none)) ∙ e))
+
+next-kept : (profile : Profile) (current : PageValues) (sent : Part) (page : ModePage) (values : List ℕ)
+    → page_faults profile current sent ≡ [] → Kept current page values
+    → Kept current page
+    (cond (sent_first sent == first_byte page) (drop (page_header_length page) sent.bytes) values)
+next-kept profile current sent page values e k = by (sent_first sent == first_byte page) refl
+  where
+    by : (c : Bool) → (sent_first sent == first_byte page) ≡ c
+        → Kept current page (cond c (drop (page_header_length page) sent.bytes) values)
+    by true same = known-kept profile current sent page e same
     by false other = k
 
-last-kept : (points : Bool) (current : PageValues) (page : ModePage) (parts : List Part) (values : List ℕ)
-    → flat_map (page_faults points current) parts ≡ [] → Kept current page values
-    → Kept current page (unwrap_or (last_sent (code_of page) parts) values)
-last-kept points current page [] values e k = k
-last-kept points current page (sent ∷ parts) values e k =
-    let others = flat_map (page_faults points current) parts in
-    let next = cond (sent_code sent == code_of page) (drop 2 sent.bytes) values in
-    ap (differences 2 (values_of current page) (row_of page).changeable)
-    (last_sent-cons (code_of page) sent parts values)
-    ∙ last-kept points current page parts next (ends-nil (page_faults points current sent) others e)
-    (next-kept points current sent page values (starts-nil (page_faults points current sent) others e) k)
+last-kept : (profile : Profile) (current : PageValues) (page : ModePage) (parts : List Part) (values : List ℕ)
+    → flat_map (page_faults profile current) parts ≡ [] → Kept current page values
+    → Kept current page (unwrap_or (last_sent page parts) values)
+last-kept profile current page [] values e k = k
+last-kept profile current page (sent ∷ parts) values e k =
+    let others = flat_map (page_faults profile current) parts in
+    let next =
+    cond (sent_first sent == first_byte page) (drop (page_header_length page) sent.bytes) values in
+    ap (differences (page_header_length page) (values_of current page) (row_of page).changeable)
+    (last_sent-cons page sent parts values)
+    ∙ last-kept profile current page parts next (ends-nil (page_faults profile current sent) others e)
+    (next-kept profile current sent page values (starts-nil (page_faults profile current sent) others e) k)
 
 of-rule : (rule : ModePage → List ℕ) (page : ModePage) → values_of (by_page rule) page ≡ rule page
 of-rule rule ReadWriteErrorRecovery = refl
 of-rule rule Caching = refl
 of-rule rule Control = refl
 of-rule rule InformationalExceptionsControl = refl
+of-rule rule LogicalBlockProvisioning = refl
 
 -- ---- A list that is accepted
 
@@ -149,11 +194,11 @@ no-fault n [] values after e = (refl, cc)
 no-fault n (offset ∷ offsets) values after e = absurd (cc)
 
 values-kept : (current after : PageValues) (width : CdbWidth) (blocks : Option ℕ)
-    (points : Bool) (list : List ℕ) (page : ModePage)
-    → selected_values current width blocks points list ≡ Ok after
+    (profile : Profile) (list : List ℕ) (page : ModePage)
+    → selected_values current width blocks profile list ≡ Ok after
     → Kept current page (values_of after page)
 unfolding selected_values
-values-kept current after width blocks points list page e = by (length list == 0) e
+values-kept current after width blocks profile list page e = by (length list == 0) e
   where
     own : List ℕ
     own = values_of current page
@@ -161,35 +206,38 @@ values-kept current after width blocks points list page e = by (length list == 0
     mask : List ℕ
     mask = (row_of page).changeable
 
+    start : ℕ
+    start = page_header_length page
+
     parts : List Part
     parts = pages_in width list
 
     all : List ℕ
-    all = list_faults current width blocks points list
+    all = list_faults current width blocks profile list
 
     to : (values : PageValues) → values ≡ after → Kept current page (values_of values page)
         → Kept current page (values_of after page)
     to values same k =
-        ap (λ (v : PageValues). differences 2 own mask (values_of v page)) (sym same) ∙ k
+        ap (λ (v : PageValues). differences start own mask (values_of v page)) (sym same) ∙ k
 
     by : (c : Bool)
         → cond c (Ok current) (unless_fault (first_fault (length list) all) (values_after current parts))
         ≡ Ok after → Kept current page (values_of after page)
     by true e =
         let same : current ≡ after = cc in
-        to current same (differences-self 2 own mask)
+        to current same (differences-self start own mask)
     by false e =
         let none = no-fault (length list) all (values_after current parts) after e in
-        let pages = flat_map (page_faults points current) parts in
+        let pages = flat_map (page_faults profile current) parts in
         let behind =
-        ends-nil (header_faults width list) (descriptor_faults width blocks points list ++ pages)
+        ends-nil (header_faults width list) (descriptor_faults width blocks profile list ++ pages)
         none.0 in
-        let sent = ends-nil (descriptor_faults width blocks points list) pages behind in
+        let sent = ends-nil (descriptor_faults width blocks profile list) pages behind in
         let rule : ModePage → List ℕ =
-        λ p. unwrap_or (last_sent (code_of p) parts) (values_of current p) in
+        λ p. unwrap_or (last_sent p parts) (values_of current p) in
         to (values_after current parts) none.1
-        (ap (differences 2 own mask) (of-rule rule page)
-        ∙ last-kept points current page parts own sent (differences-self 2 own mask))
+        (ap (differences start own mask) (of-rule rule page)
+        ∙ last-kept profile current page parts own sent (differences-self start own mask))
 
 selected-ok : (save : Bool) (before after : ModeState) (r : Result PageValues ModeSelectFault)
     → result_map_both (saved_after save before) (λ fault. fault) r ≡ Ok after
@@ -200,6 +248,6 @@ selected-ok save before after (Ok values) e =
 selected-ok save before after (Err fault) e = cc
 
 pub only_changeable : OnlyChangeableBitsChange
-only_changeable before after list width save blocks points page e =
-    values-kept before.current after.current width blocks points list page
-    (selected-ok save before after (selected_values before.current width blocks points list) e)
+only_changeable before after list width save blocks profile page e =
+    values-kept before.current after.current width blocks profile list page
+    (selected-ok save before after (selected_values before.current width blocks profile list) e)

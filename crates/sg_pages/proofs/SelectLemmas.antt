@@ -7,6 +7,7 @@ use Rattle.std.specs.List.{flat_map}
 use Rattle.std.specs.Option.{option_or, option_map}
 use Rattle.std.proofs.lemmas.Bool.{lt-ltb, le-ltb, ltb-true, eqb-true, ne_eqb, cases_lt, or_cases}
 use Rattle.std.proofs.lemmas.List.{length-take, take-take, append-nil}
+use Rattle.sg_wire.specs.declared.profile.Profile.{Profile}
 use Rattle.sg_wire.specs.declared.command.mode.CdbWidth.{CdbWidth}
 use Rattle.sg_wire.specs.declared.command.mode.CdbWidth.TheVariants.{Six, Ten}
 use Rattle.sg_pages.specs.declared.mode_pages.mode_select.ModeSelectFault.{ModeSelectFault}
@@ -129,39 +130,39 @@ other-length width list whole e =
 -- ---- The block descriptor
 
 -- the faults of a descriptor, by the bytes of its number of blocks
-abbrev against : (offset : ℕ) (blocks : Option ℕ) (points : Bool) (list : List ℕ)
+abbrev against : (offset : ℕ) (blocks : Option ℕ) (profile : Profile) (list : List ℕ)
     → (long : Bool) (size : ℕ) (number : List ℕ) → List ℕ
-against offset blocks points list long size number =
-    field_faults (pointed_fields points (descriptor_fields long))
+against offset blocks profile list long size number =
+    field_faults (pointed_fields profile (descriptor_fields long))
     (block_descriptor long (accepted_blocks blocks number))
     (ignored_descriptor_bits long blocks) (part_at offset size list)
 
-pub descriptor_faults-at : (width : CdbWidth) (long : Bool) (blocks : Option ℕ) (points : Bool)
+pub descriptor_faults-at : (width : CdbWidth) (long : Bool) (blocks : Option ℕ) (profile : Profile)
     (size : ℕ) (list : List ℕ)
     → has_longlba width list ≡ long → block_descriptor_length width list ≡ size
     → number_length long ≤ size →
-    descriptor_faults width blocks points list
-    ≡ against (header_length width) blocks points list long size
+    descriptor_faults width blocks profile list
+    ≡ against (header_length width) blocks profile list long size
     (take (number_length long) (drop (header_length width) list))
-descriptor_faults-at width long blocks points size list e f h =
+descriptor_faults-at width long blocks profile size list e f h =
     let rest = drop (header_length width) list in
-    ap (λ l. against (header_length width) blocks points list l (block_descriptor_length width list)
+    ap (λ l. against (header_length width) blocks profile list l (block_descriptor_length width list)
     (take (number_length l) (take (block_descriptor_length width list) rest))) e
-    ∙ (ap (λ n. against (header_length width) blocks points list long n
+    ∙ (ap (λ n. against (header_length width) blocks profile list long n
     (take (number_length long) (take n rest))) f
-    ∙ ap (against (header_length width) blocks points list long size)
+    ∙ ap (against (header_length width) blocks profile list long size)
     (take-take (number_length long) size rest h))
 
 -- no descriptor
-pub no-descriptor : (width : CdbWidth) (blocks : Option ℕ) (points : Bool) (list : List ℕ)
+pub no-descriptor : (width : CdbWidth) (blocks : Option ℕ) (profile : Profile) (list : List ℕ)
     → block_descriptor_length width list ≡ 0
-    → first_fault (length list) (descriptor_faults width blocks points list) ≡ None
+    → first_fault (length list) (descriptor_faults width blocks profile list) ≡ None
 unfolding first_fault
-no-descriptor width blocks points list e =
+no-descriptor width blocks profile list e =
     let expected = λ (sent : List ℕ). block_descriptor (has_longlba width list)
     (accepted_blocks blocks (take (number_length (has_longlba width list)) sent)) in
     let ignored = ignored_descriptor_bits (has_longlba width list) blocks in
-    let fields = pointed_fields points (descriptor_fields (has_longlba width list)) in
+    let fields = pointed_fields profile (descriptor_fields (has_longlba width list)) in
     let rest = drop (header_length width) list in
     ap (λ n. let bytes = take n rest in
     first_fault (length list) (field_faults fields (expected bytes) ignored
@@ -199,28 +200,28 @@ announced-16 width list e h k =
     (long-by (block_descriptor_length width list) (has_longlba width list)
     (announced-long width list e h)).1 k
 
-pub short-faults : (width : CdbWidth) (blocks : Option ℕ) (points : Bool) (list : List ℕ)
+pub short-faults : (width : CdbWidth) (blocks : Option ℕ) (profile : Profile) (list : List ℕ)
     → is_descriptor_length width list ≡ true
     → block_descriptor_length width list ≡ 8 →
-    descriptor_faults width blocks points list
-    ≡ field_faults (pointed_fields points (descriptor_fields false)) (block_descriptor false
+    descriptor_faults width blocks profile list
+    ≡ field_faults (pointed_fields profile (descriptor_fields false)) (block_descriptor false
     (accepted_blocks blocks (take 4 (drop (header_length width) list))))
     (ignored_descriptor_bits false blocks) (part_at (header_length width) 8 list)
 unfolding block_descriptor
-short-faults width blocks points list e h =
-    descriptor_faults-at width false blocks points 8 list (announced-8 width list e h) h (omega arith)
+short-faults width blocks profile list e h =
+    descriptor_faults-at width false blocks profile 8 list (announced-8 width list e h) h (omega arith)
 
-pub long-faults : (width : CdbWidth) (blocks : Option ℕ) (points : Bool) (list : List ℕ)
+pub long-faults : (width : CdbWidth) (blocks : Option ℕ) (profile : Profile) (list : List ℕ)
     → is_descriptor_length width list ≡ true
     → (block_descriptor_length width list ≡ 0 → ⊥) → (block_descriptor_length width list ≡ 8 → ⊥) →
-    descriptor_faults width blocks points list
-    ≡ field_faults (pointed_fields points (descriptor_fields true)) (block_descriptor true
+    descriptor_faults width blocks profile list
+    ≡ field_faults (pointed_fields profile (descriptor_fields true)) (block_descriptor true
     (accepted_blocks blocks (take 8 (drop (header_length width) list))))
     (ignored_descriptor_bits true blocks) (part_at (header_length width) 16 list)
 unfolding block_descriptor
-long-faults width blocks points list e h k =
+long-faults width blocks profile list e h k =
     let long = announced-16 width list e h k in
-    descriptor_faults-at width true blocks points 16 list long.0 long.1 (omega arith)
+    descriptor_faults-at width true blocks profile 16 list long.0 long.1 (omega arith)
 
 -- ---- The three together
 
@@ -238,23 +239,23 @@ header_faults-below width list =
     (length_offset width) (header_length width) (offset-inside width))
 
 pub faults-split : (current : PageValues) (width : CdbWidth) (blocks : Option ℕ)
-    (points : Bool) (list : List ℕ)
-    → first_fault (length list) (list_faults current width blocks points list)
+    (profile : Profile) (list : List ℕ)
+    → first_fault (length list) (list_faults current width blocks profile list)
     ≡ option_or (first_fault (length list) (header_faults width list))
-    (option_or (first_fault (length list) (descriptor_faults width blocks points list))
-    (first_fault (length list) (flat_map (page_faults points current) (pages_in width list))))
-faults-split current width blocks points list =
+    (option_or (first_fault (length list) (descriptor_faults width blocks profile list))
+    (first_fault (length list) (flat_map (page_faults profile current) (pages_in width list))))
+faults-split current width blocks profile list =
     let n = length list in
     let offset = header_length width in
     let sent = descriptor_in width list in
     let expected = block_descriptor (has_longlba width list)
     (accepted_blocks blocks (take (number_length (has_longlba width list)) sent.bytes)) in
     let ignored = ignored_descriptor_bits (has_longlba width list) blocks in
-    let fields = pointed_fields points (descriptor_fields (has_longlba width list)) in
-    let descriptor = descriptor_faults width blocks points list in
-    let pages = flat_map (page_faults points current) (pages_in width list) in
+    let fields = pointed_fields profile (descriptor_fields (has_longlba width list)) in
+    let descriptor = descriptor_faults width blocks profile list in
+    let pages = flat_map (page_faults profile current) (pages_in width list) in
     let from : From (offset + block_descriptor_length width list) pages =
-    pages_from-from points current (offset + block_descriptor_length width list) list in
+    pages_from-from profile current (offset + block_descriptor_length width list) list in
     let behind : From offset (descriptor ++ pages) =
     From-append offset descriptor pages
     (field_faults-from fields expected ignored offset
@@ -270,14 +271,14 @@ faults-split current width blocks points list =
 
 -- a list that is not empty
 pub selected_values-some : (current : PageValues) (width : CdbWidth) (blocks : Option ℕ)
-    (points : Bool) (list : List ℕ)
+    (profile : Profile) (list : List ℕ)
     → 0 < length list →
-    unless_fault (first_fault (length list) (list_faults current width blocks points list))
-    (values_after current (pages_in width list)) ≡ selected_values current width blocks points list
+    unless_fault (first_fault (length list) (list_faults current width blocks profile list))
+    (values_after current (pages_in width list)) ≡ selected_values current width blocks profile list
 unfolding selected_values
-selected_values-some current width blocks points list h =
+selected_values-some current width blocks profile list h =
     sym (ap (λ c. cond c (Ok current)
-    (unless_fault (first_fault (length list) (list_faults current width blocks points list))
+    (unless_fault (first_fault (length list) (list_faults current width blocks profile list))
     (values_after current (pages_in width list)))) (ne_eqb (length list) 0 (λ e. omega arith)))
 
 -- the header's length of the descriptor is at fault
@@ -311,10 +312,10 @@ inside-or n true value r h = tt
 inside-or n false value r h = h
 
 pub selected_values-inside : (current : PageValues) (width : CdbWidth) (blocks : Option ℕ)
-    (points : Bool) (list : List ℕ)
-    → IfErr (selected_values current width blocks points list) (IsInside (length list))
+    (profile : Profile) (list : List ℕ)
+    → IfErr (selected_values current width blocks profile list) (IsInside (length list))
 unfolding selected_values first_fault
-selected_values-inside current width blocks points list =
+selected_values-inside current width blocks profile list =
     inside-or (length list) (length list == 0) current _
-    (inside-of (length list) (least (list_faults current width blocks points list))
+    (inside-of (length list) (least (list_faults current width blocks profile list))
     (values_after current (pages_in width list)))

@@ -2,7 +2,7 @@
 use Rattle.std.specs.Prelude.{ℕ, ◌+◌, ◌*◌, sum_by}
 use Rattle.sg_wire.specs.declared.profile.Profile.{Profile}
 use Rattle.sg_wire.specs.declared.profile.Profile.TheVariants.{Base, Extended}
-use Rattle.sg_pages.specs.ModePage.{each_page, page_length}
+use Rattle.sg_pages.specs.ModePage.{each_page, page_header_length, page_length}
 
 -- READ CAPACITY parameter data (SBC-3, 5.15.2 and 5.16.2).
 abbrev pub capacity_10_length : ℕ
@@ -32,4 +32,4 @@ longest_page = 4 + unit_length Extended + 2 * (4 + 4)
 -- The longest mode parameter list: the header of MODE SENSE(10), the long block descriptor, and all
 -- pages.
 abbrev pub longest_list : ℕ
-longest_list = 8 + 16 + sum_by (λ page. 2 + page_length page) each_page
+longest_list = 8 + 16 + sum_by (λ page. page_header_length page + page_length page) each_page

@@ -1,9 +1,12 @@
 -- Laws of the mode pages, in the subject's words.
-use Rattle.std.specs.Prelude.{◌≡◌, ℕ, List, [], Bool, true, false, Ok, Option, ◌<◌, ◌==◌, ⊤}
+use Rattle.std.specs.Prelude.{◌≡◌, ℕ, List, [], Bool, true, false, Ok, Option, Some, ◌<◌, ◌==◌, ⊤}
 use Rattle.std.specs.List.{list_all, range_with_len}
 use Rattle.sg_wire.specs.declared.command.mode.CdbWidth.{CdbWidth}
+use Rattle.sg_wire.specs.declared.profile.Profile.{Profile}
+use Rattle.sg_wire.specs.declared.profile.Profile.TheVariants.{Base}
 use Rattle.sg_pages.specs.declared.mode_pages.mode_page.ModePage.{ModePage}
-use Rattle.sg_pages.specs.ModePage.{ModeState, row_of, values_of}
+use Rattle.sg_pages.specs.ModePage.{ModeState, first_byte, has_page, page_header_length, page_with}
+use Rattle.sg_pages.specs.ModePage.{row_of, subpage_of, values_of}
 use Rattle.sg_pages.specs.declared.mode_pages.multi_byte_field.MultiByteField.{MultiByteField}
 use Rattle.sg_pages.specs.BlockDescriptor.{descriptor_fields}
 use Rattle.sg_pages.specs.MultiByteField.{first_byte_of}
@@ -17,14 +20,14 @@ abbrev pub IsInside : (list_length : ℕ) → ModeSelectFault → Type 0
 IsInside list_length Length = ⊤
 IsInside list_length (Field offset) = offset < list_length
 
--- A MODE SELECT changes only bits that can be changed: from byte 2 on, no byte of a page differs in
+-- A MODE SELECT changes only bits that can be changed: after the header, no byte of a page differs in
 -- another bit.
 abbrev pub OnlyChangeableBitsChange : Type 0
 OnlyChangeableBitsChange =
     (before after : ModeState) (list : List ℕ) (width : CdbWidth) (save : Bool) (blocks : Option ℕ)
-    (points_at_fields : Bool) (page : ModePage)
-    → mode_select before list width save blocks points_at_fields ≡ Ok after
-    → differences 2 (values_of before.current page) (row_of page).changeable
+    (profile : Profile) (page : ModePage)
+    → mode_select before list width save blocks profile ≡ Ok after
+    → differences (page_header_length page) (values_of before.current page) (row_of page).changeable
     (values_of after.current page)
     ≡ []
 
@@ -32,15 +35,25 @@ OnlyChangeableBitsChange =
 abbrev pub OnlySpSaves : Type 0
 OnlySpSaves =
     (before after : ModeState) (list : List ℕ) (width : CdbWidth) (blocks : Option ℕ)
-    (points_at_fields : Bool) → mode_select before list width false blocks points_at_fields ≡ Ok after
+    (profile : Profile) → mode_select before list width false blocks profile ≡ Ok after
     → after.saved ≡ before.saved
 
 -- A MODE SELECT with SP saves the current values of all pages, as they are afterwards.
 abbrev pub SpSavesAll : Type 0
 SpSavesAll =
     (before after : ModeState) (list : List ℕ) (width : CdbWidth) (blocks : Option ℕ)
-    (points_at_fields : Bool) → mode_select before list width true blocks points_at_fields ≡ Ok after
+    (profile : Profile) → mode_select before list width true blocks profile ≡ Ok after
     → after.saved ≡ after.current
+
+-- A base disk has no page with a subpage code.
+abbrev pub BaseDisksHaveNoSubpage : Type 0
+BaseDisksHaveNoSubpage = (page : ModePage) → has_page Base page ≡ true → subpage_of page ≡ 0x00
+
+-- MODE SELECT finds each page of a disk by its SPF and PAGE CODE.
+abbrev pub EachPageIsFound : Type 0
+EachPageIsFound =
+    (profile : Profile) (page : ModePage) → has_page profile page ≡ true
+    → page_with profile (first_byte page) ≡ Some page
 
 -- On a base disk each byte is a field of its own: a pointer goes to the byte that differs.
 abbrev pub BytesPointToThemselves : Type 0

@@ -1,23 +1,31 @@
 -- The mode pages of the disk (SPC-4, 7.5; SBC-3, 6.4).
-use Rattle.std.specs.Prelude.{ℕ, ◌+◌, ◌==◌, Option, Bool}
-use Rattle.std.specs.Prelude.{List, [], ◌∷◌, length, slice_index, map, find}
+use Rattle.std.specs.Prelude.{ℕ, ◌+◌, ◌==◌, Option, Bool, if◌then◌else◌}
+use Rattle.std.specs.Prelude.{List, [], ◌∷◌, ◌++◌, length, slice_index, map, find, filter}
 use Rattle.std.specs.List.{range_with_len}
 use Rattle.std.specs.Option.{option_map_or}
+use Rattle.byteorder.specs.Endian.{big_bytes}
 use Rattle.sg_wire.specs.Bits.{has_bit}
+use Rattle.sg_wire.specs.Profile.{is_in}
+use Rattle.sg_wire.specs.declared.profile.Profile.{Profile}
+use Rattle.sg_wire.specs.declared.profile.Profile.TheVariants.{Base, Extended}
 use Rattle.sg_pages.specs.declared.mode_pages.mode_page.ModePage.{ModePage}
 use Rattle.sg_pages.specs.declared.mode_pages.mode_page.ModePage.TheVariants.{ReadWriteErrorRecovery}
 use Rattle.sg_pages.specs.declared.mode_pages.mode_page.ModePage.TheVariants.{Caching, Control}
 use Rattle.sg_pages.specs.declared.mode_pages.mode_page.ModePage.TheVariants.{InformationalExceptionsControl}
+use Rattle.sg_pages.specs.declared.mode_pages.mode_page.ModePage.TheVariants.{LogicalBlockProvisioning}
 use Rattle.sg_pages.specs.declared.mode_pages.mode_page.PageValues.{PageValues}
 use Rattle.sg_pages.specs.declared.mode_pages.multi_byte_field.MultiByteField.{MultiByteField}
 use Rattle.sg_pages.specs.MultiByteField.{field}
 
 -- ---- The table
 
--- PAGE CODE and PAGE LENGTH. For each byte from byte 2 on, its default, and the bits that MODE
--- SELECT may change. Then the page's fields of more than one byte.
+-- The disks that have the page. PAGE CODE, SUBPAGE CODE and PAGE LENGTH; a page of SUBPAGE CODE 00h has no
+-- such field. For each byte after the header, its default, and the bits that MODE SELECT may change. Then
+-- the page's fields of more than one byte.
 pub record PageRow : Type 0 where
+  pub profile : Profile
   pub code : ℕ
+  pub subpage : ℕ
   pub page_length : ℕ
   pub defaults : List ℕ
   pub changeable : List ℕ
@@ -28,17 +36,20 @@ abbrev pub value_at : (named : List (ℕ × ℕ)) → (byte : ℕ) → ℕ
 value_at named byte =
     option_map_or (λ (n : ℕ × ℕ). n.1) (find (λ (n : ℕ × ℕ). n.0 == byte) named) 0
 
--- `count` bytes from byte 2 on.
-abbrev pub from_byte_2 : (count : ℕ) → (named : List (ℕ × ℕ)) → List ℕ
-from_byte_2 count named = map (value_at named) (range_with_len 2 count)
+-- `count` bytes from a byte on.
+abbrev pub bytes_from : (first count : ℕ) → (named : List (ℕ × ℕ)) → List ℕ
+bytes_from first count named = map (value_at named) (range_with_len first count)
 
+-- A page of each disk, without a subpage code. Its values begin at byte 2.
 abbrev row : (code page_length : ℕ) → (defaults changeable : List (ℕ × ℕ)) → List MultiByteField
     → PageRow
 row code page_length defaults changeable fields = record {
+  profile = Base;
   code = code;
+  subpage = 0x00;
   page_length = page_length;
-  defaults = from_byte_2 page_length defaults;
-  changeable = from_byte_2 page_length changeable;
+  defaults = bytes_from 2 page_length defaults;
+  changeable = bytes_from 2 page_length changeable;
   fields = fields;
 }
 
@@ -81,34 +92,92 @@ control_row =
 abbrev exceptions_row : PageRow
 exceptions_row = row 0x1C 0x0A ((2, 0x08) ∷ []) [] (field 4 4 ∷ field 8 4 ∷ [])
 
+-- The two threshold descriptors begin at bytes 16 and 24. THRESHOLD ARMING, in their first bytes, is 0, a
+-- number that falls, and 1, a number that rises. THRESHOLD RESOURCE, in their second bytes, is 01h, the
+-- blocks of the pool that are left, and 02h, the used ones. From bytes 2, 20 and 28 on: PAGE LENGTH, and
+-- THRESHOLD COUNT of each descriptor.
+-- Choice (SBC-3, 6.4): no threshold can be enabled.
+abbrev provisioning_row : PageRow
+provisioning_row = record {
+  profile = Extended;
+  code = 0x1C;
+  subpage = 0x02;
+  page_length = 0x1C;
+  defaults = bytes_from 4 0x1C ((17, 0x01) ∷ (24, 0x01) ∷ (25, 0x02) ∷ []);
+  changeable = bytes_from 4 0x1C [];
+  fields = field 2 2 ∷ field 20 4 ∷ field 28 4 ∷ [];
+}
+
 abbrev pub row_of : ModePage → PageRow
 row_of ReadWriteErrorRecovery = error_recovery_row
 row_of Caching = caching_row
 row_of Control = control_row
 row_of InformationalExceptionsControl = exceptions_row
+row_of LogicalBlockProvisioning = provisioning_row
 
 -- In ascending order of their codes.
 abbrev pub each_page : List ModePage
-each_page = ReadWriteErrorRecovery ∷ Caching ∷ Control ∷ InformationalExceptionsControl ∷ []
+each_page =
+    ReadWriteErrorRecovery
+    ∷ Caching
+    ∷ Control
+    ∷ InformationalExceptionsControl
+    ∷ LogicalBlockProvisioning
+    ∷ []
 
 abbrev pub code_of : ModePage → ℕ
 code_of page = (row_of page).code
 
+abbrev pub subpage_of : ModePage → ℕ
+subpage_of page = (row_of page).subpage
+
 abbrev pub page_length : ModePage → ℕ
 page_length page = (row_of page).page_length
 
--- The page with a code, if the disk has it.
-abbrev pub page_with_code : ℕ → Option ModePage
-page_with_code code = find (λ page. code_of page == code) each_page
+abbrev pub has_page : Profile → ModePage → Bool
+has_page profile page = is_in (row_of page).profile profile
+
+abbrev pub pages_of : Profile → List ModePage
+pages_of profile = filter (has_page profile) each_page
+
+-- ---- The header of a page (SPC-4, 7.5)
+
+-- PS and SPF, bits of its first byte: the page can be saved, and it has a SUBPAGE CODE.
+abbrev pub parameters_saveable : ℕ
+parameters_saveable = 0x80
+
+abbrev pub subpage_format : ℕ
+subpage_format = 0x40
+
+-- SPF and PAGE CODE, the first byte without PS.
+abbrev pub first_byte : ModePage → ℕ
+first_byte page =
+    if subpage_of page == 0x00 then code_of page else subpage_format + code_of page
+
+-- The page with such a first byte, if a disk of the profile has it.
+abbrev pub page_with : Profile → (first : ℕ) → Option ModePage
+page_with profile first = find (λ page. first_byte page == first) (pages_of profile)
+
+-- PS, because each page can be saved, SPF and PAGE CODE. Then PAGE LENGTH in a byte; with SPF, SUBPAGE CODE
+-- and PAGE LENGTH in two bytes.
+abbrev pub page_header : ModePage → List ℕ
+page_header page =
+    (parameters_saveable + first_byte page)
+    ∷ (if subpage_of page == 0x00 then page_length page ∷ []
+    else subpage_of page ∷ big_bytes 2 (page_length page))
+
+abbrev pub page_header_length : ModePage → ℕ
+page_header_length page = length (page_header page)
 
 -- ---- The bytes of the pages
 
--- The bytes of a page from byte 2 on.
+-- The bytes of a page after its header.
 abbrev pub values_of : PageValues → ModePage → List ℕ
 values_of values ReadWriteErrorRecovery = values.error_recovery
 values_of values Caching = values.caching
 values_of values Control = values.control
 values_of values InformationalExceptionsControl = values.exceptions_control
+values_of values LogicalBlockProvisioning = values.provisioning
 
 -- The bytes that a rule gives for each page.
 abbrev pub by_page : (ModePage → List ℕ) → PageValues
@@ -117,6 +186,7 @@ by_page rule = record {
   caching = rule Caching;
   control = rule Control;
   exceptions_control = rule InformationalExceptionsControl;
+  provisioning = rule LogicalBlockProvisioning;
 }
 
 abbrev pub default_values : PageValues
@@ -125,17 +195,12 @@ default_values = by_page (λ page. (row_of page).defaults)
 abbrev pub changeable_bits : PageValues
 changeable_bits = by_page (λ page. (row_of page).changeable)
 
--- PS, a bit of a page's first byte: the page can be saved (SPC-4, 7.5).
-abbrev pub parameters_saveable : ℕ
-parameters_saveable = 0x80
-
--- A whole page: PS and PAGE CODE; PAGE LENGTH; and the bytes after it. PS is set, because each page
--- can be saved.
-unfoldable pub page_bytes : (code : ℕ) (values : List ℕ) → List ℕ
-page_bytes code values = (parameters_saveable + code) ∷ length values ∷ values
+-- A whole page.
+unfoldable pub page_bytes : ModePage → (values : List ℕ) → List ℕ
+page_bytes page values = page_header page ++ values
 
 abbrev pub page_data : PageValues → ModePage → List ℕ
-page_data values page = page_bytes (code_of page) (values_of values page)
+page_data values page = page_bytes page (values_of values page)
 
 -- ---- What a disk keeps of them
 

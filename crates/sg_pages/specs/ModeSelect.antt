@@ -9,6 +9,8 @@ use Rattle.std.specs.Result.{result_map_both}
 use Rattle.std.specs.Str.{bytes_eq}
 use Rattle.byteorder.specs.Endian.{big_number}
 use Rattle.sg_wire.specs.Bits.{bits_of, has_bit}
+use Rattle.sg_wire.specs.Profile.{rules_of}
+use Rattle.sg_wire.specs.declared.profile.Profile.{Profile}
 use Rattle.sg_wire.specs.declared.command.mode.CdbWidth.{CdbWidth}
 use Rattle.sg_wire.specs.declared.command.mode.CdbWidth.TheVariants.{Six, Ten}
 use Rattle.sg_pages.specs.declared.mode_pages.mode_page.ModePage.{ModePage}
@@ -17,8 +19,8 @@ use Rattle.sg_pages.specs.declared.mode_pages.mode_select.Changed.{Changed}
 use Rattle.sg_pages.specs.declared.mode_pages.mode_select.ModeSelectFault.{ModeSelectFault}
 use Rattle.sg_pages.specs.declared.mode_pages.mode_select.ModeSelectFault.TheVariants.{Length}
 use Rattle.sg_pages.specs.declared.mode_pages.mode_select.ModeSelectFault.TheVariants.{Field}
-use Rattle.sg_pages.specs.ModePage.{ModeState, row_of, code_of, page_with_code}
-use Rattle.sg_pages.specs.ModePage.{values_of, by_page, page_data, parameters_saveable}
+use Rattle.sg_pages.specs.ModePage.{ModeState, row_of, first_byte, page_with, page_header_length}
+use Rattle.sg_pages.specs.ModePage.{values_of, by_page, page_data, parameters_saveable, subpage_format}
 use Rattle.sg_pages.specs.BlockDescriptor.{number_length, descriptor_length, block_descriptor}
 use Rattle.sg_pages.specs.BlockDescriptor.{descriptor_fields}
 use Rattle.sg_pages.specs.declared.mode_pages.multi_byte_field.MultiByteField.{MultiByteField}
@@ -62,10 +64,16 @@ has_longlba Ten list = has_bit (slice_index list 4) 0x01
 abbrev pub descriptor_in : (width : CdbWidth) → List ℕ → Part
 descriptor_in width list = part_at (header_length width) (block_descriptor_length width list) list
 
--- A page has two bytes, the second of them PAGE LENGTH, and then as many bytes as PAGE LENGTH says.
--- If the list ends before PAGE LENGTH, the page's length is two.
+-- A page has a header, and then as many bytes as its PAGE LENGTH says. With SPF the header has four bytes,
+-- and PAGE LENGTH is the last two of them; without SPF it has two, and PAGE LENGTH is the second. A byte of
+-- PAGE LENGTH that the list does not have counts as zero.
+abbrev pub page_size : (page : List ℕ) → ℕ
+page_size page =
+    if has_bit (slice_index page 0) subpage_format then 4 + big_number 2 (drop 2 page)
+    else 2 + slice_index page 1
+
 abbrev pub page_at : (offset : ℕ) → List ℕ → Part
-page_at offset list = part_at offset (2 + slice_index (drop offset list) 1) list
+page_at offset list = part_at offset (page_size (drop offset list)) list
 
 -- The pages from an offset on, up to the end of the list, at most `count` of them.
 abbrev pub pages_up_to : (count offset : ℕ) → List ℕ → List Part
@@ -104,8 +112,8 @@ part_faults expected ignored p = differences p.offset expected ignored p.bytes +
 
 -- On an extended disk the pointer goes to the first byte of a field of several bytes. On a base disk
 -- each byte is a field of its own.
-abbrev pub pointed_fields : (points_at_fields : Bool) → List MultiByteField → List MultiByteField
-pointed_fields points_at_fields fields = if points_at_fields then fields else []
+abbrev pub pointed_fields : Profile → List MultiByteField → List MultiByteField
+pointed_fields profile fields = if (rules_of profile).points_at_fields then fields else []
 
 -- The same faults as `part_faults`. A byte that differs points to the first byte of its field.
 abbrev pub field_faults : (fields : List MultiByteField) (expected ignored : List ℕ) → Part → List ℕ
@@ -159,40 +167,41 @@ ignored_descriptor_bits long blocks =
     replicate (number_length long) (ignored_number_bits blocks)
     ++ replicate (descriptor_length long - number_length long) 0x00
 
-abbrev pub descriptor_faults : (width : CdbWidth) (blocks : Option ℕ) (points_at_fields : Bool)
-    → List ℕ → List ℕ
-descriptor_faults width blocks points_at_fields list =
+abbrev pub descriptor_faults : (width : CdbWidth) (blocks : Option ℕ) → Profile → List ℕ → List ℕ
+descriptor_faults width blocks profile list =
     let sent = descriptor_in width list in
     let long = has_longlba width list in
-    field_faults (pointed_fields points_at_fields (descriptor_fields long))
+    field_faults (pointed_fields profile (descriptor_fields long))
     (accepted_descriptor long blocks sent.bytes) (ignored_descriptor_bits long blocks) sent
 
--- PAGE CODE of a page that was sent.
-abbrev pub sent_code : Part → ℕ
-sent_code sent = bits_of (slice_index sent.bytes 0) 5 0
+-- SPF and PAGE CODE of a page that was sent.
+abbrev pub sent_first : Part → ℕ
+sent_first sent = bits_of (slice_index sent.bytes 0) 6 0
 
--- A page has to be as it is now, except for PS and the bits that can be changed. So SPF has to be
--- zero.
+-- PS is ignored.
+abbrev pub ignored_page_header_bits : ModePage → List ℕ
+ignored_page_header_bits page = take (page_header_length page) (parameters_saveable ∷ replicate 3 0x00)
+
+-- A page has to be as it is now, except for PS and the bits that can be changed.
 -- Choice (SPC-4, 6.11): a change of a reserved bit may be overlooked.
-abbrev pub faults_against : (points_at_fields : Bool) (current : PageValues) → Part → ModePage → List ℕ
-faults_against points_at_fields current sent page =
-    let changeable = parameters_saveable ∷ 0x00 ∷ (row_of page).changeable in
-    field_faults (pointed_fields points_at_fields (row_of page).fields) (page_data current page)
-    changeable sent
+abbrev pub faults_against : Profile → (current : PageValues) → Part → ModePage → List ℕ
+faults_against profile current sent page =
+    field_faults (pointed_fields profile (row_of page).fields) (page_data current page)
+    (ignored_page_header_bits page ++ (row_of page).changeable) sent
 
 -- If the disk does not have a page, the page's first byte is at fault.
-abbrev pub page_faults : (points_at_fields : Bool) (current : PageValues) → Part → List ℕ
-page_faults points_at_fields current sent =
-    option_map_or (faults_against points_at_fields current sent) (page_with_code (sent_code sent))
+abbrev pub page_faults : Profile → (current : PageValues) → Part → List ℕ
+page_faults profile current sent =
+    option_map_or (faults_against profile current sent) (page_with profile (sent_first sent))
     (sent.offset ∷ [])
 
 -- Every fault of a list.
-abbrev pub list_faults : (current : PageValues) (width : CdbWidth) (blocks : Option ℕ)
-    (points_at_fields : Bool) → List ℕ → List ℕ
-list_faults current width blocks points_at_fields list =
+abbrev pub list_faults : (current : PageValues) (width : CdbWidth) (blocks : Option ℕ) → Profile → List ℕ
+    → List ℕ
+list_faults current width blocks profile list =
     header_faults width list
-    ++ (descriptor_faults width blocks points_at_fields list
-    ++ flat_map (page_faults points_at_fields current) (pages_in width list))
+    ++ (descriptor_faults width blocks profile list
+    ++ flat_map (page_faults profile current) (pages_in width list))
 
 -- ---- The least offset decides
 
@@ -214,25 +223,26 @@ unless_fault (Some fault) value = Err fault
 
 -- ---- What a list changes
 
--- The bytes from byte 2 on of the last page sent with a code.
+-- The bytes after the header of the last page sent that is this page.
 -- Choice (SPC-4, 6.11): a page that is sent twice may be refused.
-abbrev pub last_sent : (code : ℕ) → List Part → Option (List ℕ)
-last_sent code sent =
-    option_map (λ (p : Part). drop 2 p.bytes) (find (λ p. sent_code p == code) (reverse sent))
+abbrev pub last_sent : ModePage → List Part → Option (List ℕ)
+last_sent page sent =
+    option_map (λ (p : Part). drop (page_header_length page) p.bytes)
+    (find (λ p. sent_first p == first_byte page) (reverse sent))
 
 -- A page that is not sent stays as it is.
 abbrev pub values_after : (current : PageValues) → List Part → PageValues
 values_after current sent =
-    by_page (λ page. unwrap_or (last_sent (code_of page) sent) (values_of current page))
+    by_page (λ page. unwrap_or (last_sent page sent) (values_of current page))
 
 -- The current values after a list, or its first fault. The empty list is accepted. `blocks` is the
 -- number of blocks that the block descriptor has to have; with None the field is ignored.
-unfoldable pub selected_values : (current : PageValues) (width : CdbWidth) (blocks : Option ℕ)
-    (points_at_fields : Bool) → List ℕ → Result PageValues ModeSelectFault
-selected_values current width blocks points_at_fields list =
+unfoldable pub selected_values : (current : PageValues) (width : CdbWidth) (blocks : Option ℕ) → Profile
+    → List ℕ → Result PageValues ModeSelectFault
+selected_values current width blocks profile list =
     if length list == 0 then Ok current
     else
-    unless_fault (first_fault (length list) (list_faults current width blocks points_at_fields list))
+    unless_fault (first_fault (length list) (list_faults current width blocks profile list))
     (values_after current (pages_in width list))
 
 -- With SP all pages are saved, sent or not.
@@ -242,17 +252,18 @@ saved_after save state current =
 
 -- The pages after a MODE SELECT, or the first fault of its list.
 abbrev pub mode_select : ModeState → (list : List ℕ) (width : CdbWidth) (save : Bool) (blocks : Option ℕ)
-    (points_at_fields : Bool) → Result ModeState ModeSelectFault
-mode_select state list width save blocks points_at_fields =
+    → Profile → Result ModeState ModeSelectFault
+mode_select state list width save blocks profile =
     result_map_both (saved_after save state) (λ fault. fault)
-    (selected_values state.current width blocks points_at_fields list)
+    (selected_values state.current width blocks profile list)
 
 -- A byte of a page differs.
 abbrev pub differ : PageValues → PageValues → Bool
 differ a b =
     not (bytes_eq a.error_recovery b.error_recovery
     && (bytes_eq a.caching b.caching
-    && (bytes_eq a.control b.control && bytes_eq a.exceptions_control b.exceptions_control)))
+    && (bytes_eq a.control b.control
+    && (bytes_eq a.exceptions_control b.exceptions_control && bytes_eq a.provisioning b.provisioning))))
 
 -- A current byte differs afterwards.
 abbrev pub changed_by : (before after : ModeState) → Changed

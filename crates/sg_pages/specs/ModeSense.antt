@@ -6,6 +6,7 @@ use Rattle.byteorder.specs.Endian.{big_bytes}
 use Rattle.sg_wire.specs.declared.command.mode.CdbWidth.{CdbWidth}
 use Rattle.sg_wire.specs.declared.command.mode.CdbWidth.TheVariants.{Six, Ten}
 use Rattle.sg_wire.specs.declared.command.mode.PageRequest.{PageRequest}
+use Rattle.sg_wire.specs.declared.profile.Profile.{Profile}
 use Rattle.sg_wire.specs.declared.command.page_control.PageControl.{PageControl}
 use Rattle.sg_wire.specs.declared.command.page_control.PageControl.TheVariants.{Current}
 use Rattle.sg_wire.specs.declared.command.page_control.PageControl.TheVariants.{Changeable}
@@ -15,21 +16,28 @@ use Rattle.sg_pages.specs.declared.mode_pages.mode_page.PageValues.{PageValues}
 use Rattle.sg_pages.specs.declared.mode_pages.request.ModeSenseRequest.{ModeSenseRequest}
 use Rattle.sg_pages.specs.declared.mode_pages.request.ModeSenseFault.{ModeSenseFault}
 use Rattle.sg_pages.specs.declared.mode_pages.request.ModeSenseFault.TheVariants.{Page, Subpage}
-use Rattle.sg_pages.specs.ModePage.{ModeState, each_page, code_of, page_data}
+use Rattle.sg_pages.specs.ModePage.{ModeState, each_page, code_of, subpage_of, has_page, page_data}
 use Rattle.sg_pages.specs.ModePage.{default_values, changeable_bits, write_protected}
 use Rattle.sg_pages.specs.BlockDescriptor.{block_descriptor}
 
--- The request of a MODE SENSE: the width of its CDB, LLBAA, the pages, and the number of blocks of
--- the disk.
+-- The request of a MODE SENSE: the width of its CDB, LLBAA, the pages, and the number of blocks and the
+-- profile of the disk.
 pub record RequestFields : Type 0 where
   pub width : CdbWidth
   pub llbaa : Bool
   pub page : PageRequest
   pub blocks : ℕ
+  pub profile : Profile
 
 -- The fields of a request, without the fact that its type keeps.
 abbrev pub fields_of : ModeSenseRequest → RequestFields
-fields_of r = record { width = r.width; llbaa = r.llbaa; page = r.page; blocks = r.blocks }
+fields_of r = record {
+  width = r.width;
+  llbaa = r.llbaa;
+  page = r.page;
+  blocks = r.blocks;
+  profile = r.profile;
+}
 
 -- ---- The pages
 
@@ -40,21 +48,25 @@ selected_by state Changeable = changeable_bits
 selected_by state Default = default_values
 selected_by state Saved = state.saved
 
--- Page code 3Fh requests all pages.
-abbrev pub is_requested : (page_code : ℕ) → ModePage → Bool
-is_requested page_code page = page_code == 0x3F || page_code == code_of page
+-- PAGE CODE 3Fh requests all pages.
+abbrev pub has_code : (page_code : ℕ) → ModePage → Bool
+has_code page_code page = page_code == 0x3F || page_code == code_of page
 
-abbrev pub has_page : (page_code : ℕ) → Bool
-has_page page_code = list_any (is_requested page_code) each_page
+-- SUBPAGE CODE 00h requests pages without a subpage code, FFh those with one, too, and another one a page
+-- of its own. With PAGE CODE 3Fh only 00h and FFh request a page.
+abbrev pub has_subpage_code : PageRequest → ModePage → Bool
+has_subpage_code asked page =
+    asked.subpage_code == 0xFF
+    || asked.subpage_code == subpage_of page && (asked.subpage_code == 0x00 || not (asked.page_code == 0x3F))
 
--- No page has subpages: 00h is the page itself, and FFh all of its subpages.
-abbrev pub has_subpage : (subpage_code : ℕ) → Bool
-has_subpage subpage_code = subpage_code == 0x00 || subpage_code == 0xFF
+abbrev pub is_requested : Profile → PageRequest → ModePage → Bool
+is_requested profile asked page =
+    has_page profile page && (has_code asked.page_code page && has_subpage_code asked page)
 
 -- The requested pages, joined.
-unfoldable pub requested_pages : PageValues → (page_code : ℕ) → List ℕ
-requested_pages values page_code =
-    flat_map (λ page. if is_requested page_code page then page_data values page else []) each_page
+unfoldable pub requested_pages : PageValues → Profile → PageRequest → List ℕ
+requested_pages values profile asked =
+    flat_map (λ page. if is_requested profile asked page then page_data values page else []) each_page
 
 -- ---- The header and the block descriptor
 
@@ -100,7 +112,7 @@ header_after_length state r descriptor_length =
 -- All that follows MODE DATA LENGTH.
 unfoldable pub list_after_length : ModeState → RequestFields → List ℕ
 list_after_length state r =
-    let pages = requested_pages (selected_by state r.page.page_control) r.page.page_code in
+    let pages = requested_pages (selected_by state r.page.page_control) r.profile r.page in
     header_after_length state r (length (descriptor_data r)) ++ (descriptor_data r ++ pages)
 
 -- MODE DATA LENGTH is the number of bytes that follow it.
@@ -109,9 +121,12 @@ mode_parameter_list state r =
     let following = list_after_length state r in
     length_bytes r.width (length following) ++ following
 
--- The list, or the first field of the CDB that requests something that the disk does not have.
+-- The list, or the first field of the CDB that requests something that the disk does not have: no page has
+-- PAGE CODE, or none of those has SUBPAGE CODE.
 abbrev pub mode_sense : ModeState → RequestFields → Result (List ℕ) ModeSenseFault
 mode_sense state r =
-    if not (has_page r.page.page_code) then Err Page
+    if not (list_any (λ page. has_page r.profile page && has_code r.page.page_code page) each_page)
+    then Err Page
     else
-    if not (has_subpage r.page.subpage_code) then Err Subpage else Ok (mode_parameter_list state r)
+    if not (list_any (is_requested r.profile r.page) each_page) then Err Subpage
+    else Ok (mode_parameter_list state r)

@@ -6,20 +6,21 @@ use Rattle.sg_pages.specs.declared.mode_pages.mode_select.ModeSelectFault.{ModeS
 use Rattle.sg_pages.specs.declared.mode_pages.mode_select.ModeSelectFault.TheVariants.{Length, Field}
 use Rattle.sg_pages.specs.declared.mode_pages.multi_byte_field.MultiByteField.{MultiByteField}
 use Rattle.sg_pages.specs.MultiByteField.{first_byte_in}
-use Rattle.sg_pages.specs.ModePage.{by_page, code_of, values_of}
-use Rattle.sg_pages.specs.ModeSelect.{Part, sent_code}
+use Rattle.sg_pages.specs.ModePage.{by_page, first_byte, page_header_length, values_of}
+use Rattle.sg_pages.specs.ModeSelect.{Part, sent_first}
 
 -- The values after one more page that is sent.
 abbrev pub with_sent : PageValues → Part → PageValues
 with_sent values sent =
-    let value = λ (page : ModePage). if sent_code sent == code_of page then drop 2 sent.bytes
+    let value = λ (page : ModePage).
+    if sent_first sent == first_byte page then drop (page_header_length page) sent.bytes
     else values_of values page in
     by_page value
 
 -- The values with other bytes for a page.
 abbrev pub with_values : PageValues → ModePage → List ℕ → PageValues
 with_values values changed bytes =
-    by_page (λ page. if code_of changed == code_of page then bytes else values_of values page)
+    by_page (λ page. if first_byte changed == first_byte page then bytes else values_of values page)
 
 -- The fault of a part that starts at an offset, if a byte that differs points to the first byte of
 -- its field.

@@ -1,5 +1,6 @@
 // Laws of the mode pages and of seeds: each is the contract of a function that changes nothing.
-ghost use Rattle.sg_pages.specs.ModeLaws.{BytesPointToThemselves, FieldsPointToTheirFirstByte};
+ghost use Rattle.sg_pages.specs.ModeLaws.{BaseDisksHaveNoSubpage, BytesPointToThemselves, EachPageIsFound};
+ghost use Rattle.sg_pages.specs.ModeLaws.{FieldsPointToTheirFirstByte};
 ghost use Rattle.sg_pages.specs.ModeLaws.{OnlyChangeableBitsChange, OnlySpSaves, SpSavesAll};
 ghost use Rattle.sg_pages.specs.SeedLaws.{SeedOneIsStandard, SeedsHaveDesignators};
 ghost use Rattle.sg_pages.specs.SeedLaws.{SeedsHaveSerials, SeedsMakeIdentities};
@@ -17,6 +18,16 @@ pub fn only_sp_saves()
 /// A MODE SELECT with SP saves the current values of all pages, as they are afterwards.
 pub fn sp_saves_all()
     ensures { SpSavesAll }
+{}
+
+/// A base disk has no page with a subpage code.
+pub fn base_disks_have_no_subpage()
+    ensures { BaseDisksHaveNoSubpage }
+{}
+
+/// MODE SELECT finds each page of a disk by its SPF and PAGE CODE.
+pub fn each_page_is_found()
+    ensures { EachPageIsFound }
 {}
 
 /// On a base disk the field pointer of MODE SELECT goes to the byte that differs.

@@ -136,11 +136,17 @@ mode_select config width pf sp n data_out =
     takes config n (bad_page_format (rules_of config.identity.profile) pf n)
     (Ok (operation.ChangeModes width sp (first_bytes n data_out)))
 
--- MODE SENSE asks for pages of a disk of some blocks.
-abbrev pub mode_sense : CdbWidth → (llbaa : Bool) → PageRequest → (blocks allocation_length : ℕ)
+-- MODE SENSE asks for pages of the disk.
+abbrev pub mode_sense : ConfigFields → CdbWidth → (llbaa : Bool) → PageRequest → (allocation_length : ℕ)
     → Operation
-mode_sense width llbaa page blocks n =
-    operation.ReturnModes (record { width = width; llbaa = llbaa; page = page; blocks = blocks }) n
+mode_sense config width llbaa page n =
+    operation.ReturnModes (record {
+      width = width;
+      llbaa = llbaa;
+      page = page;
+      blocks = config.blocks;
+      profile = config.identity.profile;
+    }) n
 
 abbrev pub reserve_out : ConfigFields → PersistentReserveOut → (data_out : List ℕ) → Demands
 reserve_out config c data_out =
@@ -387,9 +393,9 @@ demands config (command.Inquiry c) data_out = inquiry config c
 demands config (command.ModeSelect6 c) data_out = mode_select config Six c.pf c.sp c.list_length data_out
 demands config (command.ModeSelect10 c) data_out = mode_select config Ten c.pf c.sp c.list_length data_out
 demands config (command.ModeSense6 c) data_out =
-    asks (mode_sense Six false c.page config.blocks c.allocation_length)
+    asks (mode_sense config Six false c.page c.allocation_length)
 demands config (command.ModeSense10 c) data_out =
-    asks (mode_sense Ten c.llbaa c.page config.blocks c.allocation_length)
+    asks (mode_sense config Ten c.llbaa c.page c.allocation_length)
 demands config (command.LogSense c) data_out = log_sense c
 demands config (command.ReportLuns c) data_out = report_luns c
 demands config (command.ReportSupportedOperationCodes c) data_out =

@@ -50,10 +50,9 @@ required_blocks rules capacity = if rules.ignores_number_of_blocks then None els
 unfoldable pub selected_modes : State → CdbWidth → (sp : Bool) → (list : List ℕ)
     → Result ModeState Refusal
 selected_modes state width sp list =
-    let rules = rules_of (profile_of state) in
+    let profile = profile_of state in
     or_refused select_refusal
-    (mode_select state.modes list width sp (required_blocks rules state.disk.capacity)
-    rules.points_at_fields)
+    (mode_select state.modes list width sp (required_blocks (rules_of profile) state.disk.capacity) profile)
 
 -- If a current value has changed, MODE PARAMETERS CHANGED is established for every other initiator.
 abbrev pub attentions_after : Pending → (initiator : ℕ) → (changed : Bool) → Pending

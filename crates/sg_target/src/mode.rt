@@ -45,16 +45,17 @@ impl Model for RequestedModes {
     ghost view = { λ r. fields_of r.request };
 }
 
-/// MODE SENSE(6), of a disk of `blocks` blocks. Its CDB has no LLBAA.
-pub(crate) fn check_mode_sense_6(blocks: u64, fields: ModeSense6) -> Operation<'static>
+/// MODE SENSE(6). Its CDB has no LLBAA.
+pub(crate) fn check_mode_sense_6(config: &Config, fields: ModeSense6) -> Operation<'static>
     ensures { result
-        ≡ mode_sense CdbWidth.Six false fields.page blocks fields.allocation_length }
+        ≡ mode_sense config.now CdbWidth.Six false fields.page fields.allocation_length }
 {
     let request = ModeSenseRequest {
         width: CdbWidth::Six,
         llbaa: false,
         page: fields.page,
-        blocks,
+        blocks: config.blocks(),
+        profile: config.identity().profile(),
     };
     Operation::ReturnModes {
         request: RequestedModes { request },
@@ -62,16 +63,17 @@ pub(crate) fn check_mode_sense_6(blocks: u64, fields: ModeSense6) -> Operation<'
     }
 }
 
-/// MODE SENSE(10), of a disk of `blocks` blocks.
-pub(crate) fn check_mode_sense_10(blocks: u64, fields: ModeSense10) -> Operation<'static>
+/// MODE SENSE(10).
+pub(crate) fn check_mode_sense_10(config: &Config, fields: ModeSense10) -> Operation<'static>
     ensures { result
-        ≡ mode_sense CdbWidth.Ten fields.llbaa fields.page blocks fields.allocation_length }
+        ≡ mode_sense config.now CdbWidth.Ten fields.llbaa fields.page fields.allocation_length }
 {
     let request = ModeSenseRequest {
         width: CdbWidth::Ten,
         llbaa: fields.llbaa,
         page: fields.page,
-        blocks,
+        blocks: config.blocks(),
+        profile: config.identity().profile(),
     };
     Operation::ReturnModes {
         request: RequestedModes { request },
@@ -220,8 +222,8 @@ impl<S: Store> Target<S> {
             [] self.old self.new result buf.now buf.now }
     {
         let blocks = self.required_blocks();
-        let at_fields = self.config.rules().points_at_fields;
-        let reason = match self.modes.select(list.bytes, width, sp, blocks, at_fields) {
+        let profile = self.config.identity().profile();
+        let reason = match self.modes.select(list.bytes, width, sp, blocks, profile) {
             Ok(Changed(changed)) => {
                 self.report_changed_modes(initiator, changed);
                 return Reply::without_blocks(0);

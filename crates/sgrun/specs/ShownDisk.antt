@@ -82,18 +82,23 @@ identity_lines identity =
     ++ (name_line (codes "serial") identity.serial
     ++ line (codes "local identifier") (sixteen_digits identity.local)))))))
 
--- ---- Saved mode pages (SPC-4, 7.5): WCE, and the bytes of each page from byte 2 on
+-- ---- Saved mode pages (SPC-4, 7.5): WCE, and the bytes of each page after its header
 
 abbrev pub saves_wce : PageValues → Bool
 saves_wce saved = has_bit (byte_2 saved.caching) 0x04
 
-unfoldable pub page_lines : PageValues → List ℕ
-page_lines saved =
+-- Only an extended disk has page 1Ch/02h.
+abbrev pub provisioning_line : Profile → PageValues → List ℕ
+provisioning_line Base saved = []
+provisioning_line Extended saved = hex_line (codes "page 1Ch/02h") saved.provisioning
+
+unfoldable pub page_lines : Profile → PageValues → List ℕ
+page_lines profile saved =
     line (codes "WCE") (flag (saves_wce saved))
     ++ (hex_line (codes "page 01h") saved.error_recovery
     ++ (hex_line (codes "page 08h") saved.caching
     ++ (hex_line (codes "page 0Ah") saved.control
-    ++ hex_line (codes "page 1Ch") saved.exceptions_control)))
+    ++ (hex_line (codes "page 1Ch") saved.exceptions_control ++ provisioning_line profile saved))))
 
 -- ---- Registrations and reservation (SPC-4, 5.13)
 
@@ -161,7 +166,7 @@ facts length batches state =
     codes "FILE\n" ++ (number_line (codes "length") length
     ++ (number_line (codes "batches") batches
     ++ (codes "DISK\n" ++ (size_lines state.disk ++ (identity_lines state.identity
-    ++ (codes "SAVED MODE PAGES\n" ++ (page_lines state.modes.saved
+    ++ (codes "SAVED MODE PAGES\n" ++ (page_lines (profile_of state) state.modes.saved
     ++ (codes "RESERVATIONS\n" ++ reservation_lines state.reservations))))))))
 
 -- The armed faults are listed as the verb `faults` of a script lists them.

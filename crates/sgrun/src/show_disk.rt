@@ -1,4 +1,4 @@
-// Shows what the file of a disk holds: one fact a line (docs/SCRIPT.md, "What a file holds").
+// Shows what the file of a disk holds: one fact a line (docs/SCRIPT.md, "What a file has").
 ghost use Rattle.std.specs.Prelude.{◌≡◌, ◌++◌, ◌≤◌, ℕ, [], codes, decimal, false, length, IfErr, IfOk};
 ghost use Rattle.std.specs.Prelude.{Some};
 ghost use Rattle.std.specs.List.{flat_map};
@@ -11,6 +11,7 @@ ghost use Rattle.sg_wire.specs.Watched.{SendsText, has_failed};
 ghost use Rattle.sgrun.specs.ShownDisk.{block_lines, extent_line, facts, flag, hex_line};
 ghost use Rattle.sgrun.specs.ShownDisk.{held_reservation_line, holder_text, identity_lines, line};
 ghost use Rattle.sgrun.specs.ShownDisk.{name_line, number_line, page_lines, profile_name};
+ghost use Rattle.sgrun.specs.ShownDisk.{provisioning_line};
 ghost use Rattle.sgrun.specs.ShownDisk.{physical_lines, ports_text, registration_line};
 ghost use Rattle.sgrun.specs.ShownDisk.{reservation_line, reservation_lines, run_line, run_lines_from};
 ghost use Rattle.sgrun.specs.ShownDisk.{saves_wce, shown_disk, sixteen_digits, size_lines};
@@ -35,8 +36,8 @@ use std::io::Write;
 /// WCE, a bit of byte 2 of the caching mode page (SBC-3, 6.4).
 const WCE: u8 = 0x04;
 
-/// The most bytes that a mode page has after its first two.
-const LONGEST_PAGE: usize = 18;
+/// The most bytes that a mode page has after its header.
+const LONGEST_PAGE: usize = 28;
 
 /// Prints what an opened disk and its file hold. The file has `length` bytes.
 ///
@@ -112,7 +113,11 @@ fn put_facts<S: Store, W: Write>(
     put_sizes(target, out);
     put_identity(target.config().identity(), out);
     out.put(b"SAVED MODE PAGES\n");
-    put_pages(target.saved_pages(), out);
+    put_pages(
+        target.config().identity().profile(),
+        target.saved_pages(),
+        out,
+    );
     out.put(b"RESERVATIONS\n");
     put_reservations(target.reservations(), out);
 }
@@ -162,15 +167,26 @@ fn profile_name(profile: Profile) -> &'static [u8]
     }
 }
 
-/// Prints WCE, and the bytes of each saved mode page from byte 2 on.
-fn put_pages<W: Write>(saved: &PageValues, out: &mut Printer<'_, W>)
-    ensures { PrintsText W.contents out.old out.new (page_lines saved.now) }
+/// Prints WCE, and the bytes of each saved mode page after its header.
+fn put_pages<W: Write>(profile: Profile, saved: &PageValues, out: &mut Printer<'_, W>)
+    ensures { PrintsText W.contents out.old out.new (page_lines profile saved.now) }
 {
     put_flag_line(b"WCE", saves_wce(saved), out);
     put_hex_line(b"page 01h", &saved.error_recovery, out);
     put_hex_line(b"page 08h", &saved.caching, out);
     put_hex_line(b"page 0Ah", &saved.control, out);
     put_hex_line(b"page 1Ch", &saved.exceptions_control, out);
+    put_provisioning(profile, saved, out);
+}
+
+/// Prints page 1Ch/02h, which only an extended disk has.
+fn put_provisioning<W: Write>(profile: Profile, saved: &PageValues, out: &mut Printer<'_, W>)
+    ensures { PrintsText W.contents out.old out.new (provisioning_line profile saved.now) }
+{
+    match profile {
+        Profile::Base => {}
+        Profile::Extended => put_hex_line(b"page 1Ch/02h", &saved.provisioning, out),
+    }
 }
 
 fn saves_wce(saved: &PageValues) -> bool

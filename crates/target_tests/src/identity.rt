@@ -3,7 +3,7 @@
 use sg_pages::{
     Ask, AskFault, Identity, IdentityFault, ModePages, PageControl, SelectFault, inquiry, vpd,
 };
-use sg_wire::{CdbWidth, Cut, PageCode, PageRequest};
+use sg_wire::{CdbWidth, Cut, PageCode, PageRequest, Profile};
 
 const LOCAL: Option<IdentityFault> = Some(IdentityFault::Local);
 
@@ -103,13 +103,14 @@ fn requests_for_mode_pages_are_refused(rt: HostRuntime) {
             subpage_code: 0,
         },
         blocks: 1,
+        profile: Profile::Base,
     };
     let mut bytes = [0xEE; 4];
     let mut cut = Cut::new(&mut bytes, 4);
     assert!(rt; pages.sense(&ask, &mut cut) == Err(AskFault::Page));
     assert!(rt;
         pages
-            .select(&[0x00], CdbWidth::Six, false, Some(1), false)
+            .select(&[0x00], CdbWidth::Six, false, Some(1), Profile::Base)
             .err()
             == Some(SelectFault::Length)
     );

@@ -6,37 +6,43 @@ from device import GOOD, INITIATORS
 from modes import ALL_PAGES, CHANGEABLE, DEFAULT
 from rows_of import row
 from rows_of.lines import (
-    MODE_PAGES, POWER_ON_REPORTED, POWER_ON_TAKEN, mode_page, mode_select_10, mode_select_6,
-    mode_sense_10, mode_sense_6, request_sense, test_unit_ready, with_byte)
+    MODE_PAGES, POWER_ON_REPORTED, POWER_ON_TAKEN, PROVISIONING, mode_page, mode_select_10,
+    mode_select_6, mode_sense_10, mode_sense_6, request_sense, test_unit_ready, with_byte)
 from rows_of.session import Session
 
 SHORT_DESCRIPTOR = bytes.fromhex("00001000 00000200")  # 4,096 blocks of 512 bytes
 LONG_DESCRIPTOR = bytes.fromhex("0000000000001000 00000000 00000200")
 LONG_HEADER = bytes.fromhex("0000 00 00 01 00 0010")  # LONGLBA 1, BLOCK DESCRIPTOR LENGTH 16
 SHORT_HEADER = bytes.fromhex("0000 00 00 00 00 0008")
+WITHOUT_SUBPAGES = [(code, 0) for code in MODE_PAGES]
+FOUR_PAGES = [(code, 0) for code in (0x1C, 0x01, 0x08, 0x0A)]
+FIVE_PAGES = [(0x0A, 0), PROVISIONING, (0x1C, 0), (0x01, 0), (0x08, 0)]
 
 
 @row("mode-select/six-with-each-value-in-the-read-write-error-recovery-page", 0x01)
 @row("mode-select/six-with-each-value-in-the-caching-page", 0x08)
 @row("mode-select/six-with-each-value-in-the-control-page", 0x0A)
 @row("mode-select/six-with-each-value-in-the-informational-exceptions-control-page", 0x1C)
-def each_value(code):
+@row("mode-select/six-with-each-value-in-the-logical-block-provisioning-page", *PROVISIONING, "extended",
+     profile="extended")
+def each_value(code, subpage=0, profile="base"):
     """A list of one page. Each of its bytes takes each value (SPC-4, 6.11).
 
     Only changeable bits may differ, and PS; of another byte its number is reported. If a list is
     accepted and the pages are not the default ones then, the page is read. The default page is
-    selected again before the next byte. In the end each other initiator has one unit attention.
+    selected again before the next byte. In the end each other initiator has one unit attention. The
+    page of logical block provisioning cannot be changed, so nobody has one after it.
     """
-    session = Session()
+    session = Session(profile)
     session.send(*POWER_ON_TAKEN)
-    default = mode_page(code)
+    default = mode_page(code, subpage)
     session.send(mode_select_6(bytes(4) + default))
     for place in range(len(default)):
         was_read = False
         for value in range(256):
             reply = session.send(mode_select_6(bytes(4) + with_byte(default, place, value)))
             if reply.status == GOOD and session.device.modes.current != DEFAULT:
-                session.send(mode_sense_6(code, dbd=1))
+                session.send(mode_sense_6(code, dbd=1, subpage=subpage))
                 was_read = True
         if was_read:
             session.send(mode_select_6(bytes(4) + default))
@@ -63,20 +69,23 @@ def each_header(select, sense, size):
                 yield sense(0x0A, dbd=1)
 
 
-@row("mode-select/six-with-each-bit-of-each-page", mode_select_6, 4)
-@row("mode-select/ten-with-each-bit-of-each-page", mode_select_10, 8)
-def each_bit(select, size):
+@row("mode-select/six-with-each-bit-of-each-page", mode_select_6, 4, WITHOUT_SUBPAGES)
+@row("mode-select/ten-with-each-bit-of-each-page", mode_select_10, 8, WITHOUT_SUBPAGES)
+@row("mode-select/ten-with-each-bit-of-the-logical-block-provisioning-page", mode_select_10, 8,
+     [PROVISIONING], profile="extended")
+def each_bit(select, size, pages):
     """Each bit of each page differs from its default value, one after the other (SPC-4, 6.11).
 
     After a bit that can be changed the default values are selected again.
     """
     yield from POWER_ON_REPORTED
-    for code in MODE_PAGES:
-        page = mode_page(code)
+    for code, subpage in pages:
+        page, changeable = mode_page(code, subpage), CHANGEABLE[code, subpage]
+        front = len(page) - len(changeable)
         for place in range(len(page)):
             for bit in range(8):
                 yield select(bytes(size) + with_byte(page, place, page[place] ^ 1 << bit))
-                if place >= 2 and CHANGEABLE[code][place - 2] & 1 << bit:
+                if place >= front and changeable[place - front] & 1 << bit:
                     yield select(bytes(size) + page)
 
 
@@ -104,12 +113,17 @@ def each_bit_of_the_descriptor(select, header, descriptor):
 
 
 @row("mode-select/six-list-cut-at-each-length", mode_select_6,
-     bytes([0, 0, 0, 8]) + SHORT_DESCRIPTOR)
-@row("mode-select/ten-list-cut-at-each-length", mode_select_10, LONG_HEADER + LONG_DESCRIPTOR)
-def cut_list(select, front):
-    """A list with a descriptor and all pages, cut: whole after an item, or 1Ah/00h (SPC-4, 6.11)"""
+     bytes([0, 0, 0, 8]) + SHORT_DESCRIPTOR, FOUR_PAGES)
+@row("mode-select/ten-list-cut-at-each-length", mode_select_10, LONG_HEADER + LONG_DESCRIPTOR,
+     FOUR_PAGES)
+@row("mode-select/six-list-of-five-pages-cut-at-each-length", mode_select_6, bytes(4), FIVE_PAGES,
+     profile="extended")
+@row("mode-select/ten-list-of-five-pages-cut-at-each-length", mode_select_10,
+     LONG_HEADER + LONG_DESCRIPTOR, FIVE_PAGES, profile="extended")
+def cut_list(select, front, pages):
+    """A list with all pages, cut: whole after an item, or 1Ah/00h (SPC-4, 6.11). Most have a descriptor."""
     yield from POWER_ON_REPORTED
-    whole = front + b"".join(mode_page(code) for code in (0x1C, 0x01, 0x08, 0x0A))
+    whole = front + b"".join(mode_page(*page) for page in pages)
     for length in range(len(whole) + 1):
         yield select(whole[:length])
 

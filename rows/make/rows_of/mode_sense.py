@@ -3,16 +3,19 @@
 from modes import ALL_PAGES, ALL_SUBPAGES
 from rows_of import row
 from rows_of.lines import (
-    MODE_PAGES, POWER_ON_REPORTED, POWER_ON_TAKEN, mode_page,
+    MODE_PAGES, POWER_ON_REPORTED, POWER_ON_TAKEN, PROVISIONING, mode_page,
     mode_select_10, mode_select_6, mode_sense_10, mode_sense_6, raw, with_byte)
 
 PAGE_CONTROLS = range(4)
 KNOWN_PAGES = (*MODE_PAGES, ALL_PAGES)
 MISSING_PAGES = [page for page in range(ALL_PAGES) if page not in MODE_PAGES]
+# What asks for the page with a subpage code, and the length of the pages that it asks for: 32 bytes, 12
+# more, and all 12 + 20 + 12 + 12 + 32 bytes.
+WITH_SUBPAGE = ((*PROVISIONING, 32), (0x1C, ALL_SUBPAGES, 44), (ALL_PAGES, ALL_SUBPAGES, 88))
 
 
 def pages_with(error_recovery, wce, control):
-    """All four pages. Their changeable bits have values of their own."""
+    """All four pages of a base disk. Their changeable bits have values of their own."""
     recovery = bytes.fromhex("01 0A") + bytes.fromhex(error_recovery)
     return (recovery + with_byte(mode_page(0x08), 2, wce) + bytes.fromhex("0A 0A")
             + bytes.fromhex(control) + mode_page(0x1C))
@@ -33,7 +36,8 @@ def six_cut():
     """Each page under each PC, cut at each allocation length, without and with DBD.
 
     MODE DATA LENGTH counts the full list, however it is cut (SPC-4, 4.2.5.6 and 7.5.5). Saved,
-    current, default and changeable values all differ. With all subpages the list is the same.
+    current, default and changeable values all differ. With all subpages the list of a base disk is the
+    same.
     """
     yield from POWER_ON_TAKEN
     yield mode_select_6(bytes(4) + ONE_SET, sp=1)
@@ -105,7 +109,8 @@ def missing_pages(size):
 def missing_subpages(size, of_all_pages):
     """Each subpage but 00h and FFh, of a page that the disk has: command byte 3 (SPC-4, 6.13).
 
-    Pages and other fields take turns; of some subpages each page is asked for.
+    Pages and other fields take turns; of some subpages each page is asked for. An extended disk has subpage
+    02h of page 1Ch, for which it is not page 1Ch's turn.
     """
     yield from POWER_ON_TAKEN
     for subpage in range(0x01, 0xFF):
@@ -157,3 +162,51 @@ def ten_cut_at_each_length():
     yield from POWER_ON_REPORTED
     for length in (*range(82), 0x0400, 0xFFFF):
         yield mode_sense_10(ALL_PAGES, length, 2, llbaa=1)
+
+
+@row("mode-sense/six-with-a-subpage-cut-at-each-length", profile="extended")
+def six_with_subpage_cut():
+    """Lists with page 1Ch/02h, cut at each allocation length, without and with DBD (SPC-4, 6.13).
+
+    PC takes turns. Its header has 4 bytes, and the page is the last one (SPC-4, 7.5).
+    """
+    yield from POWER_ON_TAKEN
+    yield mode_select_6(bytes(4) + ONE_SET, sp=1)
+    yield mode_select_6(bytes(4) + OTHER_SET)
+    for page, subpage, size in WITH_SUBPAGE:
+        for dbd in (0, 1):
+            for length in range((4 if dbd else 12) + size + 2):
+                yield mode_sense_6(page, length, (length + dbd) % 4, dbd, subpage)
+
+
+@row("mode-sense/ten-with-a-subpage-cut-at-each-length", profile="extended")
+def ten_with_subpage_cut():
+    """As the row of MODE SENSE(6), without a block descriptor and with each (SPC-4, 6.14).
+
+    The longest list has 112 bytes: a header of 8, the long descriptor, and all pages.
+    """
+    yield from POWER_ON_TAKEN
+    yield mode_select_10(bytes(8) + OTHER_SET, sp=1)
+    yield mode_select_10(bytes(8) + ONE_SET)
+    for page, subpage, size in WITH_SUBPAGE:
+        for dbd, llbaa, front in ((1, 0, 8), (1, 1, 8), (0, 0, 16), (0, 1, 24)):
+            for length in range(front + size + 2):
+                yield mode_sense_10(page, length, (length + llbaa) % 4, dbd, subpage, llbaa)
+
+
+@row("mode-sense/each-subpage-of-each-page", profile="extended")
+def each_subpage():
+    """Each subpage code of each page, by both commands (SPC-4, 6.13 and 6.14).
+
+    Of 02h only page 1Ch is there, and 00h and FFh are there of each page and of all pages. All others are
+    refused: command byte 3. A page that is not there comes first: command byte 2.
+    """
+    yield from POWER_ON_TAKEN
+    for page in KNOWN_PAGES:
+        for subpage in range(256):
+            yield mode_sense_6(page, 24, subpage % 4, 1, subpage)
+            yield mode_sense_10(page, 24, subpage // 4 % 4, subpage % 2, subpage, subpage // 2 % 2)
+    for page in MISSING_PAGES:
+        for subpage in (0x00, 0x02, ALL_SUBPAGES):
+            yield mode_sense_6(page, 24, page % 4, 0, subpage)
+            yield mode_sense_10(page, 24, page % 4, 0, subpage)

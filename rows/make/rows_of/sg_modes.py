@@ -25,6 +25,17 @@ def pages_and_pcs(name):
             yield tool(name, "-p", page, "-c", pc)
 
 
+@row("sg_modes/of-subpages-and-each-pc", profile="extended")
+def subpages_and_pcs():
+    """The row asks an extended disk for page 1Ch/02h, alone and with other pages, and for subpages that
+    are not there, by both commands."""
+    yield request_sense(0)
+    for page in ("28,2", "28,255", "63,255", "8,255", "63,2", "8,2"):
+        for pc in range(4):
+            yield tool("sg_modes -p", page, "-c", pc)
+            yield tool("sg_modes --six -p", page, "-c", pc)
+
+
 @row("sg_modes/shows-each-field-that-can-be-changed")
 def fields():
     """The row sets each changeable field (docs/PROFILE.md, "Mode pages"), and shows it by both

@@ -17,7 +17,7 @@ use super::block_descriptor::{
 };
 use super::multi_byte_field::{MultiByteField, first_byte_of};
 use byteorder::{BigEndian, ByteOrder};
-use sg_wire::{CdbWidth, are_zeros};
+use sg_wire::{CdbWidth, Profile, are_zeros};
 
 /// The length of the header of MODE SELECT(6) and of (10), in bytes.
 const HEADER_LENGTH_6: usize = 4;
@@ -141,11 +141,15 @@ fn is_descriptor_length(length: usize, long: bool) -> bool
     length == 0 || length == whole
 }
 
-/// The fields that a field pointer points to. Without the rule each byte is a field of its own.
-pub(super) fn pointed_fields(points_at_fields: bool, fields: &[MultiByteField]) -> &[MultiByteField]
-    ensures { result.now ≡ pointed_fields points_at_fields fields.now }
+/// The fields that a field pointer points to. On a base disk each byte is a field of its own.
+pub(super) fn pointed_fields(profile: Profile, fields: &[MultiByteField]) -> &[MultiByteField]
+    ensures { result.now ≡ pointed_fields profile fields.now }
 {
-    if points_at_fields { fields } else { &[] }
+    if profile.rules().points_at_fields {
+        fields
+    } else {
+        &[]
+    }
 }
 
 /// The fault of a part that begins at an offset. A byte that differs points to the first byte of its
@@ -193,7 +197,7 @@ pub(super) fn check_descriptor(
     list: &[u8],
     width: CdbWidth,
     blocks: Option<u64>,
-    points_at_fields: bool,
+    profile: Profile,
     descriptor: usize,
 ) -> Result<(), ModeSelectFault>
     requires header { header_length width ≤ length list.now }
@@ -202,7 +206,7 @@ pub(super) fn check_descriptor(
     ensures result { result
         ≡ unless_fault
         (first_fault (length list.now)
-        (descriptor_faults width blocks points_at_fields list.now)) tt }
+        (descriptor_faults width blocks profile list.now)) tt }
     ensures whole { OnOk result (header_length width + descriptor ≤ length list.now) }
 {
     let offset = header_length(width);
@@ -212,7 +216,7 @@ pub(super) fn check_descriptor(
             let accepted = accepted_blocks(list, offset, SHORT_NUMBER_LENGTH, blocks);
             let expected = short_descriptor(accepted);
             let ignored = ignored_in_short(blocks);
-            let fields = pointed_fields(points_at_fields, &SHORT_DESCRIPTOR_FIELDS);
+            let fields = pointed_fields(profile, &SHORT_DESCRIPTOR_FIELDS);
             check_fields(
                 list,
                 offset,
@@ -226,7 +230,7 @@ pub(super) fn check_descriptor(
             let accepted = accepted_blocks(list, offset, LONG_NUMBER_LENGTH, blocks);
             let expected = long_descriptor(accepted);
             let ignored = ignored_in_long(blocks);
-            let fields = pointed_fields(points_at_fields, &LONG_DESCRIPTOR_FIELDS);
+            let fields = pointed_fields(profile, &LONG_DESCRIPTOR_FIELDS);
             check_fields(
                 list,
                 offset,

@@ -1,9 +1,10 @@
 // MODE SENSE (SPC-4, 6.13 and 6.14): one list for both commands, whose headers differ.
-ghost use Rattle.std.specs.Prelude.{◌≡◌, ◌≤◌, ◌+◌, [], ◌++◌, IfOk, IfErr, length, if◌then◌else◌};
+ghost use Rattle.std.specs.Prelude.{◌≡◌, ◌≤◌, ◌+◌, [], ◌++◌, ◌&&◌, IfOk, IfErr, length, if◌then◌else◌};
+ghost use Rattle.std.specs.List.{list_any};
 ghost use Rattle.std.specs.Result.{result_map_both};
 ghost use Rattle.sg_wire.specs.Cut.{Puts, answer_of};
-ghost use Rattle.sg_pages.specs.ModePage.{page_data, page_length};
-ghost use Rattle.sg_pages.specs.ModeSense.{descriptor_data, fields_of, has_page};
+ghost use Rattle.sg_pages.specs.ModePage.{each_page, has_page, page_data, page_header_length, page_length};
+ghost use Rattle.sg_pages.specs.ModeSense.{descriptor_data, fields_of, has_code, has_subpage_code};
 ghost use Rattle.sg_pages.specs.ModeSense.{header_after_length, is_requested, length_bytes};
 ghost use Rattle.sg_pages.specs.ModeSense.{mode_parameter_list, mode_sense};
 ghost use Rattle.sg_pages.specs.DataLengths.{longest_list};
@@ -12,17 +13,22 @@ ghost use Rattle.sg_pages.specs.ModeSense.{requested_pages, selected_by};
 use super::block_descriptor::{
     LONG_DESCRIPTOR_LENGTH, SHORT_DESCRIPTOR_LENGTH, long_descriptor, short_descriptor,
 };
-use super::mode_page::{CHANGEABLE, DEFAULT, PS};
+use super::mode_page::{CHANGEABLE, DEFAULT};
 use super::{ModePage, ModePages, ModeSenseFault, ModeSenseRequest, PageValues};
 use byteorder::{BigEndian, ByteOrder};
 use sg_wire::laws::parts_are_put_in_turn;
-use sg_wire::{CdbWidth, Cut, PageCode, PageControl};
+use sg_wire::{CdbWidth, Cut, PageCode, PageControl, PageRequest, Profile};
 
 /// The length of the longest mode parameter list that MODE SENSE returns, in bytes.
-pub const LONGEST_MODE_LIST: usize = 80;
+pub const LONGEST_MODE_LIST: usize = 112;
 
 /// PAGE CODE of all pages.
 const ALL_PAGES: u8 = 0x3F;
+
+/// SUBPAGE CODE of pages without a subpage code, and of all subpages.
+const NO_SUBPAGE: u8 = 0x00;
+
+const ALL_SUBPAGES: u8 = 0xFF;
 
 const DPOFUA: u8 = 0x10;
 
@@ -44,10 +50,10 @@ impl ModePages {
         ensures nothing { IfErr (mode_sense self.now (fields_of request.now))
             (λ _. answer_of cut.new ≡ answer_of cut.old) }
     {
-        if !has_page(request.page.page_code) {
+        if !has_some_page(request.profile, request.page.page_code) {
             return Err(ModeSenseFault::Page);
         }
-        if !matches!(request.page.subpage_code, 0x00 | 0xFF) {
+        if !requests_some_page(request.profile, &request.page) {
             return Err(ModeSenseFault::Subpage);
         }
         self.write_list(request, cut);
@@ -62,10 +68,10 @@ impl ModePages {
         parts_are_put_in_turn();
         let values = self.selected_by(request.page.page_control);
         let descriptor = descriptor_length(request);
-        let following = descriptor + requested_length(values, request.page.page_code);
+        let following = descriptor + requested_length(values, request.profile, &request.page);
         self.write_header(request, descriptor, following, cut);
         write_descriptor(request, cut);
-        write_requested_pages(values, request.page.page_code, cut);
+        write_requested_pages(values, request.profile, &request.page, cut);
     }
 
     /// Writes the header. The block descriptor and the pages have `following` bytes.
@@ -77,7 +83,7 @@ impl ModePages {
         cut: &mut Cut,
     )
         requires descriptor { descriptor_length ≤ 16 }
-        requires following { following ≤ 72 }
+        requires following { following ≤ 104 }
         ensures { let r = fields_of request.now in
             let header = header_after_length self.now r descriptor_length in
             Puts cut.old cut.new (length_bytes r.width (length header + following) ++ header) }
@@ -120,18 +126,46 @@ impl ModePages {
     }
 }
 
-fn has_page(page_code: PageCode) -> bool
-    ensures { result ≡ has_page page_code }
+/// Whether a disk of the profile has a page of PAGE CODE.
+fn has_some_page(profile: Profile, page_code: PageCode) -> bool
+    ensures { result ≡ list_any (λ page. has_page profile page && has_code page_code page) each_page }
 {
-    let code = page_code.number();
-    code == ALL_PAGES || ModePage::with_code(code).is_some()
+    ModePage::ALL
+        .iter()
+        .copied()
+        .any(|page| page.is_of(profile) && has_code(page_code, page))
 }
 
-fn is_requested(page_code: PageCode, page: ModePage) -> bool
-    ensures { result ≡ is_requested page_code page }
+/// Whether a page of a disk of the profile is requested.
+fn requests_some_page(profile: Profile, asked: &PageRequest) -> bool
+    ensures { result ≡ list_any (is_requested profile asked.now) each_page }
+{
+    ModePage::ALL
+        .iter()
+        .copied()
+        .any(|page| is_requested(profile, asked, page))
+}
+
+fn has_code(page_code: PageCode, page: ModePage) -> bool
+    ensures { result ≡ has_code page_code page }
 {
     let code = page_code.number();
     code == ALL_PAGES || code == page.code()
+}
+
+fn has_subpage_code(asked: &PageRequest, page: ModePage) -> bool
+    ensures { result ≡ has_subpage_code asked.now page }
+{
+    let subpage = asked.subpage_code;
+    subpage == ALL_SUBPAGES
+        || subpage == page.subpage_code()
+            && (subpage == NO_SUBPAGE || asked.page_code.number() != ALL_PAGES)
+}
+
+fn is_requested(profile: Profile, asked: &PageRequest, page: ModePage) -> bool
+    ensures { result ≡ is_requested profile asked.now page }
+{
+    page.is_of(profile) && has_code(asked.page_code, page) && has_subpage_code(asked, page)
 }
 
 /// The length of the block descriptor.
@@ -159,51 +193,63 @@ fn write_descriptor(request: &ModeSenseRequest, cut: &mut Cut)
 
 /// The length of the requested pages together.
 #[tactic(auto, unfolding(crate::specs::ModeSense::requested_pages))]
-fn requested_length(values: &PageValues, page_code: PageCode) -> u16
-    ensures length { result ≡ length (requested_pages values.now page_code) }
-    ensures bound { result ≤ 56 }
+fn requested_length(values: &PageValues, profile: Profile, asked: &PageRequest) -> u16
+    ensures length { result ≡ length (requested_pages values.now profile asked.now) }
+    ensures bound { result ≤ 88 }
 {
-    let [first, second, third, fourth] = ModePage::ALL;
-    length_if_requested(first, values, page_code)
-        + length_if_requested(second, values, page_code)
-        + length_if_requested(third, values, page_code)
-        + length_if_requested(fourth, values, page_code)
+    let [first, second, third, fourth, fifth] = ModePage::ALL;
+    length_if_requested(first, values, profile, asked)
+        + length_if_requested(second, values, profile, asked)
+        + length_if_requested(third, values, profile, asked)
+        + length_if_requested(fourth, values, profile, asked)
+        + length_if_requested(fifth, values, profile, asked)
 }
 
 #[tactic(auto, unfolding(crate::specs::ModePage::page_bytes))]
-fn length_if_requested(page: ModePage, values: &PageValues, page_code: PageCode) -> u16
+fn length_if_requested(
+    page: ModePage,
+    values: &PageValues,
+    profile: Profile,
+    asked: &PageRequest,
+) -> u16
     ensures length { result
-        ≡ length (if is_requested page_code page then page_data values.now page else []) }
-    ensures bound { result ≤ 2 + page_length page }
+        ≡ length (if is_requested profile asked.now page then page_data values.now page else []) }
+    ensures bound { result ≤ page_header_length page + page_length page }
 {
-    if is_requested(page_code, page) {
-        2 + values.of(page).len() as u16
+    if is_requested(profile, asked, page) {
+        (page.header().len() + values.of(page).len()) as u16
     } else {
         0
     }
 }
 
 #[tactic(auto, unfolding(crate::specs::ModeSense::requested_pages))]
-fn write_requested_pages(values: &PageValues, page_code: PageCode, cut: &mut Cut)
-    ensures { Puts cut.old cut.new (requested_pages values.now page_code) }
+fn write_requested_pages(values: &PageValues, profile: Profile, asked: &PageRequest, cut: &mut Cut)
+    ensures { Puts cut.old cut.new (requested_pages values.now profile asked.now) }
 {
     parts_are_put_in_turn();
-    let [first, second, third, fourth] = ModePage::ALL;
-    write_if_requested(first, values, page_code, cut);
-    write_if_requested(second, values, page_code, cut);
-    write_if_requested(third, values, page_code, cut);
-    write_if_requested(fourth, values, page_code, cut);
+    let [first, second, third, fourth, fifth] = ModePage::ALL;
+    write_if_requested(first, values, profile, asked, cut);
+    write_if_requested(second, values, profile, asked, cut);
+    write_if_requested(third, values, profile, asked, cut);
+    write_if_requested(fourth, values, profile, asked, cut);
+    write_if_requested(fifth, values, profile, asked, cut);
 }
 
 #[tactic(auto, unfolding(crate::specs::ModePage::page_bytes))]
-fn write_if_requested(page: ModePage, values: &PageValues, page_code: PageCode, cut: &mut Cut)
+fn write_if_requested(
+    page: ModePage,
+    values: &PageValues,
+    profile: Profile,
+    asked: &PageRequest,
+    cut: &mut Cut,
+)
     ensures { Puts cut.old cut.new
-        (if is_requested page_code page then page_data values.now page else []) }
+        (if is_requested profile asked.now page then page_data values.now page else []) }
 {
     parts_are_put_in_turn();
-    if is_requested(page_code, page) {
-        let bytes = values.of(page);
-        cut.put(&[PS + page.code(), bytes.len() as u8]);
-        cut.put(bytes);
+    if is_requested(profile, asked, page) {
+        cut.put(page.header());
+        cut.put(values.of(page));
     }
 }

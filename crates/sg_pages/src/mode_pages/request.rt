@@ -3,7 +3,7 @@
 ghost use Rattle.std.specs.Prelude.{◌≡◌, IsTrue};
 ghost use Rattle.sg_wire.specs.declared.command.mode.CdbWidth.TheVariants.{Ten};
 
-use sg_wire::{CdbWidth, PageRequest};
+use sg_wire::{CdbWidth, PageRequest, Profile};
 use thiserror::Error;
 
 /// The request of a MODE SENSE (SPC-4, 6.13 and 6.14).
@@ -17,6 +17,8 @@ pub struct ModeSenseRequest {
     pub page: PageRequest,
     /// The number of logical blocks of the disk.
     pub blocks: u64,
+    /// The profile of the disk, which says which pages it has.
+    pub profile: Profile,
     pub ghost llbaa_only_in_ten: { IsTrue llbaa → width ≡ Ten },
 }
 
@@ -26,7 +28,7 @@ pub enum ModeSenseFault {
     /// The disk does not have the page of PAGE CODE.
     #[error("the disk does not have the page of PAGE CODE")]
     Page,
-    /// No page has the subpage of SUBPAGE CODE.
-    #[error("no page has the subpage of SUBPAGE CODE")]
+    /// The disk has the page, but not the subpage of SUBPAGE CODE.
+    #[error("the disk does not have the subpage of SUBPAGE CODE")]
     Subpage,
 }

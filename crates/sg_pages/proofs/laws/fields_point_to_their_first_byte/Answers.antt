@@ -4,6 +4,7 @@ use Rattle.sg_pages.specs.declared.mode_pages.mode_page.ModePage.{ModePage}
 use Rattle.sg_pages.specs.declared.mode_pages.mode_page.ModePage.TheVariants.{ReadWriteErrorRecovery}
 use Rattle.sg_pages.specs.declared.mode_pages.mode_page.ModePage.TheVariants.{Caching, Control}
 use Rattle.sg_pages.specs.declared.mode_pages.mode_page.ModePage.TheVariants.{InformationalExceptionsControl}
+use Rattle.sg_pages.specs.declared.mode_pages.mode_page.ModePage.TheVariants.{LogicalBlockProvisioning}
 use Rattle.sg_pages.specs.BlockDescriptor.{descriptor_fields}
 use Rattle.sg_pages.specs.ModeLaws.{points_to_first}
 use Rattle.sg_pages.specs.ModePage.{row_of}
@@ -15,6 +16,7 @@ of-page ReadWriteErrorRecovery = refl
 of-page Caching = refl
 of-page Control = refl
 of-page InformationalExceptionsControl = refl
+of-page LogicalBlockProvisioning = refl
 
 of-descriptor : (long : Bool)
     → list_all (points_to_first (descriptor_fields long)) (descriptor_fields long) ≡ true

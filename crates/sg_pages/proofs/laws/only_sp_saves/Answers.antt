@@ -13,5 +13,5 @@ stays before after (Ok current) e = cc
 stays before after (Err fault) e = cc
 
 pub returns : goal.returns
-returns c before after list width blocks points e =
-    stays before after (selected_values before.current width blocks points list) e
+returns c before after list width blocks profile e =
+    stays before after (selected_values before.current width blocks profile list) e

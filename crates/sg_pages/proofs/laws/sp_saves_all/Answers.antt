@@ -13,5 +13,5 @@ saves before after (Ok current) e = cc
 saves before after (Err fault) e = cc
 
 pub returns : goal.returns
-returns c before after list width blocks points e =
-    saves before after (selected_values before.current width blocks points list) e
+returns c before after list width blocks profile e =
+    saves before after (selected_values before.current width blocks profile list) e

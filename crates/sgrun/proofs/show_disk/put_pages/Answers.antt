@@ -7,4 +7,5 @@ unfolding page_lines
 returns g c =
     Prints-on (rw c.saves_wce.ensures at c.put_flag_line.ensures)
     (Prints-on c.put_hex_line.ensures (Prints-on c.put_hex_line-2.ensures
-    (Prints-on c.put_hex_line-3.ensures c.put_hex_line-4.ensures)))
+    (Prints-on c.put_hex_line-3.ensures
+    (Prints-on c.put_hex_line-4.ensures c.put_provisioning.ensures))))

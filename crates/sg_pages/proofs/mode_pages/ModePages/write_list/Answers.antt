@@ -11,7 +11,7 @@ returns-clause-at_most c =
     let asked = fields_of c.args.request.now in
     let values = c.selected_by-values.ensures in
     let pages = c.requested_length.ensures.length
-    ∙ ap (λ (v : PageValues). length (requested_pages v asked.page.page_code)) values in
+    ∙ ap (λ (v : PageValues). length (requested_pages v asked.profile asked.page)) values in
     list-short c.args.self.now asked
     (omega (
       arith,
@@ -28,9 +28,9 @@ returns-clause-list c =
     let following =
     ap (λ n. n + c.requested_length.result) descriptor.ensures.length
     ∙ ap (λ n. length (descriptor_data asked) + n) (c.requested_length.ensures.length
-    ∙ ap (λ (v : PageValues). length (requested_pages v asked.page.page_code)) values) in
+    ∙ ap (λ (v : PageValues). length (requested_pages v asked.profile asked.page)) values) in
     let pages = c.write_requested_pages.ensures
     ∙ ap (λ (v : PageValues). put (answer_of c.write_descriptor.new.cut)
-    (requested_pages v asked.page.page_code)) values in
+    (requested_pages v asked.profile asked.page)) values in
     list-put c.parts_are_put_in_turn.ensures _ _ _ _ c.args.self.now asked _ _
     descriptor.ensures.length following c.write_header.ensures c.write_descriptor.ensures pages

@@ -11,7 +11,7 @@ pub returns-in-0-clause-result : goal.returns-in-0-clause-result
 returns-in-0-clause-result c =
     let a = c.args in
     sym (ap (λ o. unless_fault o tt)
-    (no-descriptor a.width a.blocks a.points_at_fields a.list.now
+    (no-descriptor a.width a.blocks a.profile a.list.now
     (sym c.requires.length ∙ c.in-0.is)))
 
 pub returns-in-8-clause-result : goal.returns-in-8-clause-result
@@ -28,7 +28,7 @@ returns-in-8-clause-result c =
     let start = header_length a.width in
     let expected = c.short_descriptor-expected.ensures
     ∙ ap (block_descriptor false) c.accepted_blocks-accepted.ensures in
-    let faults = short-faults a.width a.blocks a.points_at_fields list c.requires.known
+    let faults = short-faults a.width a.blocks a.profile list c.requires.known
     (sym c.requires.length ∙ c.in-8.is) in
     c.check_fields.ensures.result
     ∙ (ap (λ (e : List ℕ). answer fields e ignored c.header_length-offset.result) expected
@@ -45,7 +45,7 @@ pub returns-in_default-clause-result : goal.returns-in_default-clause-result
 returns-in_default-clause-result c =
     let a = c.args in
     let list = a.list.now in
-    let faults = long-faults a.width a.blocks a.points_at_fields list c.requires.known
+    let faults = long-faults a.width a.blocks a.profile list c.requires.known
     (λ e. omega (arith, c.requires.length)) (λ e. omega (arith, c.requires.length)) in
     let answer = λ (fields : List MultiByteField) (expected ignored : List ℕ) (offset : ℕ).
     unless_fault (first_fault (length list) (field_faults fields expected ignored

@@ -12,7 +12,7 @@ pub returns-in_err-offset : goal.returns-in_err-offset
 returns-in_err-offset c =
     let p = err_from_is_err_and c.from_residual.result c.from_residual.ensures.1 in
     let next = sym c.loop-offset.invariant.faults
-    ∙ next-faults c.args.points_at_fields c.args.current.now c.loop-offset.offset c.args.list.now
+    ∙ next-faults c.args.profile c.args.current.now c.loop-offset.offset c.args.list.now
     c.loop-offset-test.true in
     rw (p.1, p.2) (fails _ _ _ _ _ next (unless-err _ _ _ c.in_err-offset.ensures.result))
 
@@ -20,18 +20,18 @@ pub loop-offset-preserved : goal.loop-offset-preserved
 loop-offset-preserved c =
     let list = c.args.list.now in
     let current = c.args.current.now in
-    let points = c.args.points_at_fields in
+    let profile = c.args.profile in
     let offset = c.loop-offset.offset in
     let after = offset + (page_at offset list).size in
     let passed = unless-ok _ _ _ c.in_ok-offset.ensures.result in
     record {
       inside = rw (passed.1) c.in_ok-offset.ensures.whole;
       faults =
-          ap (λ n. first_fault (length list) (flat_map (page_faults points current) (pages_from n list)))
+          ap (λ n. first_fault (length list) (flat_map (page_faults profile current) (pages_from n list)))
           passed.1
-          ∙ (sym (next-faults points current offset list c.loop-offset-test.true
+          ∙ (sym (next-faults profile current offset list c.loop-offset-test.true
           ∙ ap (λ o. option_or o (first_fault (length list)
-          (flat_map (page_faults points current) (pages_from after list)))) passed.0)
+          (flat_map (page_faults profile current) (pages_from after list)))) passed.0)
           ∙ c.loop-offset.invariant.faults);
       values =
           ap (λ n. values_after c.take_page.new.values (pages_from n list)) passed.1
@@ -43,6 +43,6 @@ loop-offset-preserved c =
 
 pub returns : goal.returns
 returns c =
-    no-page c.args.points_at_fields c.args.current.now c.loop-offset.values c.loop-offset.offset c.args.first
+    no-page c.args.profile c.args.current.now c.loop-offset.values c.loop-offset.offset c.args.first
     c.args.list.now c.loop-offset-test.false c.loop-offset.invariant.faults
     c.loop-offset.invariant.values

@@ -8,9 +8,9 @@ abbrev pub invariant-loop-offset : goal.invariant-loop-offset
 invariant-loop-offset l = record {
   inside : l.offset ≤ length l.list;
   faults : first_fault (length l.list)
-      (flat_map (page_faults l.points_at_fields l.current) (pages_from l.offset l.list))
+      (flat_map (page_faults l.profile l.current) (pages_from l.offset l.list))
       ≡ first_fault (length l.list)
-      (flat_map (page_faults l.points_at_fields l.current) (pages_from l.fn.first l.list));
+      (flat_map (page_faults l.profile l.current) (pages_from l.fn.first l.list));
   values : values_after l.values (pages_from l.offset l.list)
       ≡ values_after l.current (pages_from l.fn.first l.list);
 }

@@ -13,5 +13,6 @@ returns c =
     put-two law _ _ _ _ _ c.write_if_requested.ensures
     (put-two law _ _ _ _ _ c.write_if_requested-2.ensures
     (put-two law _ _ _ _ _ c.write_if_requested-3.ensures
-    (c.write_if_requested-4.ensures
-    ∙ ap (put (answer_of c.write_if_requested-3.new.cut)) (sym (append-nil _)))))
+    (put-two law _ _ _ _ _ c.write_if_requested-4.ensures
+    (c.write_if_requested-5.ensures
+    ∙ ap (put (answer_of c.write_if_requested-4.new.cut)) (sym (append-nil _))))))

@@ -5,8 +5,8 @@ use Rattle.std.specs.Prelude.{IfSome}
 use Rattle.std.proofs.lemmas.Bool.Decides.{nat_tests}
 use Rattle.std.proofs.lemmas.Option.{slice_get_past, slice_get_read}
 use Rattle.sg_tools.specs.declared.show.Show.{Show}
-use Rattle.sg_embed.specs.Kinds.{extended_kinds}
-use Rattle.sg_embed.proofs.kinds.extended_kind.Goals as goal
+use Rattle.sg_embed.specs.Kinds.{kinds}
+use Rattle.sg_embed.proofs.kinds.kind_numbered.Goals as goal
 
 -- the kind that a list has at a place
 kind-at : (kinds : List Show) (i : ℕ) (found : Option (Bor Show)) → is_some found ≡ nat_lt i (length kinds)
@@ -19,4 +19,4 @@ kind-at kinds i (Some kind) some same =
 pub returns : goal.returns
 returns c =
     c.copied.ensures
-    ∙ kind-at extended_kinds c.args.index c.get.result c.get.ensures.lookup.0 c.get.ensures.lookup.1
+    ∙ kind-at kinds c.args.number c.get.result c.get.ensures.lookup.0 c.get.ensures.lookup.1
