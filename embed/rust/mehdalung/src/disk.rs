@@ -75,6 +75,32 @@ impl Disk {
         Ok(Disk { slot, data_in: vec![0; sys::BUFFER_LENGTH].into() })
     }
 
+    /// Makes the disk that most tests need: an extended disk in memory, with 4,096 blocks and a pool of
+    /// 1,024. Each initiator has taken its unit attention of power on.
+    ///
+    /// # Errors
+    ///
+    /// [`Error::OutOfMemory`].
+    ///
+    /// # Examples
+    ///
+    /// ```
+    /// # use mehdalung::{Disk, Error};
+    /// # fn main() -> Result<(), Error> {
+    /// let mut disk = Disk::for_tests()?;
+    /// assert!(disk.initiator(63).write10(4095, 1, &[7; 512])?.is_good());
+    /// assert_eq!(disk.initiator(0).read10(4095, 1)?.data_in, [7; 512]);
+    /// # Ok(())
+    /// # }
+    /// ```
+    pub fn for_tests() -> Result<Disk, Error> {
+        let mut disk = Disk::with_profile(profile::EXTENDED, 4096, 1024, None)?;
+        for number in 0..disk.initiators()? {
+            disk.initiator(number).request_sense(false, 18)?;
+        }
+        Ok(disk)
+    }
+
     /// Opens the disk that a file keeps, as after power on. An empty file becomes the disk that is
     /// wanted. If there is no file, an empty one is made.
     ///

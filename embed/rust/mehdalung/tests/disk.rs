@@ -174,6 +174,19 @@ fn an_extended_disk_has_64_initiators() -> Result<(), Error> {
 }
 
 #[test]
+fn a_disk_for_tests_has_no_unit_attention() -> Result<(), Error> {
+    let mut disk = Disk::for_tests()?;
+    assert_eq!(disk.initiators()?, 64);
+    only_report(&mut disk, 0, 0, 0)?;
+    assert_eq!(disk.execute(0, &READ_CAPACITY, &[])?.data_in, [0, 0, 0x0F, 0xFF, 0, 0, 2, 0]);
+    assert!(disk.initiator(63).write10(0, 1024, &[1; 1024 * 512])?.is_good());
+    // the pool has no more room (SBC-3, 4.7)
+    let reply = disk.initiator(63).write10(1024, 1, &[1; 512])?;
+    compare_sense(&reply, Some((sense_key::DATA_PROTECT, 0x27, 0x07)), None);
+    Ok(())
+}
+
+#[test]
 fn armed_faults_meet_commands() -> Result<(), Error> {
     let read_five = [0x28, 0, 0, 0, 0, 0, 0, 0, 5, 0];
     let mut disk = Disk::new(64, 4, None)?;
