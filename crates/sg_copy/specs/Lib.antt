@@ -1,0 +1,3 @@
+pub mod CopyFaults
+pub mod CopyList
+pub mod CopyReports
