@@ -1,5 +1,4 @@
-use Rattle.std.proofs.Common.{◌≡◌, ◌∙◌, ap, sym, arith, rules}
-use Rattle.std.specs.Prelude.{◌==◌}
+use Rattle.std.proofs.Common.{sym, rules}
 use Rattle.std.proofs.lemmas.Result.{err_from_is_err_and}
 use Rattle.sg_copy.proofs.CheckLemmas.{list_refuses, copy_refuses}
 use Rattle.sg_copy.proofs.copy_list.CopyList.read.Goals as goal
