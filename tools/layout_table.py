@@ -30,7 +30,7 @@ FREE_LABELS = {
     "immed_bits": "1:02 IMMED, 1:04 SYNC_NV",
     "start_bits": "1:01 IMMED, 4:04 NO_FLUSH",
     "diagnostic_bits": "1:10 PF, 1:02 DEVOFFL, 1:01 UNITOFFL",
-    "format_bits": "1:08 CMPLST, 1:07 DEFECT LIST FORMAT",
+    "format_bits": "1:08 CMPLST",
     "sanitize_bits": "1:80 IMMED, 1:20 AUSE",
     "log_bits": "2:C0 PC",
 }

@@ -14,6 +14,7 @@ import pages
 import reports
 import reservations
 import sense
+import thresholds
 from attentions import with_condition
 from layouts import OPERATION_CODES, Command, class_of, layout_of
 from provisioning import Provisioning
@@ -54,7 +55,7 @@ class Device:
         self.seed = seed  # of the names, 60 bits
         self.provisioning = Provisioning(capacity, pool)
         self.stopped = False
-        self.modes = modes.Modes()
+        self.modes = modes.Modes(self.profile)
         self.reservations = reservations.Reservations()
         self.faults = faults.Faults()  # they outlive resets and power cycles
         self.power_on()
@@ -103,7 +104,17 @@ class Device:
         return Reply(*self.executed(initiator, cdb, data_out))
 
     def executed(self, initiator, cdb, data_out):
-        """The status, the data-in and the sense data of a command that no fault stops."""
+        """The answer to a command that no fault stops. If the command has crossed a threshold of the pool,
+        initiators are told (SBC-3, 4.7). Its answer is the same as without thresholds."""
+        before = self.provisioning.threshold_sets(self.profile)
+        answer = self.answer(initiator, cdb, data_out)
+        if thresholds.are_crossed(self, before):
+            told = [initiator] if thresholds.tell_only_sender(self) else self.initiators
+            self.raise_attention(told, sense.THIN_PROVISIONING_SOFT_THRESHOLD_REACHED)
+        return answer
+
+    def answer(self, initiator, cdb, data_out):
+        """The status, the data-in and the sense data"""
         try:
             return GOOD, self.data_in(initiator, cdb, data_out), b""
         except reservations.Conflict:
@@ -130,8 +141,9 @@ class Device:
         return OPERATIONS[command.name](self, initiator, command, data_out)
 
     def comes_before_a_conflict(self, code):
-        """SAM-5, 5.3.3: attentions with 29h do. On a base disk every attention does."""
-        return self.profile == "base" or code >> 8 == 0x29
+        """SAM-5, 5.3.3: attentions with 29h do, and MICROCODE HAS BEEN CHANGED. On a base disk every
+        attention does."""
+        return self.profile == "base" or code >> 8 == 0x29 or code == sense.MICROCODE_HAS_BEEN_CHANGED
 
     def raise_attention(self, initiators, code):
         for initiator in initiators:

@@ -126,7 +126,7 @@ class Probe:
     def status_extents(self, _start):
         return []  # it reads no block
 
-    def resources(self):
+    def threshold_sets(self, _profile):
         return 0, 0  # nor does this
 
 

@@ -15,7 +15,7 @@ from sense import invalid_field_in_cdb
 TABLE = """
 00    | TEST UNIT READY        | allowed |                                             |
 03    | REQUEST SENSE          | allowed | desc 1:01, allocation_length 4              |
-04    | FORMAT UNIT            | writes  | longlist 1:20, fmtdata 1:10                 | 1:0F
+04    | FORMAT UNIT            | writes  | longlist 1:20, fmtdata 1:10                 | 1:08
 08    | READ(6)                | reads   | address 1:1F-3, count 4                     |
 0A    | WRITE(6)               | writes  | address 1:1F-3, count 4                     |
 12    | INQUIRY                | allowed | evpd 1:01, page_code 2, \

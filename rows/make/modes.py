@@ -6,8 +6,8 @@ from sense import (
     MODE_PARAMETERS_CHANGED, invalid_field_in_parameter_list, parameter_list_length_error)
 
 # Of each page, by PAGE CODE and SUBPAGE CODE, what comes after PAGE LENGTH: the default values, and the bits
-# that can be changed. The table is in ascending order.
-PAGES = {
+# that can be changed. Both tables are in ascending order.
+OF_BOTH = {
     # Read-Write Error Recovery (SBC-3, 6.4): AWRE and ARRE, READ and WRITE RETRY COUNT
     (0x01, 0x00): ("C0 08 00 00 00 00 08 00 00 00", "C0 FF 00 00 00 00 FF 00 00 00"),
     # Caching (SBC-3, 6.4): WCE
@@ -16,18 +16,25 @@ PAGES = {
     (0x0A, 0x00): ("00 00 00 00 00 00 00 00 00 00", "04 00 08 00 00 00 00 00 00 00"),
     # Informational Exceptions Control (SPC-4, 7.5): DEXCPT
     (0x1C, 0x00): ("08 00 00 00 00 00 00 00 00 00", "00 00 00 00 00 00 00 00 00 00"),
-    # Logical Block Provisioning (SBC-3, 6.4): SITUA and reserved bytes, then two threshold descriptors. One
-    # is of resources that are available, 01h, and armed decreasing, 0. The other is of used ones, 02h, and
-    # armed increasing, 1. None of them is enabled, and both thresholds are soft.
-    (0x1C, 0x02): (12 * "00 " + "00 01 00 00 00 00 00 00 01 02 00 00 00 00 00 00", 28 * "00 "),
 }
-DEFAULT = {page: bytes.fromhex(default) for page, (default, _) in PAGES.items()}
-CHANGEABLE = {page: bytes.fromhex(bits) for page, (_, bits) in PAGES.items()}
-CONTROL = 0x0A, 0x00
-PAGES_OF = {
-    "base": [page for page in PAGES if page != (0x1C, 0x02)],
-    "extended": [*PAGES],
+# If both tables have a page, an extended disk has the second.
+OF_EXTENDED = {
+    # Read-Write Error Recovery, with LBPERE (SBC-3, 6.4)
+    (0x01, 0x00): ("C0 08 00 00 00 80 08 00 00 00", "C0 FF 00 00 00 80 FF 00 00 00"),
+    # Logical Block Provisioning (SBC-3, 6.4): SITUA and reserved bytes, then two threshold descriptors with
+    # ENABLED, THRESHOLD RESOURCE and THRESHOLD COUNT. One is of resources that are available, 01h, and armed
+    # decreasing, 0. The other is of used ones, 02h, and armed increasing, 1. Both thresholds are soft.
+    (0x1C, 0x02): (12 * "00 " + "00 01 00 00 00 00 00 00 01 02 00 00 00 00 00 00",
+                   "01 " + 11 * "00 " + 2 * "80 00 00 00 FF FF FF FF "),
 }
+TABLES = {"base": OF_BOTH, "extended": OF_BOTH | OF_EXTENDED}
+PAGES_OF = {profile: [*table] for profile, table in TABLES.items()}
+DEFAULT, CHANGEABLE = (
+    {profile: {page: bytes.fromhex(values[column]) for page, values in table.items()}
+     for profile, table in TABLES.items()}
+    for column in (0, 1))
+LENGTHS = {page: len(values) for page, values in DEFAULT["extended"].items()}  # of a disk of each profile
+ERROR_RECOVERY, CONTROL, PROVISIONING = (0x01, 0x00), (0x0A, 0x00), (0x1C, 0x02)
 # The fields of several bytes: of each page, and of the short and the long block descriptor, the numbers
 # of the first and the last byte. What is reserved or obsolete counts as in the standards' figures: an
 # obsolete field of several bytes is a field, and a reserved byte is one by itself.
@@ -57,9 +64,9 @@ LONGLBA = 0x01
 
 
 class Modes:
-    def __init__(self):
-        self.current = dict(DEFAULT)
-        self.saved = dict(DEFAULT)
+    def __init__(self, profile):
+        self.default, self.changeable = DEFAULT[profile], CHANGEABLE[profile]
+        self.current, self.saved = dict(self.default), dict(self.default)
 
     def become_saved(self):
         """The saved values become the current ones (SPC-4, 7.5)."""
@@ -74,13 +81,13 @@ class Modes:
         return bool(self.current[CONTROL][2] & 0x08)
 
     def values(self, page_control):
-        return (self.current, CHANGEABLE, DEFAULT, self.saved)[page_control]
+        return (self.current, self.changeable, self.default, self.saved)[page_control]
 
 
 def page_header(page):
     """The first 2 or 4 bytes of a page, with PS 0 (SPC-4, 7.5)"""
     code, subpage = page
-    length = len(DEFAULT[page])
+    length = LENGTHS[page]
     if subpage:
         return bytes([SPF | code, subpage]) + length.to_bytes(2, "big")
     return bytes([code, length])
@@ -250,15 +257,15 @@ def page_at(device, parameters, place):
 
 def pages_from(device, parameters, place):
     """The pages of the list: of one that is sent twice the last one counts."""
-    current = device.modes.current
+    current, changeable = device.modes.current, device.modes.changeable
     selected = {}  # all are compared with what they were before the command
     while place < len(parameters):
         page = page_at(device, parameters, place)
         pointer = to_fields(device, place, PAGE_FIELDS[page])
         place += len(page_header(page))
-        length = len(DEFAULT[page])
+        length = LENGTHS[page]
         sent = parameters[place:place + length]
-        values = zip(sent, current[page], CHANGEABLE[page])
+        values = zip(sent, current[page], changeable[page])
         wanted = bytes(old & ~bits | new & bits for new, old, bits in values)
         need_equal(parameters, place, wanted, pointer)
         present(parameters, place + length)

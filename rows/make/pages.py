@@ -1,7 +1,7 @@
 """INQUIRY: standard INQUIRY data and pages of vital product data (SPC-4, 6.6 and 7.8; SBC-3)."""
 
 import blocks
-import provisioning
+from provisioning import threshold_exponent
 
 VENDOR = b"SGMODEL "  # T10 VENDOR IDENTIFICATION, 8 bytes
 PRODUCT = b"THIN DISK       "  # 16 bytes
@@ -139,7 +139,7 @@ def block_device_characteristics(_device):
 
 def logical_block_provisioning(device):
     """SBC-3: LBPU, LBPWS, LBPWS10, LBPRZ and ANC_SUP are 1, PROVISIONING TYPE is 2"""
-    exponent = provisioning.THRESHOLD_EXPONENT[device.profile]
+    exponent = threshold_exponent(device.profile, device.provisioning.capacity)
     return bytes([exponent, 0x80 | 0x40 | 0x20 | 0x04 | 0x02, 2, 0])
 
 

@@ -15,7 +15,6 @@ from sense import (
 BLOCK_LENGTH = 512
 ZEROS = bytes(BLOCK_LENGTH)
 MAPPED, DEALLOCATED, ANCHORED = 0, 1, 2  # SBC-3, 5.4.2, PROVISIONING STATUS
-THRESHOLD_EXPONENT = {"base": 0, "extended": 1}  # SBC-3, 4.7: 0 is no thresholds; page B2h has it
 MOST_BLOCKS_OF_A_DESCRIPTOR = 2**32 - 1
 MOST_DESCRIPTORS = 512
 ALL_BLOCKS = 2**64
@@ -28,9 +27,12 @@ class Provisioning:
         self.contents = {}  # the bytes of each mapped address, None for each anchored one
         self.most_moved = ALL_BLOCKS  # a fault moves fewer of a command's blocks
 
-    def resources(self):
-        """The blocks of the pool that no address has, and those that some address has"""
-        return self.pool - len(self.contents), len(self.contents)
+    def threshold_sets(self, profile):
+        """How many whole threshold sets of the pool no address has, and how many some address has (SBC-3,
+        4.7). Anchored addresses have blocks of the pool, too."""
+        size = 2 ** threshold_exponent(profile, self.capacity)
+        used = len(self.contents)
+        return (self.pool - used) // size, used // size
 
     def status(self, address):
         if address not in self.contents:
@@ -124,6 +126,14 @@ class Provisioning:
                 extents.append((place, count, status))
                 place += count
         return extents
+
+
+def threshold_exponent(profile, capacity):
+    """SBC-3, 4.7: a threshold set has 2 to the THRESHOLD EXPONENT blocks. The number of the sets of a disk
+    has to fit in four bytes. 0 is for a disk without thresholds."""
+    if profile == "base":
+        return 0
+    return 1 if capacity < 2**33 else 9
 
 
 def joined(extents):

@@ -8,10 +8,11 @@ import random
 
 from device import PROFILES, Device
 from layouts import LAYOUTS_OF
-from modes import CHANGEABLE, DEFAULT, PAGES_OF, page_header
+from modes import CHANGEABLE, DEFAULT, ERROR_RECOVERY, PAGES_OF, PROVISIONING, page_header
 from random_words import attention_words, fault_words, in_any_form, show_line, tool_line
 from reservations import ALL_TG_PT, INITIATORS, SPEC_I_PT, TYPES, UNREG, transport_id
 from script import Run
+from thresholds import ENABLED, LBPERE, LBPERE_AT, OF_AVAILABLE, OF_USED
 
 # Who sends lines, by profile. Some initiators are more frequent.
 SENDERS = {"base": (0, 0, 0, 0, 1, 1, 1, 2, 2, 3, 4, 5, 6, 7)}
@@ -35,9 +36,10 @@ THEMES = (
      "REPORT TARGET PORT GROUPS"),
     (),
 )
-# Of an extended disk, too: moves of a reservation, with few lines that end it.
+# Of an extended disk, too: moves of a reservation, with few lines that end it, and thresholds.
 THEMES_OF_EXTENDED = (
     (*4 * ("REGISTER AND MOVE", "REGISTER"), *2 * ("RESERVE", "READ FULL STATUS")),
+    ("MODE SELECT(6)", "MODE SELECT(10)", *2 * ("WRITE(10)", "WRITE SAME(16)", "UNMAP"), "FORMAT UNIT"),
 )
 OFTEN = 6
 TOOL_LINES = ("sg_inq", "sg_inq -l 5", "sg_vpd -p di", "sg_vpd -p bl", "sg_modes", "sg_modes -c 3",
@@ -68,6 +70,9 @@ class Script:
         self.blocks = self.random.choice((1, 8, 20, 4096, 2**33))
         self.capacity = self.blocks  # as it is at the next line, if the disk grows
         self.pool = self.random.choice((1, 4, 9))
+        if self.profile == "extended" and self.blocks == 2**33:  # a threshold set has 512 blocks
+            self.pool = self.random.choice((self.pool, 600, 1030))
+        self.has_large_pool = self.pool > 9
         self.type = self.random.choice(TYPES)  # most RESERVE, RELEASE and PREEMPT name it
         self.bad = 0  # where the blocks of the last fault begin, or of the last WRITE LONG
         self.run, self.key = Run(Device(self.blocks, self.pool, profile)), None
@@ -94,6 +99,8 @@ class Script:
                 return self.happening()
             if self.is_rare(0.04):
                 return self.near_bad_blocks()
+            if self.is_rare(0.06):
+                return self.near_thresholds()
         initiator, place = self.random.choice(SENDERS[self.profile]), self.random.random()
         if place < 0.005:
             return "power"
@@ -104,7 +111,7 @@ class Script:
         if place < 0.17:
             return show_line(self.random, self.profile)
         if place < 0.25:
-            return f"fill {self.word_of(initiator)} {self.address()} {self.small()} {self.small()}"
+            return "fill {} {} {} {}".format(self.word_of(initiator), *self.extent(), self.small())
         (code, action), layout = self.random.choice(self.layouts)
         initiator = self.sender(initiator, layout.name)
         cdb, data_out = self.command(code, action, layout)
@@ -183,6 +190,23 @@ class Script:
             f"{initiator} sg_get_lba_status -b -l {address}",
         ))
 
+    def near_thresholds(self):
+        """A command that sets thresholds, or one that takes blocks of the pool or gives some back. Mostly no
+        unit attention and no reservation is in its way."""
+        disk, senders = self.run.device, SENDERS[self.profile]
+        fitting = [it for it in senders if not disk.attentions[it] and disk.reservations.allow(it, "writes")]
+        initiator = self.word_of(self.random.choice(fitting or senders))
+        page = page_header(PROVISIONING) + self.mode_values(PROVISIONING)
+        address, count = self.extent()
+        return self.random.choice((
+            *3 * (f"raw {initiator} 15{self.random.choice((0x10, 0x11)):02x}00002400 00000000{page.hex()}",),
+            *3 * (f"fill {initiator} {address} {count} 9",),
+            f"{initiator} sg_unmap -l {address} -n {count}",
+            f"{initiator} sg_unmap -a -l {address} -n {count}",
+            f"{initiator} sg_write_same -S -l {address} -n {count} -U",
+            f"raw {initiator} 040000000000",
+        ))
+
     def growth(self):
         """A number of blocks near the present one, or far above it, or out of range."""
         more = self.random.choice((-1, 0, 1, 1, 2, 7, 100, 2**32, 2**40 + 1 - self.capacity))
@@ -225,6 +249,12 @@ class Script:
         end = self.capacity
         near = (self.small(), self.small(), end - self.small(), end + self.small())
         return max(0, self.random.choice((*near, *near, 2**32 - self.small(), 2**64 - 1)))
+
+    def extent(self):
+        """An address and a count. They are larger if the pool is."""
+        if self.has_large_pool and self.is_rare(0.7):
+            return 200 * self.random.randrange(8), self.random.choice((100, 199, 255, 256))
+        return self.address(), self.small()
 
     def value(self, field, command):
         pages = (0x01, 0x08, 0x0A, 0x1C, 0x3F)
@@ -281,7 +311,7 @@ class Script:
             return bytes([self.random.choice((0, 0, 7))]) * 512
         if command == "UNMAP":
             count = 65 if self.is_rare(0.03) else self.small()
-            extents = [(self.address(), self.small()) for _ in range(count)]
+            extents = [self.extent() for _ in range(count)]
             descriptors = b"".join(
                 at.to_bytes(8, "big") + count.to_bytes(8, "big")[4:] + bytes(4)
                 for at, count in extents)
@@ -350,11 +380,25 @@ class Script:
             blocks = self.random.choice((0, min(self.capacity, 2**32 - 1), self.small()))
             data[header - 1] = 8
             data += blocks.to_bytes(4, "big") + (512).to_bytes(4, "big")
-        pages = PAGES_OF[self.profile]
-        for page in self.random.sample(pages, self.random.choice((0, 1, 1, 2))):
-            values = [kept ^ self.random.randrange(256) & bits
-                      for kept, bits in zip(DEFAULT[page], CHANGEABLE[page])]
-            data += page_header(page) + bytes(values)
+        pages = self.random.sample(PAGES_OF[self.profile], self.random.choice((0, 1, 1, 2)))
+        if self.profile == "extended" and self.is_rare(0.3):
+            pages.append(PROVISIONING)
+        for page in pages:
+            data += page_header(page) + self.mode_values(page)
         if self.is_rare(0.1):
             data[self.random.randrange(len(data))] ^= 1 << self.random.randrange(8)
         return bytes(data)
+
+    def mode_values(self, page):
+        """The default values with some changeable bits turned. Most thresholds of an extended disk are
+        enabled and small, and most of its lists want them reported."""
+        default, changeable = DEFAULT[self.profile][page], CHANGEABLE[self.profile][page]
+        values = bytearray(
+            kept ^ self.random.randrange(256) & bits for kept, bits in zip(default, changeable))
+        if self.profile == "extended" and not self.is_rare(0.2):
+            if page == ERROR_RECOVERY:
+                values[LBPERE_AT] |= LBPERE
+            for place in (OF_AVAILABLE, OF_USED) if page == PROVISIONING else ():
+                values[place] |= 0 if self.is_rare(0.2) else ENABLED
+                values[place + 4:place + 8] = self.random.choice((0, 1, 1, 2, 2, 3, 4)).to_bytes(4, "big")
+        return bytes(values)

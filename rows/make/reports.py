@@ -6,7 +6,6 @@ They are commands of SPC-4, except READ DEFECT DATA (SBC-3, 5.17 and 5.18).
 import sense
 from layouts import CODES_WITH_ACTIONS, LAYOUTS
 from pages import RELATIVE_TARGET_PORT, TARGET_PORT_GROUP
-from provisioning import THRESHOLD_EXPONENT
 
 LUN_0 = bytes(8)
 # SELECT REPORT (SPC-4, 6.33): all units but well known ones, only well known ones, and both.
@@ -159,13 +158,11 @@ def supported_subpages(_device):
 
 
 def logical_block_provisioning(device):
-    """SBC-3, log parameters: blocks of the pool in whole threshold sets. Anchored ones are used."""
-    threshold_set = 2 ** THRESHOLD_EXPONENT[device.profile]
-    parameters = {}
-    for code, blocks in zip((AVAILABLE, USED), device.provisioning.resources()):
-        count = (blocks // threshold_set).to_bytes(4, "big")
-        parameters[code] = count + bytes([DEDICATED_TO_LOGICAL_UNIT, 0, 0, 0])
-    return DISABLE_SAVE, parameters
+    """SBC-3, log parameters: RESOURCE COUNT of the available threshold sets, and of the used ones"""
+    scope = bytes([DEDICATED_TO_LOGICAL_UNIT, 0, 0, 0])
+    counts = device.provisioning.threshold_sets(device.profile)
+    return DISABLE_SAVE, {
+        code: count.to_bytes(4, "big") + scope for code, count in zip((AVAILABLE, USED), counts)}
 
 
 def informational_exceptions(_device):

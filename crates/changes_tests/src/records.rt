@@ -4,7 +4,7 @@ use sg_changes::{Change, NewDisk};
 use sg_faults::Faults;
 use sg_pages::{Identity, ModePages};
 use sg_units::Reservations;
-use sg_wire::Extent;
+use sg_wire::{Extent, Profile};
 use std::test::*;
 
 #[test]
@@ -38,7 +38,7 @@ fn an_extent_and_a_capacity(rt: HostRuntime) {
 #[test]
 fn the_state_of_a_new_disk(rt: HostRuntime) {
     let mut buffer = Buffer::new();
-    let pages = ModePages::new();
+    let pages = ModePages::new(Profile::Base);
     Change::Pages(pages.saved()).write(&mut buffer);
     Change::Reservations(&Reservations::new()).write(&mut buffer);
     Change::Faults(&Faults::new()).write(&mut buffer);

@@ -243,7 +243,7 @@ fn unmap(random: &mut Random) -> Sent {
 fn mode_select(random: &mut Random, page: &[(usize, u8)], length: u8) -> Sent {
     let sp = random.below(2);
     let cdb = cdb_with(&[(0, 0x15), (1, 0x10 | sp), (4, length)]);
-    (cdb, list_with(page, usize::from(length)), sp != 0)
+    (cdb, list_with(page, usize::from(length)), true)
 }
 
 /// WCE, bit 2 of the page's byte 2, is 0 or 1 (SBC-3, 6.4).

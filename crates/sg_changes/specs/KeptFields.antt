@@ -27,7 +27,7 @@ abbrev pub blank : (capacity pool : ℕ) → IdentityFields → KeptFields
 blank capacity pool identity = record {
   identity = identity;
   disk = empty_disk capacity pool;
-  saved = default_values;
+  saved = default_values identity.profile;
   reservations = empty_state;
   faults = no_faults;
 }

@@ -195,7 +195,7 @@ impl<S: Store> KeptParts<S> {
             capacity: disk.capacity(),
             pool: disk.pool(),
             store,
-            saved: *ModePages::new().saved(),
+            saved: *ModePages::new(disk.identity().profile()).saved(),
             reservations: Reservations::new(),
             faults: Faults::new(),
         })

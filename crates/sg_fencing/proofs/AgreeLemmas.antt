@@ -8,11 +8,12 @@ use Rattle.sg_units.specs.declared.reservation_state.ReservationState.{Reservati
 use Rattle.sg_target.specs.ReservationCommands.{changing_reservations, reservation_change}
 use Rattle.sg_target.specs.State.{State}
 use Rattle.sg_target.specs.Step.{Step, step}
-use Rattle.sg_target.specs.Charge.{step_by}
+use Rattle.sg_target.specs.Charge.{step_before_alert}
 use Rattle.sg_target.specs.declared.operation.Operation.{Operation}
 use Rattle.sg_target.specs.declared.operation.Operation.TheVariants.{ChangeReservations}
 use Rattle.sg_target.specs.declared.operation.Operation.TheVariants.{ReturnReservations}
 use Rattle.sg_fencing.proofs.AlikeLemmas.{EffectsAgree, StepsAgree, checks-same, operation-agrees}
+use Rattle.sg_fencing.proofs.AlikeLemmas.{told-agree}
 use Rattle.sg_fencing.proofs.AlikeLemmas.{parse-same, raised-equal, refused-agree, reporting-agree}
 use Rattle.sg_fencing.proofs.AlikeLemmas.{sound-agree}
 use Rattle.sg_target.proofs.LiftLemmas.{lifted-both}
@@ -41,7 +42,8 @@ module _ (s : State) (q : Pending) (i : ℕ) (own : pending_for s.attentions i �
     found = refl;
   }
 
-  by-operation : (operation : Operation) → Agree (step_by s i operation) (step_by t i operation)
+  by-operation : (operation : Operation)
+      → Agree (step_before_alert s i operation) (step_before_alert t i operation)
   unfolding reservation_change
   by-operation (ChangeReservations action scope_type list) =
       sound-agree AreSame s q s.reservations i own refl (reservation_change s i action scope_type list)
@@ -55,4 +57,6 @@ module _ (s : State) (q : Pending) (i : ℕ) (own : pending_for s.attentions i �
       lifted-both s t i cdb data_out refl
       (checks-same AreSame s q s.reservations i own refl (λ class. refl) cdb)
       (parse-same AreSame s q s.reservations i own refl data_out) Agree
-      (refused-agree AreSame s q s.reservations i own refl false) (λ operation k. by-operation operation)
+      (refused-agree AreSame s q s.reservations i own refl false) (λ operation k.
+      told-agree AreSame s q s.reservations i own refl false (step_before_alert s i operation)
+      (step_before_alert t i operation) (by-operation operation))

@@ -25,9 +25,11 @@ use Rattle.sg_wire.specs.Initiator.{initiator_count}
 use Rattle.sg_units.specs.Attentions.{Pending, pending_for, raised, with_condition, with_optional}
 use Rattle.sg_units.specs.Attentions.{remaining, without_condition, without_oldest}
 use Rattle.sg_units.specs.Raised.{Conditions, queue_after, raised_for_each, raised_for_others}
+use Rattle.sg_units.specs.Raised.{raised_for_members}
 use Rattle.sg_units.specs.declared.reservation_state.ReservationState.{ReservationState}
 use Rattle.sg_units.specs.declared.unit_attention.UnitAttention.{UnitAttention}
 use Rattle.sg_units.specs.declared.unit_attention.UnitAttention.TheVariants.{ModeParametersChanged}
+use Rattle.sg_units.specs.declared.unit_attention.UnitAttention.TheVariants.{SoftThresholdReached}
 use Rattle.sg_units.specs.declared.unit_attention.UnitAttention.TheVariants.{ReportedLunsDataChanged}
 use Rattle.sg_target.specs.BlockCommands.{comparing, comparing_each, exchanging, or_writing, reading}
 use Rattle.sg_target.specs.BlockCommands.{writing}
@@ -47,8 +49,8 @@ use Rattle.sg_target.specs.Refusal.{first_some, pending_sense, when_sound}
 use Rattle.sg_target.specs.ReservationCommands.{reporting}
 use Rattle.sg_target.specs.StartStop.{starting_or_stopping}
 use Rattle.sg_target.specs.State.{State, profile_of, resources_of}
-use Rattle.sg_target.specs.Step.{Step, cut, executed, good, outcome, refused}
-use Rattle.sg_target.specs.Charge.{step_by}
+use Rattle.sg_target.specs.Step.{Step, cut, executed, good, outcome, refused, with_alert}
+use Rattle.sg_target.specs.Charge.{step_before_alert}
 use Rattle.sg_target.specs.declared.operation.Operation.{Operation}
 use Rattle.sg_target.specs.declared.operation.Operation.TheVariants.{Compare, CompareAndWrite, OrWrite}
 use Rattle.sg_target.specs.declared.operation.Operation.TheVariants.{CompareEach, Verify}
@@ -69,6 +71,8 @@ use Rattle.sg_target.specs.declared.refusal.Refusal.{Refusal}
 use Rattle.sg_target.specs.declared.refusal.Refusal.TheVariants.{Conflict, CheckCondition}
 use Rattle.sg_fencing.proofs.HolderLemmas.{cleared, cleared-other, without, without-other}
 use Rattle.sg_fencing.proofs.OperationLemmas.{shows}
+use Rattle.sg_target.specs.Alerts.{alerted_initiators, has_crossed}
+use Rattle.sg_pages.specs.declared.mode_pages.mode_page.PageValues.{PageValues}
 
 -- ---- Queues
 
@@ -148,6 +152,19 @@ raised_one-equal p q j condition k l m e = by-case (cases_eq j k) (cases_lt k in
         get_or-set_other p j k (new p) [] (λ same. other (sym same))
         ∙ (e ∙ sym (get_or-set_other q j k (new q) [] (λ same. other (sym same))))
 
+-- the same after a threshold has been told, or has not
+abbrev pub telling : (tells : Bool) → PageValues → (i : ℕ) → Pending → Pending
+telling tells values i p =
+    if tells
+    then raised_for_each p (raised_for_members (alerted_initiators values i) SoftThresholdReached)
+    else p
+
+pub telling-equal : (tells : Bool) (values : PageValues) (i : ℕ) (p q : Pending)
+    → StayEqual p q (telling tells values i p) (telling tells values i q)
+telling-equal true values i p q =
+    raised-equal p q (raised_for_members (alerted_initiators values i) SoftThresholdReached)
+telling-equal false values i p q = λ k e. e
+
 -- ---- Words
 
 -- Two states of one disk, with the same blocks and mode pages: the second has other unit
@@ -197,6 +214,26 @@ module _ (Related : ReservationState → ReservationState → Type 0) (s : State
       record { rest = refl; queues = cleared-equal p q i; reservations = related; answer = λ _. refl }
   refused-agree shown _ =
       record { rest = refl; queues = λ k e. e; reservations = related; answer = λ _. refl }
+
+  -- two steps that agree tell of a threshold alike
+  pub told-agree : (shown : Bool) (first second : Step) → Steps shown first second
+      → Steps shown (with_alert s i first) (with_alert t i second)
+  told-agree shown first second h =
+      let tells = λ (x : State). has_crossed (resources_of s) x in
+      let same : tells first.state ≡ tells second.state = ap tells h.rest in
+      let values : first.state.modes.current ≡ second.state.modes.current =
+      ap (λ (x : State). x.modes.current) h.rest in
+      let after = (with_alert t i second).state.attentions in
+      record {
+        rest = ap (λ (x : State). record x { attentions = after }) h.rest;
+        queues =
+            λ k e.
+            (λ d. pending_for (telling (same d) (values d) i first.state.attentions) k)
+            ∙ telling-equal (tells second.state) second.state.modes.current i first.state.attentions
+            second.state.attentions k (h.queues k e);
+        reservations = h.reservations;
+        answer = h.answer;
+      }
 
   by-found : (shown : Bool) (first second : Effect) (found : Option Refusal)
       → Effects shown first second
@@ -282,13 +319,14 @@ module _ (Related : ReservationState → ReservationState → Type 0) (s : State
   -- PERSISTENT RESERVE IN, whose answers differ if the reservations do
   pub reporting-agree : (shown : Bool) (action : InAction) (n : ℕ)
       → (shown ≡ false → (executed (reporting s action n)).answer ≡ (executed (reporting t action n)).answer)
-      → Steps shown (step_by s i (ReturnReservations action n)) (step_by t i (ReturnReservations action n))
+      → Steps shown (step_before_alert s i (ReturnReservations action n))
+      (step_before_alert t i (ReturnReservations action n))
   reporting-agree shown action n answer =
       effect-agree shown (reporting s action n) (reporting t action n)
       (plain shown (reporting s action n) (reporting t action n) answer refl refl refl refl)
 
   pub operation-agrees : (operation : Operation) → shows operation ≡ false
-      → Steps false (step_by s i operation) (step_by t i operation)
+      → Steps false (step_before_alert s i operation) (step_before_alert t i operation)
   unfolding selected_modes
   operation-agrees TestReady c = leaving (no_effect s) (no_effect t) refl refl refl refl refl
   operation-agrees (StartStop start) c =

@@ -22,11 +22,13 @@ use Rattle.sg_target.specs.Checks.{short_data_out, unsupported_value}
 use Rattle.sg_target.specs.Config.{ConfigFields}
 use Rattle.sg_target.specs.Demands.{demands, exchange_need, extent}
 use Rattle.sg_target.specs.Refusal.{first_some}
-use Rattle.sg_target.specs.State.{IsWithinLimits, State, config_of}
-use Rattle.sg_target.specs.Step.{Step, refused}
+use Rattle.sg_target.specs.Alerts.{alerted}
+use Rattle.sg_target.specs.State.{IsWithinLimits, State, config_of, resources_of}
+use Rattle.sg_target.specs.Step.{Step, refused, with_alert}
 use Rattle.sg_target.specs.declared.operation.Operation.{Operation}
 use Rattle.sg_target.specs.declared.operation.Operation.TheVariants.{CompareAndWrite}
 use Rattle.sg_target.specs.declared.refusal.Refusal.{Refusal}
+use Rattle.sg_target.proofs.AlertLemmas.{refused-no-alert}
 use Rattle.sg_target.proofs.LiftLemmas.{lifted, not_good, outcome-by, request_checks}
 use Rattle.sg_fencing.specs.Exchanges.{ExchangesOrLeaves, ExchangesReplaceWhatTheyExpect}
 use Rattle.sg_fencing.specs.Exchanges.{IsExchanged, blocks_to_exchange}
@@ -94,7 +96,7 @@ no-difference (Some offset) space e = cc
 module _ (maps : MapsEachAddress) (puts : WritesEachBlock) (state : State) (i : ℕ) (w : IsWithinLimits state)
     (named : Extent) (data_out : List ℕ) where
   abbrev Exchanges : Step → Type 0
-  Exchanges done = ExchangesOrLeaves state done named data_out
+  Exchanges done = ExchangesOrLeaves i state done named data_out
 
   refused-exchanges : (refusal : Refusal) → Exchanges (refused state i refusal)
   refused-exchanges refusal = record {
@@ -107,7 +109,8 @@ module _ (maps : MapsEachAddress) (puts : WritesEachBlock) (state : State) (i : 
 
   exchanged : length data_out ≡ 2 * bytes_of named
       → first_difference (blocks_at state named) (take (bytes_of named) data_out) ≡ None
-      → IsExchanged state (exchanging state (exchange_out named data_out)).after named data_out
+      → IsExchanged i state
+      (alerted (resources_of state) i (exchanging state (exchange_out named data_out)).after) named data_out
   exchanged whole none =
       let m = state.disk.contents in
       let replacement = drop (bytes_of named) data_out in
@@ -127,7 +130,9 @@ module _ (maps : MapsEachAddress) (puts : WritesEachBlock) (state : State) (i : 
 
   operation-exchanges : length data_out ≡ 2 * bytes_of named → Exchanges (step_by state i its)
   operation-exchanges whole =
-      outcome-by state i Exchanges (exchanging state (exchange_out named data_out)) refused-exchanges
+      outcome-by state i (λ (done : Step). Exchanges (with_alert state i done))
+      (exchanging state (exchange_out named data_out))
+      (λ refusal. subst Exchanges (sym (refused-no-alert state i refusal)) (refused-exchanges refusal))
       (λ none. record {
         good = λ good. exchanged whole (no-difference _ _ none);
         not_good = λ other. absurd (other refl);
@@ -164,10 +169,10 @@ is-asked config _ named data_out operation accepted asks h = cc
 
 pub exchanges-replace : MapsEachAddress → WritesEachBlock → ExchangesReplaceWhatTheyExpect
 exchanges-replace maps puts state i cdb data_out named w is =
-    lifted state i cdb data_out (λ (done : Step). ExchangesOrLeaves state done named data_out)
+    lifted state i cdb data_out (λ (done : Step). ExchangesOrLeaves i state done named data_out)
     (refused-exchanges maps puts state i w named data_out)
     (λ operation k.
     let known = is-asked (config_of state) k.command named data_out operation k.accepted k.operation_is
     (ap blocks_to_exchange (sym k.command_is) ∙ is) in
-    subst (λ (o : Operation). ExchangesOrLeaves state (step_by state i o) named data_out) known.is
+    subst (λ (o : Operation). ExchangesOrLeaves i state (step_by state i o) named data_out) known.is
     (operation-exchanges maps puts state i w named data_out known.whole))

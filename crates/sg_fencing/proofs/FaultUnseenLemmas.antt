@@ -26,7 +26,7 @@ use Rattle.sg_target.specs.Effect.{with_contents}
 use Rattle.sg_target.specs.PrimaryCommands.{format_of}
 use Rattle.sg_target.specs.Refusal.{fault_sense, first_some, unless_refused}
 use Rattle.sg_target.specs.State.{State, profile_of}
-use Rattle.sg_target.specs.Step.{Answer, Step, check_condition, refused}
+use Rattle.sg_target.specs.Step.{Answer, Step, check_condition}
 use Rattle.sg_target.specs.declared.operation.Operation.{Operation}
 use Rattle.sg_target.specs.declared.refusal.Refusal.{Refusal}
 use Rattle.sg_target.specs.declared.reply.Status.{Status}
@@ -121,7 +121,7 @@ module _ (disk : Armed) (x : Contents) (j : ℕ) (cdb : List ℕ) where
       (operation-alike s x j operation h.reads h.writes h.number)
       (ap (λ (a : State). a.modes) (operation-differs s x j operation))
   result-alike (Err refusal) h =
-      finished-alike (refused s j refusal) (refused t j refusal) refl
+      finished-alike (step_of_checked s j (Err refusal)) (step_of_checked t j (Err refusal)) refl
       (ap (λ (a : State). a.modes) (refused-differ s x j refusal))
 
   checked-alike : (checked : Result Operation Refusal) → Holds IsBlind first-blind checked

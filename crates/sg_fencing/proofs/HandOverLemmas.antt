@@ -47,6 +47,8 @@ use Rattle.sg_fencing.proofs.MovedLemmas.{left-caller, left-other, moved-key, mo
 use Rattle.sg_fencing.proofs.OperationLemmas.{listed}
 use Rattle.sg_fencing.proofs.RegistrationLemmas.{nothing}
 use Rattle.sg_fencing.proofs.TogetherLemmas.{had-supports}
+use Rattle.sg_target.proofs.AlertLemmas.{by-no-alert}
+use Rattle.sg_fencing.proofs.NoAlertLemmas.{reserving-disk}
 
 -- ---- The outcome
 
@@ -160,9 +162,11 @@ module _ (state : State) (j : ℕ) (list : OutList) (w : IsWithinLimits state) w
   after-moving : (rules_for state).specifies_ports ≡ true → (action : OutAction) (scope_type : ℕ)
       → is_moving action ≡ true → Follows (step_by state j (ChangeReservations action scope_type list))
   unfolding reservation_change
-  after-moving supported action scope_type h =
-      after-outcome supported (outcome (rules_for state) state.reservations j action scope_type list)
-      (outcome-hands (rules_for state) state.reservations j list action scope_type h)
+  after-moving supported action scope_type h good =
+      let o = outcome (rules_for state) state.reservations j action scope_type list in
+      by-no-alert (λ (after : State). IsHandedOver state after j list) state j _ (reserving-disk state j o)
+      (after-outcome supported o
+      (outcome-hands (rules_for state) state.reservations j list action scope_type h) good)
 
   by-command : (command : Command) (data_out : List ℕ) (operation : Operation)
       → has_command (profile_of state) command ≡ true

@@ -10,6 +10,7 @@ mod OperationLemmas
 mod ReadLemmas
 mod DiskLemmas
 mod UnitLemmas
+mod NoAlertLemmas
 mod SpaceLemmas
 mod WriteLemmas
 mod ExchangeLemmas

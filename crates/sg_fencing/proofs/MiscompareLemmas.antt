@@ -15,12 +15,13 @@ use Rattle.sg_target.specs.BlockCommands.{blocks_at, bytes_of, exchange_out, exc
 use Rattle.sg_target.specs.Effect.{Effect, no_space}
 use Rattle.sg_target.specs.Refusal.{first_some}
 use Rattle.sg_target.specs.State.{State}
-use Rattle.sg_target.specs.Step.{executed, refused}
+use Rattle.sg_target.specs.Step.{executed, refused, with_alert}
 use Rattle.sg_target.specs.declared.refusal.Refusal.{Refusal}
 use Rattle.sg_fencing.specs.Exchanges.{EndsWithMiscompare, IsFirstDifference}
 use Rattle.sg_fencing.specs.Exchanges.{MiscomparesPointToTheFirstDifference}
 use Rattle.sg_fencing.proofs.ExchangeLemmas.{length-blocks}
 use Rattle.sg_fencing.proofs.FreeExchangeLemmas.{effect-is}
+use Rattle.sg_target.proofs.AlertLemmas.{no-alert}
 
 -- the first pair whose bytes differ
 not-equal : (b : Bool) → not b ≡ true → b ≡ false
@@ -53,14 +54,15 @@ module _ (state : State) (i : ℕ) (its : Effect) (found expected : List ℕ)
     (same : length found ≡ length expected) (other : found ≢ expected) where
   by-difference : (difference : Option ℕ) → first_difference found expected ≡ difference
       → (space : Option Refusal) → its.found ≡ first_some (miscompare difference ∷ space ∷ [])
-      → EndsWithMiscompare state (option_map_or (refused state i) its.found (executed its)) found expected
+      → EndsWithMiscompare state
+      (with_alert state i (option_map_or (refused state i) its.found (executed its))) found expected
   by-difference None none space e = absurd (other (none-same found expected same none))
   by-difference (Some offset) some space e =
       rw e (record {
         offset = offset;
         is_first = is-first found expected offset same some;
         answer = refl;
-        state = refl;
+        state = no-alert state i state refl;
       })
 
 pub miscompares : CommandsHaveTheirClass → MiscomparesPointToTheFirstDifference

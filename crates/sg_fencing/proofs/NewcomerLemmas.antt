@@ -50,6 +50,8 @@ use Rattle.sg_fencing.proofs.OperationLemmas.{listed}
 use Rattle.sg_fencing.proofs.OthersLemmas.{changed-view}
 use Rattle.sg_fencing.proofs.RegistrationLemmas.{not_so, outcome-leaves}
 use Rattle.sg_fencing.proofs.MovedLemmas.{not-under}
+use Rattle.sg_target.proofs.AlertLemmas.{by-no-alert}
+use Rattle.sg_fencing.proofs.NoAlertLemmas.{reserving-disk}
 
 -- ---- The outcome
 
@@ -184,9 +186,11 @@ module _ (state : State) (j : ℕ) (unknown : is_registrant state j ≡ false) (
         → IfKnown (step_by state j (ChangeReservations action scope_type list)).state
     unfolding reservation_change
     after-registering action scope_type h =
-        after-outcome (outcome (rules_for state) state.reservations j action scope_type list)
+        let o = outcome (rules_for state) state.reservations j action scope_type list in
+        by-no-alert IfKnown state j _ (reserving-disk state j o)
+        (after-outcome o
         (outcome-adds (rules_for state) state.reservations j unknown list action scope_type h)
-        (follows action scope_type)
+        (follows action scope_type))
 
     if-known : (cdb data_out : List ℕ) → registering_list (command_of cdb) data_out ≡ Some list
         → IfKnown (step state j cdb data_out).state

@@ -43,13 +43,14 @@ use Rattle.sg_target.specs.declared.refusal.Refusal.{Refusal}
 use Rattle.sg_target.specs.declared.refusal.Refusal.TheVariants.{CheckCondition}
 use Rattle.sg_target.proofs.LiftLemmas.{lifted, outcome-by}
 use Rattle.sg_target.specs.Laws.{LimitsAreKept}
-use Rattle.sg_fencing.specs.Fencing.{IsLeft, holds_alone, view_of}
+use Rattle.sg_fencing.specs.Fencing.{IsLeft, holds_alone, view_of, View}
 use Rattle.sg_fencing.proofs.AccessLemmas.{asked-is-allowed}
 use Rattle.sg_fencing.proofs.HolderLemmas.{HoldsAlone, alone, cleared-other, one-holder}
 use Rattle.sg_fencing.proofs.HolderLemmas.{raised-none, raised-others, refuses-others, same-view}
 use Rattle.sg_fencing.proofs.HolderLemmas.{without-other}
 use Rattle.sg_fencing.proofs.OperationLemmas.{asked-fits, class_for, fits_list, is_of_list_kind}
 use Rattle.sg_fencing.specs.Registrants.{held_by, rules_for}
+use Rattle.sg_target.proofs.AlertLemmas.{by-no-alert}
 
 -- the view of i and the identity of the disk are as they were, but the unit may have been started
 pub record Keeps (before after : State) (i : ℕ) : Type 0 where
@@ -111,11 +112,11 @@ changed-keeps state i j w change key reservation unraised = record {
 -- ---- The command
 
 -- A command of another initiator j, which the reservation does not allow to write. PERSISTENT
--- RESERVE OUT is known to keep the view and the identity if a condition holds of the state
+-- RESERVE OUT is known to keep the view and the identity if a condition holds of the reservations
 -- afterwards.
-module _ (Where : State → Type 0) (state : State) (i j : ℕ) (other : j ≡ i → ⊥) where
+module _ (Where : ReservationState → Type 0) (state : State) (i j : ℕ) (other : j ≡ i → ⊥) where
   abbrev pub KeepsWhere : State → Type 0
-  KeepsWhere after = Where after → Keeps state after i
+  KeepsWhere after = Where after.reservations → Keeps state after i
 
   abbrev pub EffectKeeps : Result Effect Refusal → Type 0
   EffectKeeps (Ok effect) = KeepsWhere effect.after
@@ -186,11 +187,14 @@ module _ (Where : State → Type 0) (state : State) (i j : ℕ) (other : j ≡ i
     step-keeps classes cdb data_out of_kind =
         lifted state j cdb data_out (λ (done : Step). KeepsWhere done.state)
         (λ refusal _. refused-keeps state i j other refusal)
-        (λ operation k. outcome-keeps (effect_of state j operation) (operation-keeps operation
+        (λ operation k met.
+        let kept = outcome-keeps (effect_of state j operation) (operation-keeps operation
         (asked-is-allowed state j classes cdb data_out operation Writes k no_writes)
         (asked-fits (config_of state) k.command data_out operation k.operation_is kind
         (sym (ap (λ (p : Result Command CdbFault). is_of_list_kind kind p data_out) k.command_is)
-        ∙ of_kind))))
+        ∙ of_kind))) met in
+        by-no-alert (λ (after : State). Keeps state after i) state j _
+        (ap (λ (v : View). v.disk) kept.left.view) kept)
 
 -- any PERSISTENT RESERVE OUT
 abbrev pub any_kind : OutAction → OutList → Bool
@@ -208,8 +212,8 @@ of-any-kind (Err fault) data_out = refl
 module _ (state : State) (i j : ℕ) (other : j ≡ i → ⊥) (h : HoldsAlone state.reservations i)
     (w : IsWithinLimits state) where
   -- i is the one holder afterwards
-  abbrev IsOneHolder : State → Type 0
-  IsOneHolder after = is_one_holder after.reservations.reservation i ≡ true
+  abbrev IsOneHolder : ReservationState → Type 0
+  IsOneHolder after = is_one_holder after.reservation i ≡ true
 
   abbrev HolderKeeps : Result Effect Refusal → Type 0
   HolderKeeps effect = EffectKeeps IsOneHolder state i j other effect

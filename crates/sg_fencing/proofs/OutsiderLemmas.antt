@@ -93,9 +93,9 @@ module _ (refuses : OthersAreRefused) (classes : CommandsHaveTheirClass) (state 
   L = LeavesIf (rules_for state) state.reservations i j (ne_eqb j i other) h.unknown
 
   -- a fact of the state afterwards, or of the list, says that i is spared
-  module _ (Where : State → Type 0) (kind : OutAction → OutList → Bool)
+  module _ (Where : ReservationState → Type 0) (kind : OutAction → OutList → Bool)
       (spares : (action : OutAction) (list : OutList) (change : ReservationChange)
-      → kind action list ≡ true → Where (changing_reservations state j change).after
+      → kind action list ≡ true → Where (changing_reservations state j change).after.reservations
       → S action list change) where
     changing-keeps : (action : OutAction) (list : OutList) → kind action list ≡ true → (o : Outcome)
         → EffectIs (L action list) o
@@ -118,7 +118,8 @@ module _ (refuses : OthersAreRefused) (classes : CommandsHaveTheirClass) (state 
         scope_type list)
 
     keeps-by : (cdb data_out : List ℕ) → is_of_list_kind kind (command_of cdb) data_out ≡ true
-        → Where (step state j cdb data_out).state → Keeps state (step state j cdb data_out).state i
+        → Where (step state j cdb data_out).state.reservations
+        → Keeps state (step state j cdb data_out).state i
     keeps-by cdb data_out of_kind =
         step-keeps Where state i j other (shut refuses state j h).writes kind reserving-keeps classes cdb
         data_out of_kind
@@ -128,7 +129,7 @@ module _ (refuses : OthersAreRefused) (classes : CommandsHaveTheirClass) (state 
       → is_registrant (step state j cdb data_out).state j ≡ false
       → Keeps state (step state j cdb data_out).state i
   outsider-keeps cdb data_out =
-      keeps-by (λ after. is_registrant after j ≡ false) any_kind
+      keeps-by (λ (after : ReservationState). is_registered after.registrations j ≡ false) any_kind
       (λ action list change of_kind gone registers. inl gone)
       cdb data_out (of-any-kind (command_of cdb) data_out)
 
@@ -144,7 +145,7 @@ module _ (refuses : OthersAreRefused) (classes : CommandsHaveTheirClass) (state 
   sparing-by true false k e = refl
   sparing-by false asked k e = absurd (false≢true e)
 
-  abbrev Always : State → Type 0
+  abbrev Always : ReservationState → Type 0
   Always after = Unit {0}
 
   sparing-kind : (parsed : Result Command CdbFault) (data_out : List ℕ)

@@ -31,9 +31,9 @@ use Rattle.sg_fencing.proofs.OwnReserveOutLemmas.{Left, allows-same, left_of, ow
 use Rattle.sg_target.specs.Refusal.{when_sound}
 use Rattle.sg_target.specs.ReservationCommands.{changing_reservations, out_refusal}
 use Rattle.sg_target.specs.ReservationCommands.{reservation_change}
-use Rattle.sg_target.specs.State.{IsWithinLimits, State, config_of}
-use Rattle.sg_target.specs.Step.{Step, outcome as step_outcome, step}
-use Rattle.sg_target.specs.Charge.{step_by}
+use Rattle.sg_target.specs.State.{IsWithinLimits, State, config_of, resources_of}
+use Rattle.sg_target.specs.Step.{Step, outcome as step_outcome, step, with_alert}
+use Rattle.sg_target.specs.Charge.{step_by, step_before_alert}
 use Rattle.sg_target.specs.declared.operation.Operation.{Operation}
 use Rattle.sg_target.specs.declared.operation.Operation.TheVariants.{ChangeReservations}
 use Rattle.sg_target.specs.declared.operation.Operation.TheVariants.{ReturnReservations}
@@ -41,9 +41,15 @@ use Rattle.sg_target.proofs.LiftLemmas.{lifted-both}
 use Rattle.sg_fencing.specs.Fencing.{View, holds_alone, shows_others, view_of}
 use Rattle.sg_fencing.proofs.AlikeLemmas.{StepsAgree, checks-same, operation-agrees, parse-same}
 use Rattle.sg_fencing.proofs.AlikeLemmas.{refused-agree, reporting-agree, with_others}
+use Rattle.sg_fencing.proofs.AlikeLemmas.{telling, telling-equal}
 use Rattle.sg_fencing.proofs.HolderLemmas.{HoldsAlone, alone, raised-none, raised-others, same-view}
 use Rattle.sg_fencing.proofs.OperationLemmas.{asked-suits, shows as shows_of}
 use Rattle.sg_fencing.specs.Registrants.{rules_for}
+use Rattle.sg_pages.specs.Thresholds.{crosses}
+use Rattle.sg_pages.specs.ModePage.{ModeState}
+use Rattle.sg_pages.specs.Identity.{IdentityFields}
+use Rattle.sg_store.specs.Disk.{Disk}
+use Rattle.std.specs.FinMap.{len}
 
 -- Two steps end with equal views of i and equal identities, and with equal answers unless the
 -- command shows others.
@@ -120,7 +126,7 @@ module _ (state : State) (i : ℕ) (w : IsWithinLimits state) where
       → Becomes state i
       (left_of (state_after state.reservations
       (outcome (rules_for state) state.reservations i action scope_type list)) i)
-      (step_by state i (ChangeReservations action scope_type list)).state
+      (step_before_alert state i (ChangeReservations action scope_type list)).state
   unfolding reservation_change
   out-becomes action scope_type list =
       becomes (outcome (rules_for state) state.reservations i action scope_type list)
@@ -167,8 +173,8 @@ module _ (one : OneKeyEach) (s : State) (a : Pending) (r : ReservationState) (i 
       ∙ sym (ap left second))
 
   out-alike : (action : OutAction) (scope_type : ℕ) (list : OutList) → is_moving action ≡ false
-      → StepsAlike true i (step_by s i (ChangeReservations action scope_type list))
-      (step_by other i (ChangeReservations action scope_type list))
+      → StepsAlike true i (step_before_alert s i (ChangeReservations action scope_type list))
+      (step_before_alert other i (ChangeReservations action scope_type list))
   out-alike action scope_type list keeps =
       let first = out-becomes s i w action scope_type list in
       let second = out-becomes other i w' action scope_type list in
@@ -211,7 +217,8 @@ module _ (one : OneKeyEach) (s : State) (a : Pending) (r : ReservationState) (i 
   keeps_it action = not (is_moving action)
 
   by-operation : (operation : Operation) → fits keeps_it operation ≡ true
-      → StepsAlike (shows_of operation) i (step_by s i operation) (step_by other i operation)
+      → StepsAlike (shows_of operation) i (step_before_alert s i operation)
+      (step_before_alert other i operation)
   by-operation (ChangeReservations action scope_type list) keeps =
       out-alike action scope_type list (not-true (is_moving action) keeps)
   by-operation (ReturnReservations action n) keeps =
@@ -225,6 +232,31 @@ module _ (one : OneKeyEach) (s : State) (a : Pending) (r : ReservationState) (i 
   of-kind (Ok (PersistentReserveOut c)) keeps = ap not keeps
   of-kind (Ok _) keeps = refl
   of-kind (Err fault) keeps = refl
+
+  -- two steps that end alike tell of a threshold alike
+  told-alike : (shown : Bool) (first second : Step) → StepsAlike shown i first second
+      → StepsAlike shown i (with_alert s i first) (with_alert other i second)
+  told-alike shown first second h =
+      let disk = ap (λ (v : View). v.disk) h.view in
+      let modes = ap (λ (v : View). v.modes) h.view in
+      let tells = λ (identity : IdentityFields) (modes : ModeState) (disk : Disk).
+      crosses identity.profile modes.current (resources_of s)
+      (record { capacity = disk.capacity; blocks = disk.pool; used = len disk.contents }) in
+      let same : tells first.state.identity first.state.modes first.state.disk
+      ≡ tells second.state.identity second.state.modes second.state.disk =
+      λ d. tells (h.identity d) (modes d) (disk d) in
+      let after = second.state in
+      record {
+        identity = h.identity;
+        view =
+            same-view (with_alert s i first).state (with_alert other i second).state i disk modes
+            ((λ d. pending_for (telling (same d) (modes d).current i first.state.attentions) i)
+            ∙ telling-equal (tells after.identity after.modes after.disk) after.modes.current i
+            first.state.attentions after.attentions i (ap (λ (v : View). v.attentions) h.view))
+            (ap (λ (v : View). v.key) h.view) (ap (λ (v : View). v.reservation) h.view)
+            (ap (λ (v : View). v.stopped) h.view);
+        answer = h.answer;
+      }
 
   step-alike : (cdb data_out : List ℕ) → gives_away (command_in (profile_of s) cdb) ≡ false
       → StepsAlike (shows_others (command_of cdb)) i (step s i cdb data_out)
@@ -242,9 +274,10 @@ module _ (one : OneKeyEach) (s : State) (a : Pending) (r : ReservationState) (i 
       (λ (b : Bool). StepsAlike b i (step_by s i operation) (step_by other i operation))
       (sym (ap shows_others k.command_is
       ∙ (asked-suits (config_of s) k.command data_out operation k.operation_is).shown))
+      (told-alike (shows_of operation) (step_before_alert s i operation) (step_before_alert other i operation)
       (by-operation operation
       ((asked-suits (config_of s) k.command data_out operation k.operation_is).of_kind keeps_it
-      (sym (ap (is_of_kind keeps_it) k.read_as) ∙ of-kind (command_in (profile_of s) cdb) keeps))))
+      (sym (ap (is_of_kind keeps_it) k.read_as) ∙ of-kind (command_in (profile_of s) cdb) keeps)))))
 
 -- a command of the holder in two states of one disk with equal views
 pub own-alike : OneKeyEach → (first second : State) (i : ℕ) (cdb data_out : List ℕ)

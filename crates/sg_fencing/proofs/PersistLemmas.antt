@@ -56,6 +56,8 @@ use Rattle.sg_fencing.proofs.OperationLemmas.{is_of_list_kind}
 use Rattle.sg_fencing.proofs.NewcomerLemmas.{with-list}
 use Rattle.sg_fencing.proofs.PowerLemmas.{drops, keeps}
 use Rattle.sg_fencing.proofs.StandingLemmas.{EffectStands, step-stands}
+use Rattle.sg_target.proofs.AlertLemmas.{by-no-alert-step}
+use Rattle.sg_fencing.proofs.NoAlertLemmas.{reserving-disk}
 
 -- ---- The outcome
 
@@ -280,9 +282,11 @@ module _ (state : State) (j : ℕ) where
           → After (step_by state j (ChangeReservations action scope_type list))
       unfolding reservation_change
       after-action action scope_type h =
-          following (outcome (rules_for state) state.reservations j action scope_type list)
+          let o = outcome (rules_for state) state.reservations j action scope_type list in
+          by-no-alert-step After state j _ (reserving-disk state j o)
+          (following o
           (by-register (rules_for state) state.reservations j P action scope_type list h cases together
-          moving)
+          moving))
 
       after-command : (cdb data_out : List ℕ) → registering_list (command_of cdb) data_out ≡ Some list
           → After (step state j cdb data_out)

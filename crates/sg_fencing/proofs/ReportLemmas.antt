@@ -88,7 +88,7 @@ unit-listed state i cdb data_out c is =
 abbrev counts_of : State → List ℕ
 counts_of state =
     let used = len state.disk.contents in
-    let sets = threshold_sets (profile_of state) in
+    let sets = threshold_sets (profile_of state) state.disk.capacity in
     log_of_counts (sets (state.disk.pool - used)) (sets used)
 
 logged-counts : (state : State) (pointer : ℕ) → pointer ≡ 0

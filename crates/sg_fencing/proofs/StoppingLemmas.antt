@@ -63,6 +63,7 @@ use Rattle.sg_fencing.proofs.AccessLemmas.{asked-number}
 use Rattle.sg_fencing.proofs.OperationLemmas.{shows_number}
 use Rattle.sg_fencing.proofs.UnseenLemmas.{operation-alike, parse-same, sound-alike}
 use Rattle.std.specs.FinMap.{len}
+use Rattle.sg_target.proofs.AlertLemmas.{no-alert}
 
 -- ---- The command that asks to stop or to start
 
@@ -255,7 +256,7 @@ good-stops state i cdb data_out c e =
     (asked-start (config_of state) k.command data_out c operation
     (same-command (command_in (profile_of state) cdb) (command.StartStopUnit c) k.command e k.read_as)
     k.operation_is)
-    (λ good. refl))
+    (λ good. no-alert state i (record state { stopped = not c.start }) refl))
 
 -- ---- Happenings
 

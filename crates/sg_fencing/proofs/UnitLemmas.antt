@@ -16,6 +16,7 @@ use Rattle.sg_target.proofs.LiftLemmas.{lifted, outcome-by}
 use Rattle.sg_fencing.specs.Laws.{LeavesTheUnit, OtherCommandsLeaveTheUnit, may_change_unit}
 use Rattle.sg_fencing.proofs.HolderLemmas.{cleared-other, without-other}
 use Rattle.sg_fencing.proofs.ReadLemmas.{asked-reads, changes_unit}
+use Rattle.sg_target.proofs.AlertLemmas.{by-no-alert}
 
 module _ (state : State) (i : ℕ) where
   abbrev Leaves : Result Effect Refusal → Type 0
@@ -80,5 +81,6 @@ unit-left state i cdb data_out other =
     (refused-leaves state i)
     (λ asked k.
     let reads = asked-reads (config_of state) k.command data_out asked k.operation_is in
-    effect-leaves state i (effect_of state i asked)
-    (operation-leaves state i asked (reads.leaves (sym (ap may_change_unit k.command_is) ∙ other))))
+    let left = effect-leaves state i (effect_of state i asked)
+    (operation-leaves state i asked (reads.leaves (sym (ap may_change_unit k.command_is) ∙ other))) in
+    by-no-alert (LeavesTheUnit i state) state i _ (ap (λ (s : State). s.disk) left.rest) left)

@@ -49,7 +49,8 @@ module _ (s : State) (x : Contents) (j : ℕ) where
   sound-alike (Err refusal) first second answer = refl
 
   abbrev pool-with : (used : ℕ) → MappingResources
-  pool-with used = record { blocks = s.disk.pool; used = used }
+  pool-with used =
+      record { capacity = s.disk.capacity; blocks = s.disk.pool; used = used }
 
   -- a report, of which only one log page has something of the blocks
   pub report-alike : (report : Report) (n : ℕ)

@@ -3,7 +3,7 @@
 use Rattle.std.proofs.Common.{◌≡◌, ℕ, suc, Bool, true, false, cond, List, [], ◌∷◌}
 use Rattle.std.proofs.Common.{filter, Option, Some, None, Result, Ok, Err, refl, sym, ap, ◌∙◌}
 use Rattle.std.proofs.Common.{subst}
-use Rattle.std.specs.Prelude.{nat_lt}
+use Rattle.std.specs.Prelude.{nat_lt, if◌then◌else◌}
 use Rattle.std.specs.FinMap.{len}
 use Rattle.std.specs.List.{zip}
 use Rattle.std.specs.Option.{option_map_or}
@@ -11,6 +11,7 @@ use Rattle.std.proofs.lemmas.Bool.{eqb-true}
 use Rattle.sg_wire.specs.Laws.{CommandsHaveTheirClass}
 use Rattle.sg_store.specs.Disk.{Contents}
 use Rattle.sg_units.specs.Laws.{OthersAreRefused}
+use Rattle.sg_target.specs.Alerts.{has_crossed, with_threshold_reached}
 use Rattle.sg_target.specs.BlockCommands.{ExchangeFields, comparing, comparing_each, exchanging}
 use Rattle.sg_target.specs.BlockCommands.{miscompare}
 use Rattle.sg_target.specs.Effect.{Effect, no_space, returning_up_to, storing, with_contents}
@@ -18,9 +19,9 @@ use Rattle.sg_target.specs.ModeCommands.{changing_modes, mode_parameters, select
 use Rattle.sg_target.specs.Refusal.{when_sound, first_some}
 use Rattle.sg_target.specs.ReservationCommands.{changing_reservations, reservation_change}
 use Rattle.sg_target.specs.Runs.{all_calls, answers, step_of}
-use Rattle.sg_target.specs.State.{State}
-use Rattle.sg_target.specs.Step.{Answer, Step, executed, outcome, refused, step}
-use Rattle.sg_target.specs.Charge.{step_by}
+use Rattle.sg_target.specs.State.{State, resources_of}
+use Rattle.sg_target.specs.Step.{Answer, Step, executed, outcome, refused, step, with_alert}
+use Rattle.sg_target.specs.Charge.{step_before_alert}
 use Rattle.sg_target.specs.declared.call.Call.{Call}
 use Rattle.sg_target.specs.declared.operation.Operation.{Operation}
 use Rattle.sg_target.specs.declared.operation.Operation.TheVariants.{Compare, CompareAndWrite, OrWrite}
@@ -36,7 +37,7 @@ use Rattle.sg_target.specs.declared.refusal.Refusal.TheVariants.{CheckCondition}
 use Rattle.sg_fencing.specs.Fencing.{CountsAsMany, is_from}
 use Rattle.sg_fencing.specs.ChosenAnswers.{answers_where, calls_among}
 use Rattle.sg_fencing.specs.Registrants.{ExcludesReadingFrom, StaysUnregistered, excludes_reading}
-use Rattle.sg_fencing.specs.Registrants.{CountsAsManyOver, is_registrant}
+use Rattle.sg_fencing.specs.Registrants.{CountsAsManyOver, CrossAlike, crosses_by, is_registrant}
 use Rattle.sg_fencing.proofs.FencedRunLemmas.{answers_in}
 use Rattle.sg_target.proofs.LiftLemmas.{lifted-both}
 use Rattle.sg_fencing.proofs.OutsiderLemmas.{shut}
@@ -132,7 +133,7 @@ module _ (s : State) (x : Contents) (i : ℕ) where
   sound-differ (Err refusal) first second h = refused-differ refusal
 
   pub operation-differs : (operation : Operation)
-      → StepsDiffer (step_by s i operation) (step_by t i operation)
+      → StepsDiffer (step_before_alert s i operation) (step_before_alert t i operation)
   unfolding selected_modes reservation_change
   operation-differs (ReturnModes request n) =
       sound-differ (mode_parameters s.modes request) (returning_up_to s n) (returning_up_to t n)
@@ -158,11 +159,27 @@ module _ (s : State) (x : Contents) (i : ℕ) where
       (changing_reservations t i) (λ change. refl)
   operation-differs _ = refl
 
-  steps-differ : (cdb data_out : List ℕ) → StepsDiffer (step s i cdb data_out) (step t i cdb data_out)
+  -- the ends of two commands that both tell of a threshold, or neither
+  abbrev crossed : State → Step → Bool
+  crossed before done = has_crossed (resources_of before) done.state
+
+  abbrev DifferIfAlike : Step → Step → Type 0
+  DifferIfAlike first second = crossed s first ≡ crossed t second → StepsDiffer first second
+
+  abbrev telling : Bool → State → State
+  telling tells a = record a { attentions = if tells then with_threshold_reached a i else a.attentions }
+
+  told-differ : (first second : Step) → StepsDiffer first second
+      → DifferIfAlike (with_alert s i first) (with_alert t i second)
+  told-differ first second h e = λ d. telling (e d) (h d)
+
+  steps-differ : (cdb data_out : List ℕ)
+      → DifferIfAlike (step s i cdb data_out) (step t i cdb data_out)
   steps-differ cdb data_out =
-      lifted-both s t i cdb data_out refl refl (parse-same s x i data_out) StepsDiffer
-      refused-differ
-      (λ operation k. operation-differs operation)
+      lifted-both s t i cdb data_out refl refl (parse-same s x i data_out) DifferIfAlike
+      (λ refusal e. refused-differ refusal)
+      (λ operation k. told-differ (step_before_alert s i operation) (step_before_alert t i operation)
+      (operation-differs operation))
 
 -- ---- Lists of commands
 
@@ -179,9 +196,12 @@ module _ (refuses : OthersAreRefused) (classes : CommandsHaveTheirClass) (i : �
   more call false a b xs ys e rest = rest
 
   next-differs : (s t : State) (call : Call) → DifferInBlocks s t
+      → crosses_by s call ≡ crosses_by t call
       → DifferInBlocks (step_of s call).state (step_of t call).state
   next-differs s t call h =
-      subst (λ (a : State). DifferInBlocks (step_of s call).state (step_of a call).state) h
+      subst
+      (λ (a : State). crosses_by s call ≡ crosses_by a call
+      → DifferInBlocks (step_of s call).state (step_of a call).state) h
       (steps-differ s t.disk.contents call.initiator call.cdb.now call.data_out.now)
 
   same-answer : (s t : State) (call : Call) → DifferInBlocks s t
@@ -199,16 +219,17 @@ module _ (refuses : OthersAreRefused) (classes : CommandsHaveTheirClass) (i : �
 
   pub unseen-over : (calls : List Call) (s t : State) → DifferInBlocks s t
       → StaysUnregistered i s calls → ExcludesReadingFrom i s calls
-      → CountsAsManyOver i s t calls
+      → CountsAsManyOver i s t calls → CrossAlike s t calls
       → answers_where (is_from i) t calls ≡ answers_where (is_from i) s calls
-  unseen-over [] s t h stays exclusive none = refl
-  unseen-over (call ∷ calls) s t h stays exclusive none =
+  unseen-over [] s t h stays exclusive none alike = refl
+  unseen-over (call ∷ calls) s t h stays exclusive none alike =
       let after = (step_of s call).state in
       let after' = (step_of t call).state in
-      let rest = unseen-over calls after after' (next-differs s t call h)
+      let rest = unseen-over calls after after' (next-differs s t call h (alike 0 call refl))
       (λ n other e from. stays (suc n) other e from)
       (λ n other e from. exclusive (suc n) other e from)
-      (λ n other e from. none (suc n) other e from) in
+      (λ n other e from. none (suc n) other e from)
+      (λ n other e. alike (suc n) other e) in
       more call (is_from i call) (step_of t call).answer (step_of s call).answer (exchanges after' calls)
       (exchanges after calls)
       (λ from.

@@ -15,7 +15,7 @@ use Rattle.sg_target.specs.DataOut.{moved}
 use Rattle.sg_target.specs.Demands.{demands, extent, too_long, verify}
 use Rattle.sg_target.specs.Refusal.{first_some}
 use Rattle.sg_target.specs.State.{IsWithinLimits, State, config_of}
-use Rattle.sg_target.specs.Step.{Step, refused}
+use Rattle.sg_target.specs.Step.{Step, refused, with_alert}
 use Rattle.sg_target.specs.declared.operation.Operation.{Operation}
 use Rattle.sg_target.specs.declared.operation.Operation.TheVariants.{Compare}
 use Rattle.sg_target.specs.declared.refusal.Refusal.{Refusal}
@@ -25,6 +25,7 @@ use Rattle.sg_fencing.specs.Comparisons.{IsCompared, VerifiesCompareTheirBlocks,
 use Rattle.sg_fencing.specs.Comparisons.{compared_with_data}
 use Rattle.sg_fencing.proofs.DiskLemmas.{refused-leaves}
 use Rattle.sg_fencing.proofs.ExchangeLemmas.{length-blocks}
+use Rattle.sg_target.proofs.AlertLemmas.{refused-no-alert}
 
 -- ---- What it asks for
 
@@ -84,7 +85,9 @@ module _ (state : State) (i : ℕ) (w : IsWithinLimits state) (out : Extent) (da
       let found = blocks_at state out in
       let sent = take (bytes_of out) data_out in
       let whole = length-blocks state.disk.contents state.disk.capacity out.lba out.count w.blocks in
-      outcome-by state i Compares (comparing state (blocks_out out data_out)) refused-compares
+      outcome-by state i (λ (done : Step). Compares (with_alert state i done))
+      (comparing state (blocks_out out data_out))
+      (λ refusal. subst Compares (sym (refused-no-alert state i refusal)) (refused-compares refusal))
       (λ none. record {
         equal =
             λ good. none-same found sent (omega (arith, whole, long, length-take (bytes_of out) data_out))

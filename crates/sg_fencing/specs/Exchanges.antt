@@ -35,19 +35,21 @@ blocks_to_exchange (Ok (command.CompareAndWrite c)) = Some (extent c.lba c.count
 blocks_to_exchange _ = None
 
 -- Data-out is twice as long as the blocks. Its first half is what the blocks were before, and its
--- second half is what they are after. They are mapped then, and nothing more has changed.
-pub record IsExchanged (before after : State) (named : Extent) (data_out : List ℕ) : Type 0 where
+-- second half is what they are after. They are mapped then. Nothing more has changed, but 38h/07h is pending
+-- if the command of the initiator has crossed a threshold.
+pub record IsExchanged (initiator : ℕ) (before after : State) (named : Extent) (data_out : List ℕ)
+    : Type 0 where
   pub two_halves : length data_out ≡ 2 * bytes_of named
   pub found : blocks_at before named ≡ take (bytes_of named) data_out
   pub left : blocks_at after named ≡ drop (bytes_of named) data_out
-  pub changes : Changes before after (lies_in named.lba named.count) Mapped
+  pub changes : Changes initiator before after (lies_in named.lba named.count) Mapped
       (λ address. block_at (drop (bytes_of named) data_out) (address - named.lba))
 
 -- A command either ends with GOOD and has exchanged its blocks, or it leaves the disk as it was: the
 -- capacity, the pool, and each block with its provisioning status.
-pub record ExchangesOrLeaves (before : State) (done : Step) (named : Extent) (data_out : List ℕ)
-    : Type 0 where
-  pub good : done.answer.status ≡ Good → IsExchanged before done.state named data_out
+pub record ExchangesOrLeaves (initiator : ℕ) (before : State) (done : Step) (named : Extent)
+    (data_out : List ℕ) : Type 0 where
+  pub good : done.answer.status ≡ Good → IsExchanged initiator before done.state named data_out
   pub not_good : done.answer.status ≢ Good → done.state.disk ≡ before.disk
 
 -- Each COMPARE AND WRITE does so. A base disk refuses it, because it does not have the command.
@@ -55,7 +57,7 @@ abbrev pub ExchangesReplaceWhatTheyExpect : Type 0
 ExchangesReplaceWhatTheyExpect =
     (state : State) (initiator : ℕ) (cdb data_out : List ℕ) (named : Extent)
     → IsWithinLimits state → blocks_to_exchange (command_of cdb) ≡ Some named
-    → ExchangesOrLeaves state (step state initiator cdb data_out) named data_out
+    → ExchangesOrLeaves initiator state (step state initiator cdb data_out) named data_out
 
 -- Nothing forbids an initiator a COMPARE AND WRITE of some blocks: nothing forbids it a WRITE of them, the
 -- data-out has two halves of their length, and the blocks are as its first half expects.

@@ -28,10 +28,11 @@ use Rattle.sg_units.specs.Laws.{is_exclusive_access}
 use Rattle.sg_units.specs.Attentions.{pending_for}
 use Rattle.sg_units.specs.declared.reservation.Reservation.{Reservation}
 use Rattle.sg_units.specs.declared.types.ReservationType.{ReservationType}
+use Rattle.sg_target.specs.Alerts.{has_crossed}
 use Rattle.sg_target.specs.ReservationCommands.{is_register}
 use Rattle.sg_target.specs.Effect.{with_contents}
 use Rattle.sg_target.specs.Runs.{all_calls, answers, state_after_all, state_after_events, step_of}
-use Rattle.sg_target.specs.State.{IsWithinLimits, State, profile_of}
+use Rattle.sg_target.specs.State.{IsWithinLimits, State, profile_of, resources_of}
 use Rattle.sg_target.specs.Step.{Answer, step}
 use Rattle.sg_target.specs.declared.call.Call.{Call}
 use Rattle.sg_target.specs.declared.event.Event.{Event}
@@ -341,14 +342,27 @@ CountsAsManyOver initiator first second calls =
     → CountsAsMany (state_after_all first (take n calls))
     (state_after_all second (take n calls)).disk.contents call.cdb.now
 
+-- A command crosses a threshold of the pool.
+abbrev pub crosses_by : State → Call → Bool
+crosses_by before call = has_crossed (resources_of before) (step_of before call).state
+
+-- Each command crosses a threshold in a run from one state exactly if it does in a run from another. On a
+-- base disk, and while no threshold is enabled, none does.
+abbrev pub CrossAlike : (first second : State) → List Call → Type 0
+CrossAlike first second calls =
+    (n : ℕ) (call : Call) → slice_get calls n ≡ Some call
+    → crosses_by (state_after_all first (take n calls)) call
+    ≡ crosses_by (state_after_all second (take n calls)) call
+
 -- Then an initiator that stays unregistered sees no block, whatever the others write. The answers
 -- to it are the same whatever the blocks were before the list, and whichever were mapped. Only LOG SENSE
--- of page 0Ch reports how many are used.
+-- of page 0Ch reports how many are used, and the unit attention of a threshold that so many are.
 abbrev pub NoBlockIsSeenOverAList : Type 0
 NoBlockIsSeenOverAList =
     (state : State) (contents : Contents) (initiator : ℕ) (calls : List Call)
     → StaysUnregistered initiator state calls → ExcludesReadingFrom initiator state calls
     → CountsAsManyOver initiator state (with_contents state contents) calls
+    → CrossAlike state (with_contents state contents) calls
     → answers_where (is_from initiator) (with_contents state contents) calls
     ≡ answers_where (is_from initiator) state calls
 

@@ -64,6 +64,6 @@ TheLogCountsThePool =
     → command_of cdb ≡ Ok (command.LogSense c) → AsksForCounts c
     → (step state initiator cdb data_out).answer.status ≡ Good
     → let used = len state.disk.contents in
-    let sets = threshold_sets (profile_of state) in
+    let sets = threshold_sets (profile_of state) state.disk.capacity in
     (step state initiator cdb data_out).answer.data_in
     ≡ first_bytes c.allocation_length (log_of_counts (sets (state.disk.pool - used)) (sets used))

@@ -11,8 +11,8 @@ use sg_target::laws::{commands_write_only_their_blocks, limits_are_kept, the_con
 use sg_wire::laws::commands_have_their_class;
 
 /// A COMPARE AND WRITE that ends with GOOD has found the first half of its data-out in its blocks. Its
-/// second half is in them now, and nothing more has changed. If it does not end with GOOD, the disk
-/// is as it was.
+/// second half is in them now. Nothing more has changed, unless the command has crossed a threshold of the
+/// pool. If it does not end with GOOD, the disk is as it was.
 pub fn exchanges_replace_what_they_expect()
     ensures { ExchangesReplaceWhatTheyExpect }
 {

@@ -6,14 +6,16 @@ use Rattle.std.specs.Prelude.{IfOk, option_and_then}
 use Rattle.sg_changes.specs.Change.{Change, applied, applied_all}
 use Rattle.sg_changes.specs.KeptFields.{KeptFields}
 use Rattle.sg_faults.specs.Faults.{Faults}
+use Rattle.sg_pages.specs.declared.provisioning_pages.MappingResources.{MappingResources}
+use Rattle.sg_target.specs.Alerts.{alerted}
 use Rattle.sg_target.specs.Armed.{Armed, armed_step, attempt_of, marked_by, seen, step_of_checked}
 use Rattle.sg_target.specs.Checks.{checked_cdb}
 use Rattle.sg_target.specs.Effect.{Effect}
 use Rattle.sg_target.specs.Executed.{executed_if_good, executed_operation}
 use Rattle.sg_target.specs.Laws.{LimitsAreKept}
 use Rattle.sg_target.specs.Semantics.{effect_of}
-use Rattle.sg_target.specs.State.{IsWithinLimits, State}
-use Rattle.sg_target.specs.Step.{Step, outcome, refused}
+use Rattle.sg_target.specs.State.{IsWithinLimits, State, resources_of}
+use Rattle.sg_target.specs.Step.{Step, outcome, refused, with_alert}
 use Rattle.sg_target.specs.declared.operation.Operation.{Operation}
 use Rattle.sg_target.specs.declared.operation.Operation.TheVariants as operation
 use Rattle.sg_target.specs.declared.refusal.Reason.TheVariants.{UnitAttention as Attention}
@@ -27,7 +29,7 @@ use Rattle.sg_target.proofs.LiftLemmas.{outcome-by}
 use Rattle.sg_kept.specs.Changes.{changes_of, fault_changes}
 use Rattle.sg_kept.specs.Kept.{kept}
 use Rattle.sg_kept.specs.Laws.{CommandsMakeTheirChanges, HasItsBytes}
-use Rattle.sg_kept.proofs.OperationLemmas.{make-their-changes}
+use Rattle.sg_kept.proofs.OperationLemmas.{FitsTables, fits, made}
 use Rattle.sg_kept.proofs.TableLemmas.{faults-make, step-length}
 
 -- an operation that the checks pass has the bytes of its blocks
@@ -37,6 +39,21 @@ has-bytes (operation.CompareAndWrite exchange) sound = omega (arith, sound)
 has-bytes (operation.OrWrite out) sound = sound
 has-bytes (operation.Fill extent block) sound = sound
 has-bytes o sound = tt
+
+alerted-change : (before : MappingResources) (i : ℕ) (after : State) (o : Operation)
+    → changes_of (alerted before i after) o ≡ changes_of after o
+alerted-change before i after (operation.Write out) = refl
+alerted-change before i after (operation.CompareAndWrite exchange) = refl
+alerted-change before i after (operation.OrWrite out) = refl
+alerted-change before i after (operation.Fill extent block) = refl
+alerted-change before i after (operation.Unmap extents) = refl
+alerted-change before i after (operation.UnmapExtent extent) = refl
+alerted-change before i after (operation.UnmapAll count) = refl
+alerted-change before i after (operation.Anchor extents) = refl
+alerted-change before i after (operation.AnchorExtent extent) = refl
+alerted-change before i after (operation.ChangeModes width sp list) = refl
+alerted-change before i after (operation.ChangeReservations action scope_type list) = refl
+alerted-change before i after _ = refl
 
 -- ---- The operation that is executed, if one is
 
@@ -51,7 +68,7 @@ module _ (state : State) (faults : Faults) (i : ℕ) where
 
   abbrev Makes : Result Operation Refusal → Step → Type 0
   Makes result done =
-      IsWithinLimits done.state
+      FitsTables done.state
       → MakesExecuted done.state (executed_if_good done.answer.status result)
 
   -- no refusal is GOOD, and a refused command changes only unit attentions
@@ -66,7 +83,7 @@ module _ (state : State) (faults : Faults) (i : ℕ) where
   refused-makes result (DeferredError code) limits = refl
 
   effect-makes : (o : Operation) (found : Result Effect Refusal)
-      → IfOk found (λ effect. IsWithinLimits effect.after
+      → IfOk found (λ effect. FitsTables effect.after
       → applied_all (kept (disk_in state)) (changes_of effect.after o)
       ≡ Some (kept (disk_in effect.after)))
       → Makes (Ok o) (outcome state i found)
@@ -74,12 +91,28 @@ module _ (state : State) (faults : Faults) (i : ℕ) where
   effect-makes o (Ok effect) h =
       outcome-by state i (Makes (Ok o)) effect (refused-makes (Ok o)) (λ none. h)
 
+  -- a threshold that is told is no change
+  alerted-executed : (after : State) (executed : Option Operation)
+      → option_map_or (changes_of (alerted (resources_of state) i after)) executed []
+      ≡ option_map_or (changes_of after) executed []
+  alerted-executed after None = refl
+  alerted-executed after (Some o) = alerted-change (resources_of state) i after o
+
+  alerted-makes : (result : Result Operation Refusal) (done : Step) → Makes result done
+      → Makes result (with_alert state i done)
+  alerted-makes result done h limits =
+      ap (applied_all (kept (disk_in state)))
+      (alerted-executed done.state (executed_if_good done.answer.status result))
+      ∙ h (record { used = limits.used; registered = limits.registered; blocks = limits.blocks })
+
   result-makes : (result : Result Operation Refusal) → Ready state result
       → Makes result (step_of_checked state i result)
-  result-makes (Err refusal) ready = refused-makes (Err refusal) refusal
+  result-makes (Err refusal) ready =
+      alerted-makes (Err refusal) (refused state i refusal) (refused-makes (Err refusal) refusal)
   result-makes (Ok o) ready =
-      effect-makes o (effect_of state i o)
-      (make-their-changes state faults i o (has-bytes o ready.sound) ready.on_disk)
+      alerted-makes (Ok o) (outcome state i (effect_of state i o))
+      (effect-makes o (effect_of state i o)
+      (made state faults i o (has-bytes o ready.sound) ready.on_disk))
 
 -- ---- Changes one after another
 
@@ -117,7 +150,7 @@ commands-make limits disk i cdb data_out within =
     tried.faults done in
     let ready = attempt-ready disk.state disk.faults (seen i cdb checked) checked
     (cdb-ready disk.state i cdb data_out) in
-    let left = subst IsWithinLimits same (limits.armed disk i cdb data_out within) in
+    let left = fits done.state (subst IsWithinLimits same (limits.armed disk i cdb data_out within)) in
     let made = subst (λ (s : State). MakesExecuted disk.state disk.faults i s executed) (sym same)
     (result-makes disk.state disk.faults i tried.result ready left) in
     let between = kept (record { state = after.state; faults = disk.faults }) in

@@ -16,6 +16,7 @@ mod ExecutedLemmas
 -- Which disk a file stands for.
 pub mod OpenedLemmas
 pub mod MomentsLemmas
+pub mod ServingLemmas
 mod OpeningLemmas
 mod SteadyLemmas
 -- Histories.

@@ -10,7 +10,7 @@ use Rattle.sg_changes.specs.Change.Change.{Write as Written, Fill as Filled, Pag
 use Rattle.sg_changes.specs.KeptFields.{KeptFields}
 use Rattle.sg_changes.proofs.SnapshotLemmas.{length-blocks}
 use Rattle.sg_faults.specs.Faults.{Faults}
-use Rattle.sg_store.specs.Disk.{Contents, blocks, disk_filled, disk_written, written}
+use Rattle.sg_store.specs.Disk.{Contents, IsWellFormed, blocks, disk_filled, disk_written, written}
 use Rattle.sg_target.specs.BlockCommands.{ored, ored_block}
 use Rattle.sg_target.specs.Demands.{extent}
 use Rattle.sg_target.specs.Effect.{Effect}
@@ -96,16 +96,26 @@ restores k r is =
 
 -- ---- Each operation
 
+-- A state within its limits, whatever unit attentions are pending.
+pub record FitsTables (after : State) : Type 0 where
+  pub used : len after.disk.contents ≤ after.disk.pool
+  pub registered : IsConsistent after.reservations
+  pub blocks : IsWellFormed after.disk.capacity after.disk.contents
+
+pub fits : (after : State) → IsWithinLimits after → FitsTables after
+fits after limits =
+    record { used = limits.used; registered = limits.registered; blocks = limits.blocks }
+
 module _ (state : State) (faults : Faults) where
   abbrev before : KeptFields
   before = kept (record { state = state; faults = faults })
 
   abbrev Makes : Operation → Effect → Type 0
-  Makes operation effect = IsWithinLimits effect.after
+  Makes operation effect = FitsTables effect.after
       → applied_all before (changes_of effect.after operation)
       ≡ Some (kept (record { state = effect.after; faults = faults }))
 
-  made : (i : ℕ) (o : Operation) → HasItsBytes o → AreOnDisk state.disk.capacity (medium_use o).extents
+  pub made : (i : ℕ) (o : Operation) → HasItsBytes o → AreOnDisk state.disk.capacity (medium_use o).extents
       → IfOk (effect_of state i o) (Makes o)
   made i (operation.Write out) whole there =
       λ limits. writes before out.extent out.bytes there whole limits.used
@@ -140,5 +150,14 @@ module _ (state : State) (faults : Faults) where
       restores before (state_after state.reservations (Ok change)) limits.registered)
   made i _ whole there = λ limits. refl
 
+by-limits : (state : State) (faults : Faults) (o : Operation) (found : Result Effect Refusal)
+    → IfOk found (Makes state faults o)
+    → IfOk found (λ effect. IsWithinLimits effect.after
+    → applied_all (kept (record { state = state; faults = faults })) (changes_of effect.after o)
+    ≡ Some (kept (record { state = effect.after; faults = faults })))
+by-limits state faults o (Ok effect) h = λ limits. h (fits effect.after limits)
+by-limits state faults o (Err refusal) h = h
+
 pub make-their-changes : OperationsMakeTheirChanges
-make-their-changes state faults i o whole there = made state faults i o whole there
+make-their-changes state faults i o whole there =
+    by-limits state faults o (effect_of state i o) (made state faults i o whole there)

@@ -39,8 +39,9 @@ owes_by cdb (Synchronize extent) = true
 owes_by cdb (StartStop start) = true
 -- FORMAT UNIT (SBC-3, 5.3) and SANITIZE (SBC-3, 5.24)
 owes_by cdb (UnmapAll count) = true
--- MODE SELECT with SP: saved pages are nonvolatile (SPC-4, 6.11)
-owes_by cdb (ChangeModes width sp list) = sp
+-- MODE SELECT: saved pages are nonvolatile (SPC-4, 6.11), and before SWP takes effect, what the cache has is
+-- written (SPC-4, 7.5).
+owes_by cdb (ChangeModes width sp list) = true
 -- PERSISTENT RESERVE OUT: what persists through a power loss is nonvolatile (SPC-4, 5.13.5)
 owes_by cdb (ChangeReservations action scope_type list) = true
 owes_by cdb _ = false

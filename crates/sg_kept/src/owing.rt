@@ -54,8 +54,8 @@ fn owes_by(cdb: &[u8], operation: &Operation<'_>) -> bool
         | Operation::Synchronize(_)
         | Operation::StartStop { .. }
         | Operation::UnmapAll(_)
+        | Operation::ChangeModes { .. }
         | Operation::ChangeReservations { .. } => true,
-        Operation::ChangeModes { sp, .. } => *sp,
         _ => false,
     }
 }

@@ -100,20 +100,21 @@ piece-nil offset (h ∷ head) more (i ∷ ignored) others bytes same e =
 -- ---- The values of a page
 
 -- they differ only in bits that can be changed
-abbrev Kept : PageValues → ModePage → List ℕ → Type 0
-Kept current page values =
-    differences (page_header_length page) (values_of current page) (row_of page).changeable values ≡ []
+abbrev Kept : Profile → PageValues → ModePage → List ℕ → Type 0
+Kept profile current page values =
+    differences (page_header_length page) (values_of current page) ((row_of page).changeable profile) values
+    ≡ []
 
 sent-kept : (profile : Profile) (current : PageValues) (sent : Part) (page : ModePage)
     → faults_against profile current sent page ≡ []
-    → Kept current page (drop (page_header_length page) sent.bytes)
+    → Kept profile current page (drop (page_header_length page) sent.bytes)
 unfolding page_bytes
 sent-kept profile current sent page e =
     let own = values_of current page in
     let mask = ignored_page_header_bits page in
-    let all = differences sent.offset (page_header page ++ own) (mask ++ (row_of page).changeable)
+    let all = differences sent.offset (page_header page ++ own) (mask ++ (row_of page).changeable profile)
     sent.bytes in
-    piece-nil sent.offset (page_header page) own mask (row_of page).changeable sent.bytes
+    piece-nil sent.offset (page_header page) own mask ((row_of page).changeable profile) sent.bytes
     (mask-length page) (unmapped _ all (starts-nil _ (truncation_of sent) e))
 
 -- the first byte of a page names this page, or no page if the disk does not have it
@@ -136,7 +137,7 @@ not-found Extended LogicalBlockProvisioning h = cc
 
 known-kept : (profile : Profile) (current : PageValues) (sent : Part) (page : ModePage)
     → page_faults profile current sent ≡ [] → (sent_first sent == first_byte page) ≡ true
-    → Kept current page (drop (page_header_length page) sent.bytes)
+    → Kept profile current page (drop (page_header_length page) sent.bytes)
 known-kept profile current sent page e same = by (has_page profile page) refl
   where
     at : Option ModePage → List ℕ
@@ -149,31 +150,31 @@ known-kept profile current sent page e same = by (has_page profile page) refl
     not-nil none = cc
 
     by : (c : Bool) → has_page profile page ≡ c
-        → Kept current page (drop (page_header_length page) sent.bytes)
+        → Kept profile current page (drop (page_header_length page) sent.bytes)
     by true there =
         sent-kept profile current sent page (sym (ap at (named ∙ page-found profile page there)) ∙ e)
     by false none = absurd (not-nil (sym (ap at (named ∙ not-found profile page none)) ∙ e))
 
 next-kept : (profile : Profile) (current : PageValues) (sent : Part) (page : ModePage) (values : List ℕ)
-    → page_faults profile current sent ≡ [] → Kept current page values
-    → Kept current page
+    → page_faults profile current sent ≡ [] → Kept profile current page values
+    → Kept profile current page
     (cond (sent_first sent == first_byte page) (drop (page_header_length page) sent.bytes) values)
 next-kept profile current sent page values e k = by (sent_first sent == first_byte page) refl
   where
     by : (c : Bool) → (sent_first sent == first_byte page) ≡ c
-        → Kept current page (cond c (drop (page_header_length page) sent.bytes) values)
+        → Kept profile current page (cond c (drop (page_header_length page) sent.bytes) values)
     by true same = known-kept profile current sent page e same
     by false other = k
 
 last-kept : (profile : Profile) (current : PageValues) (page : ModePage) (parts : List Part) (values : List ℕ)
-    → flat_map (page_faults profile current) parts ≡ [] → Kept current page values
-    → Kept current page (unwrap_or (last_sent page parts) values)
+    → flat_map (page_faults profile current) parts ≡ [] → Kept profile current page values
+    → Kept profile current page (unwrap_or (last_sent page parts) values)
 last-kept profile current page [] values e k = k
 last-kept profile current page (sent ∷ parts) values e k =
     let others = flat_map (page_faults profile current) parts in
     let next =
     cond (sent_first sent == first_byte page) (drop (page_header_length page) sent.bytes) values in
-    ap (differences (page_header_length page) (values_of current page) (row_of page).changeable)
+    ap (differences (page_header_length page) (values_of current page) ((row_of page).changeable profile))
     (last_sent-cons page sent parts values)
     ∙ last-kept profile current page parts next (ends-nil (page_faults profile current sent) others e)
     (next-kept profile current sent page values (starts-nil (page_faults profile current sent) others e) k)
@@ -196,7 +197,7 @@ no-fault n (offset ∷ offsets) values after e = absurd (cc)
 values-kept : (current after : PageValues) (width : CdbWidth) (blocks : Option ℕ)
     (profile : Profile) (list : List ℕ) (page : ModePage)
     → selected_values current width blocks profile list ≡ Ok after
-    → Kept current page (values_of after page)
+    → Kept profile current page (values_of after page)
 unfolding selected_values
 values-kept current after width blocks profile list page e = by (length list == 0) e
   where
@@ -204,7 +205,7 @@ values-kept current after width blocks profile list page e = by (length list == 
     own = values_of current page
 
     mask : List ℕ
-    mask = (row_of page).changeable
+    mask = (row_of page).changeable profile
 
     start : ℕ
     start = page_header_length page
@@ -215,14 +216,14 @@ values-kept current after width blocks profile list page e = by (length list == 
     all : List ℕ
     all = list_faults current width blocks profile list
 
-    to : (values : PageValues) → values ≡ after → Kept current page (values_of values page)
-        → Kept current page (values_of after page)
+    to : (values : PageValues) → values ≡ after → Kept profile current page (values_of values page)
+        → Kept profile current page (values_of after page)
     to values same k =
         ap (λ (v : PageValues). differences start own mask (values_of v page)) (sym same) ∙ k
 
     by : (c : Bool)
         → cond c (Ok current) (unless_fault (first_fault (length list) all) (values_after current parts))
-        ≡ Ok after → Kept current page (values_of after page)
+        ≡ Ok after → Kept profile current page (values_of after page)
     by true e =
         let same : current ≡ after = cc in
         to current same (differences-self start own mask)

@@ -16,7 +16,7 @@ use Rattle.sg_pages.proofs.PageLemmas.{put-two}
 pub list-put : PartsArePutInTurn → (p q r s : CutAnswer) (state : ModeState) (asked : RequestFields)
     (descriptor following : ℕ) → descriptor ≡ length (descriptor_data asked)
     → (let pages =
-    requested_pages (selected_by state asked.page.page_control) asked.profile asked.page in
+    requested_pages (selected_by state asked.profile asked.page.page_control) asked.profile asked.page in
     let header = header_after_length state asked descriptor in
     following ≡ length (descriptor_data asked) + length pages
     → q ≡ put p (length_bytes asked.width (length header + following) ++ header)
@@ -24,7 +24,8 @@ pub list-put : PartsArePutInTurn → (p q r s : CutAnswer) (state : ModeState) (
     → s ≡ put p (mode_parameter_list state asked))
 unfolding mode_parameter_list list_after_length
 list-put law p q r s state asked descriptor following d f e g h =
-    let pages = requested_pages (selected_by state asked.page.page_control) asked.profile asked.page in
+    let values = selected_by state asked.profile asked.page.page_control in
+    let pages = requested_pages values asked.profile asked.page in
     let of = λ (n : ℕ). header_after_length state asked n in
     let front = of (length (descriptor_data asked)) in
     let back = descriptor_data asked ++ pages in
@@ -45,11 +46,14 @@ header-short Six long n m = lit≤ tt
 header-short Ten long n m = lit≤ tt
 
 pub list-short : (state : ModeState) (asked : RequestFields) → length (descriptor_data asked) ≤ 16
-    → length (requested_pages (selected_by state asked.page.page_control) asked.profile asked.page) ≤ 88
+    → length (requested_pages (selected_by state asked.profile asked.page.page_control) asked.profile
+    asked.page)
+    ≤ 88
     → length (mode_parameter_list state asked) ≤ longest_list
 unfolding mode_parameter_list list_after_length
 list-short state asked few short =
-    let pages = requested_pages (selected_by state asked.page.page_control) asked.profile asked.page in
+    let values = selected_by state asked.profile asked.page.page_control in
+    let pages = requested_pages values asked.profile asked.page in
     let descriptor = descriptor_data asked in
     let after = header_after_length state asked (length descriptor) in
     let following = after ++ (descriptor ++ pages) in

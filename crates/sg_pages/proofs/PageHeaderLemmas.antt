@@ -11,6 +11,7 @@ use Rattle.std.proofs.lemmas.List.{take-append-drop, take-take, take_all, get_or
 use Rattle.std.proofs.lemmas.Nat.{and_assoc}
 use Rattle.byteorder.specs.Endian.{big_number}
 use Rattle.sg_wire.specs.Bits.{bits_of, has_bit}
+use Rattle.sg_wire.specs.declared.profile.Profile.{Profile}
 use Rattle.sg_pages.specs.declared.mode_pages.mode_select.ModeSelectFault.{ModeSelectFault}
 use Rattle.sg_pages.specs.declared.mode_pages.mode_page.ModePage.{ModePage}
 use Rattle.sg_pages.specs.declared.mode_pages.mode_page.ModePage.TheVariants.{ReadWriteErrorRecovery}
@@ -287,25 +288,25 @@ first-of page offset list e =
     ∙ (sym (sent_first-page_at offset list) ∙ e)
 
 -- a page's faults are the faults of its header, and after them the faults of its values
-pub sent_page-split : (n offset : ℕ) (page : ModePage) (values list : List ℕ)
+pub sent_page-split : (n offset : ℕ) (page : ModePage) (values bits list : List ℕ)
     → sent_first (page_at offset list) ≡ first_byte page → length values ≡ page_length page
     → first_fault n (part_faults (page_bytes page values)
-    (ignored_page_header_bits page ++ (row_of page).changeable) (page_at offset list))
+    (ignored_page_header_bits page ++ bits) (page_at offset list))
     ≡ option_or (first_fault n (part_faults (page_header page) (ignored_page_header_bits page)
     (part_at offset (page_header_length page) list)))
-    (first_fault n (part_faults values (row_of page).changeable
+    (first_fault n (part_faults values bits
     (part_at (offset + page_header_length page) (length values) list)))
 unfolding page_bytes
-sent_page-split n offset page values list e len =
+sent_page-split n offset page values bits list e len =
     let rest = drop offset list in
     let k = page_header_length page in
     let first = first-of page offset list e in
     in-turn n offset (page_size rest) (page_header page) values (ignored_page_header_bits page)
-    (row_of page).changeable rest (mask-length page) (room-of page rest first)
+    bits rest (mask-length page) (room-of page rest first)
     (λ long same. size-of page offset rest first long same ∙ ap (λ z. k + z) (sym len))
     ∙ ap (λ r. option_or (first_fault n (part_faults (page_header page)
     (ignored_page_header_bits page) (part_at offset k list)))
-    (first_fault n (faults_in (offset + k) (length values) values (row_of page).changeable r)))
+    (first_fault n (faults_in (offset + k) (length values) values bits r)))
     (drop-drop k offset list)
 
 -- a page whose header does not differ has its own size
@@ -326,20 +327,21 @@ sent_values offset m n list e =
     ap (λ k. drop m (take k (drop offset list))) e
     ∙ (drop-take m n (drop offset list) ∙ ap (take n) (drop-drop m offset list))
 
--- ---- The same of a header, a mask and bits that the code reads from its tables
+-- ---- The same of a header and a mask that the code reads from its tables
 
 module _ (offset : ℕ) (page : ModePage) (list head mask : List ℕ)
     (first : sent_first (page_at offset list) ≡ first_byte page) (is-head : head ≡ page_header page)
     (is-mask : mask ≡ ignored_page_header_bits page) where
-  pub read-split : (n : ℕ) (values bits : List ℕ) → bits ≡ (row_of page).changeable
-      → length values ≡ page_length page
+  pub read-split : (profile : Profile) (n : ℕ) (values bits : List ℕ)
+      → bits ≡ (row_of page).changeable profile → length values ≡ page_length page
       → first_fault n (part_faults (page_bytes page values)
-      (ignored_page_header_bits page ++ (row_of page).changeable) (page_at offset list))
+      (ignored_page_header_bits page ++ (row_of page).changeable profile) (page_at offset list))
       ≡ option_or (first_fault n (part_faults head mask (part_at offset (length head) list)))
       (first_fault n (part_faults values bits
       (part_at (offset + length head) (length values) list)))
-  read-split n values bits is-bits len =
-      rw (is-head, is-mask, is-bits) (sent_page-split n offset page values list first len)
+  read-split profile n values bits is-bits len =
+      rw (is-head, is-mask, is-bits)
+      (sent_page-split n offset page values ((row_of page).changeable profile) list first len)
 
   pub read-length : offset + length head ≤ length list
       → differences offset head mask (part_at offset (length head) list).bytes ≡ []

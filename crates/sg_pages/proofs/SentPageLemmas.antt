@@ -69,16 +69,17 @@ pub first-found : (profile : Profile) (first : ℕ) (page : ModePage) → page_w
 first-found profile first page e =
     eqb-true (first_byte page) first (holds-at (λ p. first_byte p == first) (pages_of profile) page e)
 
-changeable-of : (page : ModePage) → values_of changeable_bits page ≡ (row_of page).changeable
-changeable-of ReadWriteErrorRecovery = refl
-changeable-of Caching = refl
-changeable-of Control = refl
-changeable-of InformationalExceptionsControl = refl
-changeable-of LogicalBlockProvisioning = refl
+changeable-of : (profile : Profile) (page : ModePage)
+    → values_of (changeable_bits profile) page ≡ (row_of page).changeable profile
+changeable-of profile ReadWriteErrorRecovery = refl
+changeable-of profile Caching = refl
+changeable-of profile Control = refl
+changeable-of profile InformationalExceptionsControl = refl
+changeable-of profile LogicalBlockProvisioning = refl
 
-pub changeable-row : (page : ModePage) (bits : List ℕ) → bits ≡ values_of changeable_bits page
-    → bits ≡ (row_of page).changeable
-changeable-row page bits e = e ∙ changeable-of page
+pub changeable-row : (profile : Profile) (page : ModePage) (bits : List ℕ)
+    → bits ≡ values_of (changeable_bits profile) page → bits ≡ (row_of page).changeable profile
+changeable-row profile page bits e = e ∙ changeable-of profile page
 
 -- the faults of a page that the disk has
 pub known-faults : (profile : Profile) (current : PageValues) (page : ModePage) (offset : ℕ)
@@ -87,12 +88,12 @@ pub known-faults : (profile : Profile) (current : PageValues) (page : ModePage) 
     → fields ≡ pointed_fields profile (row_of page).fields
     → expected ≡ values_of current page
     → field_faults fields (page_bytes page expected)
-    (ignored_page_header_bits page ++ (row_of page).changeable) (page_at offset list)
+    (ignored_page_header_bits page ++ (row_of page).changeable profile) (page_at offset list)
     ≡ page_faults profile current (page_at offset list)
 known-faults profile current page offset fields expected list found at f =
     let sent = page_at offset list in
     let own = pointed_fields profile (row_of page).fields in
-    let mask = ignored_page_header_bits page ++ (row_of page).changeable in
+    let mask = ignored_page_header_bits page ++ (row_of page).changeable profile in
     ap (λ (k : List MultiByteField). field_faults k (page_bytes page expected) mask sent) at
     ∙ (ap (λ (v : List ℕ). field_faults own (page_bytes page v) mask sent) f
     ∙ sym (ap (λ o. option_map_or (faults_against profile current sent) o (offset ∷ []))

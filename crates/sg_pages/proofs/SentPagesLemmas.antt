@@ -72,7 +72,7 @@ against-from : (profile : Profile) (current : PageValues) (offset : ℕ) (list :
 against-from profile current offset list None = (omega arith, tt)
 against-from profile current offset list (Some p) =
     field_faults-from (pointed_fields profile (row_of p).fields) (page_data current p)
-    (ignored_page_header_bits p ++ (row_of p).changeable) offset (page_at offset list).size list
+    (ignored_page_header_bits p ++ (row_of p).changeable profile) offset (page_at offset list).size list
 
 against-below : (profile : Profile) (current : PageValues) (offset : ℕ) (list : List ℕ)
     → (o : Option ModePage) →
@@ -81,7 +81,7 @@ against-below : (profile : Profile) (current : PageValues) (offset : ℕ) (list 
 against-below profile current offset list None = (omega (arith, size-some (drop offset list)), tt)
 against-below profile current offset list (Some p) =
     field_faults-below (pointed_fields profile (row_of p).fields) (page_data current p)
-    (ignored_page_header_bits p ++ (row_of p).changeable) offset (page_at offset list).size list
+    (ignored_page_header_bits p ++ (row_of p).changeable profile) offset (page_at offset list).size list
 
 pub page_faults-from : (profile : Profile) (current : PageValues) (offset : ℕ) (list : List ℕ)
     → From offset (page_faults profile current (page_at offset list))

@@ -16,6 +16,8 @@ pub mod MultiByteField
 pub mod ProvisioningPages
 pub mod Reports
 pub mod SeedLaws
+pub mod ThresholdLaws
+pub mod Thresholds
 pub mod VitalProductData
 -- A module that only private contracts cite.
 pub mod SentValues

@@ -27,7 +27,7 @@ OnlyChangeableBitsChange =
     (before after : ModeState) (list : List ℕ) (width : CdbWidth) (save : Bool) (blocks : Option ℕ)
     (profile : Profile) (page : ModePage)
     → mode_select before list width save blocks profile ≡ Ok after
-    → differences (page_header_length page) (values_of before.current page) (row_of page).changeable
+    → differences (page_header_length page) (values_of before.current page) ((row_of page).changeable profile)
     (values_of after.current page)
     ≡ []
 

@@ -20,15 +20,15 @@ use Rattle.sg_pages.specs.MultiByteField.{field}
 -- ---- The table
 
 -- The disks that have the page. PAGE CODE, SUBPAGE CODE and PAGE LENGTH; a page of SUBPAGE CODE 00h has no
--- such field. For each byte after the header, its default, and the bits that MODE SELECT may change. Then
--- the page's fields of more than one byte.
+-- such field. For each byte after the header, its default, and the bits that MODE SELECT may change, by
+-- profile. Then the page's fields of more than one byte.
 pub record PageRow : Type 0 where
   pub profile : Profile
   pub code : ℕ
   pub subpage : ℕ
   pub page_length : ℕ
-  pub defaults : List ℕ
-  pub changeable : List ℕ
+  pub defaults : Profile → List ℕ
+  pub changeable : Profile → List ℕ
   pub fields : List MultiByteField
 
 -- A byte has the value that is named for it, and otherwise it is zero.
@@ -40,7 +40,8 @@ value_at named byte =
 abbrev pub bytes_from : (first count : ℕ) → (named : List (ℕ × ℕ)) → List ℕ
 bytes_from first count named = map (value_at named) (range_with_len first count)
 
--- A page of each disk, without a subpage code. Its values begin at byte 2.
+-- A page of each disk, without a subpage code. Its values begin at byte 2, and are the same in both
+-- profiles.
 abbrev row : (code page_length : ℕ) → (defaults changeable : List (ℕ × ℕ)) → List MultiByteField
     → PageRow
 row code page_length defaults changeable fields = record {
@@ -48,18 +49,29 @@ row code page_length defaults changeable fields = record {
   code = code;
   subpage = 0x00;
   page_length = page_length;
-  defaults = bytes_from 2 page_length defaults;
-  changeable = bytes_from 2 page_length changeable;
+  defaults = λ _. bytes_from 2 page_length defaults;
+  changeable = λ _. bytes_from 2 page_length changeable;
   fields = fields;
 }
 
+-- Byte 7: LBPERE is bit 7. A base disk has no thresholds to report.
+abbrev pub lbpere : ℕ
+lbpere = 0x80
+
+abbrev lbpere_of : Profile → ℕ
+lbpere_of Base = 0x00
+lbpere_of Extended = lbpere
+
 -- Byte 2: AWRE is bit 7, ARRE is bit 6. Bytes 3 and 8: READ RETRY COUNT and WRITE RETRY COUNT.
 -- From byte 10 on: RECOVERY TIME LIMIT.
--- Choice (SBC-3, 6.4): AWRE and ARRE may be 0.
+-- Choice (SBC-3, 6.4): AWRE, ARRE and LBPERE may be 0.
 abbrev error_recovery_row : PageRow
-error_recovery_row =
-    row 0x01 0x0A ((2, 0xC0) ∷ (3, 0x08) ∷ (8, 0x08) ∷ []) ((2, 0xC0) ∷ (3, 0xFF) ∷ (8, 0xFF) ∷ [])
-    (field 10 2 ∷ [])
+error_recovery_row = record (row 0x01 0x0A [] [] (field 10 2 ∷ [])) {
+  defaults =
+      λ profile. bytes_from 2 0x0A ((2, 0xC0) ∷ (3, 0x08) ∷ (7, lbpere_of profile) ∷ (8, 0x08) ∷ []);
+  changeable =
+      λ profile. bytes_from 2 0x0A ((2, 0xC0) ∷ (3, 0xFF) ∷ (7, lbpere_of profile) ∷ (8, 0xFF) ∷ []);
+}
 
 -- From byte 4 on: DISABLE PRE-FETCH TRANSFER LENGTH, MINIMUM PRE-FETCH, MAXIMUM PRE-FETCH and
 -- MAXIMUM PRE-FETCH CEILING. From byte 14 on: CACHE SEGMENT SIZE. From byte 17 on: an obsolete field,
@@ -92,19 +104,28 @@ control_row =
 abbrev exceptions_row : PageRow
 exceptions_row = row 0x1C 0x0A ((2, 0x08) ∷ []) [] (field 4 4 ∷ field 8 4 ∷ [])
 
--- The two threshold descriptors begin at bytes 16 and 24. THRESHOLD ARMING, in their first bytes, is 0, a
--- number that falls, and 1, a number that rises. THRESHOLD RESOURCE, in their second bytes, is 01h, the
--- blocks of the pool that are left, and 02h, the used ones. From bytes 2, 20 and 28 on: PAGE LENGTH, and
--- THRESHOLD COUNT of each descriptor.
--- Choice (SBC-3, 6.4): no threshold can be enabled.
+-- Bits of page 1Ch/02h. SITUA is in byte 4, and ENABLED in the first byte of a threshold descriptor.
+abbrev pub situa : ℕ
+situa = 0x01
+
+abbrev pub enabled : ℕ
+enabled = 0x80
+
+-- The two threshold descriptors begin at bytes 16 and 24. THRESHOLD TYPE, in their first bytes, is 0, a
+-- soft threshold. THRESHOLD ARMING is there, too: 0, a number that falls, and 1, a number that rises.
+-- THRESHOLD RESOURCE, in their second bytes, is 01h, the blocks of the pool that are left, and 02h, the
+-- used ones. From bytes 2, 20 and 28 on: PAGE LENGTH, and THRESHOLD COUNT of each descriptor.
+-- Choice (SBC-3, 6.4): other thresholds may be supported, and more of them.
 abbrev provisioning_row : PageRow
 provisioning_row = record {
   profile = Extended;
   code = 0x1C;
   subpage = 0x02;
   page_length = 0x1C;
-  defaults = bytes_from 4 0x1C ((17, 0x01) ∷ (24, 0x01) ∷ (25, 0x02) ∷ []);
-  changeable = bytes_from 4 0x1C [];
+  defaults = λ _. bytes_from 4 0x1C ((17, 0x01) ∷ (24, 0x01) ∷ (25, 0x02) ∷ []);
+  changeable = λ _. bytes_from 4 0x1C
+      ((4, situa) ∷ (16, enabled) ∷ (20, 0xFF) ∷ (21, 0xFF) ∷ (22, 0xFF) ∷ (23, 0xFF)
+      ∷ (24, enabled) ∷ (28, 0xFF) ∷ (29, 0xFF) ∷ (30, 0xFF) ∷ (31, 0xFF) ∷ []);
   fields = field 2 2 ∷ field 20 4 ∷ field 28 4 ∷ [];
 }
 
@@ -189,11 +210,11 @@ by_page rule = record {
   provisioning = rule LogicalBlockProvisioning;
 }
 
-abbrev pub default_values : PageValues
-default_values = by_page (λ page. (row_of page).defaults)
+unfoldable pub default_values : Profile → PageValues
+default_values profile = by_page (λ page. (row_of page).defaults profile)
 
-abbrev pub changeable_bits : PageValues
-changeable_bits = by_page (λ page. (row_of page).changeable)
+abbrev pub changeable_bits : Profile → PageValues
+changeable_bits profile = by_page (λ page. (row_of page).changeable profile)
 
 -- A whole page.
 unfoldable pub page_bytes : ModePage → (values : List ℕ) → List ℕ

@@ -187,7 +187,7 @@ ignored_page_header_bits page = take (page_header_length page) (parameters_savea
 abbrev pub faults_against : Profile → (current : PageValues) → Part → ModePage → List ℕ
 faults_against profile current sent page =
     field_faults (pointed_fields profile (row_of page).fields) (page_data current page)
-    (ignored_page_header_bits page ++ (row_of page).changeable) sent
+    (ignored_page_header_bits page ++ (row_of page).changeable profile) sent
 
 -- If the disk does not have a page, the page's first byte is at fault.
 abbrev pub page_faults : Profile → (current : PageValues) → Part → List ℕ

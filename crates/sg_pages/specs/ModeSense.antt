@@ -42,11 +42,11 @@ fields_of r = record {
 -- ---- The pages
 
 -- The values that PC selects.
-abbrev pub selected_by : ModeState → PageControl → PageValues
-selected_by state Current = state.current
-selected_by state Changeable = changeable_bits
-selected_by state Default = default_values
-selected_by state Saved = state.saved
+abbrev pub selected_by : ModeState → Profile → PageControl → PageValues
+selected_by state profile Current = state.current
+selected_by state profile Changeable = changeable_bits profile
+selected_by state profile Default = default_values profile
+selected_by state profile Saved = state.saved
 
 -- PAGE CODE 3Fh requests all pages.
 abbrev pub has_code : (page_code : ℕ) → ModePage → Bool
@@ -112,7 +112,7 @@ header_after_length state r descriptor_length =
 -- All that follows MODE DATA LENGTH.
 unfoldable pub list_after_length : ModeState → RequestFields → List ℕ
 list_after_length state r =
-    let pages = requested_pages (selected_by state r.page.page_control) r.profile r.page in
+    let pages = requested_pages (selected_by state r.profile r.page.page_control) r.profile r.page in
     header_after_length state r (length (descriptor_data r)) ++ (descriptor_data r ++ pages)
 
 -- MODE DATA LENGTH is the number of bytes that follow it.

@@ -1,6 +1,7 @@
 -- The pages of a thin provisioned disk: Block Limits and Logical Block Provisioning (SBC-3, vital
 -- product data parameters), and the log page Logical Block Provisioning (SBC-3, log parameters).
-use Rattle.std.specs.Prelude.{ℕ, ◌-◌, ◌/◌, ◌^◌, List, [], ◌∷◌, ◌++◌, nat_le, if◌then◌else◌}
+use Rattle.std.specs.Prelude.{ℕ, ◌-◌, ◌/◌, ◌^◌, List, [], ◌∷◌, ◌++◌, nat_le, nat_lt}
+use Rattle.std.specs.Prelude.{if◌then◌else◌}
 use Rattle.sg_wire.specs.Fields.{Field, field, fields_bytes}
 use Rattle.sg_wire.specs.UnmapList.{maximum_unmap_descriptors}
 use Rattle.sg_pages.specs.PhysicalBlock.{blocks_in}
@@ -88,21 +89,30 @@ block_limits limits physical =
 
 -- ---- Threshold sets (SBC-3, 4.7)
 
--- A threshold set has 2 ^ THRESHOLD EXPONENT blocks, two at least. 0: the disk has no thresholds.
-abbrev pub threshold_exponent : Profile → ℕ
-threshold_exponent Base = 0
-threshold_exponent Extended = 1
+-- A threshold set has 2 ^ THRESHOLD EXPONENT blocks. It has two, or 512 on a disk with more sets of two than
+-- four bytes can count. 0: the disk has no thresholds.
+abbrev pub threshold_exponent : Profile → (capacity : ℕ) → ℕ
+threshold_exponent Base capacity = 0
+threshold_exponent Extended capacity = if nat_lt capacity (2 ^ 33) then 1 else 9
 
--- The whole threshold sets in a number of blocks.
+-- The whole threshold sets in a number of blocks, on a disk of a capacity.
 -- Choice (SBC-3, log parameters): the standard does not say how a count is rounded.
-unfoldable pub threshold_sets : Profile → (blocks : ℕ) → ℕ
-threshold_sets profile blocks = blocks / 2 ^ threshold_exponent profile
+unfoldable pub threshold_sets : Profile → (capacity blocks : ℕ) → ℕ
+threshold_sets profile capacity blocks = blocks / 2 ^ threshold_exponent profile capacity
+
+-- The threshold sets of the blocks of the pool that no address has, and of the blocks that mapped and
+-- anchored addresses have.
+abbrev pub available_sets : Profile → MappingResources → ℕ
+available_sets profile pool = threshold_sets profile pool.capacity (pool.blocks - pool.used)
+
+abbrev pub used_sets : Profile → MappingResources → ℕ
+used_sets profile pool = threshold_sets profile pool.capacity pool.used
 
 -- ---- Logical Block Provisioning, from byte 4 of the page on
 
 -- THRESHOLD EXPONENT, byte 4.
-abbrev exponent : Profile → Field
-exponent profile = field 1 (threshold_exponent profile)
+abbrev exponent : Profile → (capacity : ℕ) → Field
+exponent profile capacity = field 1 (threshold_exponent profile capacity)
 
 -- LBPU, LBPWS, LBPWS10, LBPRZ and ANC_SUP 1, byte 5. UNMAP and WRITE SAME (16) and (10) unmap
 -- blocks, unmapped blocks read as zeros, and blocks can be anchored. DP 0: no group descriptor
@@ -118,9 +128,10 @@ provisioning_type = field 1 0x02
 abbrev reserved_byte : Field
 reserved_byte = field 1 0
 
-unfoldable pub logical_block_provisioning : Profile → List ℕ
-logical_block_provisioning profile =
-    fields_bytes (exponent profile ∷ provisioning_bits ∷ provisioning_type ∷ reserved_byte ∷ [])
+unfoldable pub logical_block_provisioning : Profile → (capacity : ℕ) → List ℕ
+logical_block_provisioning profile capacity =
+    fields_bytes
+    (exponent profile capacity ∷ provisioning_bits ∷ provisioning_type ∷ reserved_byte ∷ [])
 
 -- ---- The log page Logical Block Provisioning, from byte 4 of the page on
 
@@ -140,8 +151,8 @@ abbrev parameter_length : Field
 parameter_length = field 1 8
 
 -- RESOURCE COUNT, in threshold sets.
-abbrev resource_count : Profile → (blocks : ℕ) → Field
-resource_count profile blocks = field 4 (threshold_sets profile blocks)
+abbrev resource_count : (sets : ℕ) → Field
+resource_count sets = field 4 sets
 
 -- SCOPE 01b: the resources are dedicated to the logical unit. Three reserved bytes follow.
 abbrev scope : Field
@@ -150,20 +161,18 @@ scope = field 1 0x01
 abbrev reserved_bytes : Field
 reserved_bytes = field 3 0
 
--- A log parameter with a number of blocks.
-abbrev pub resources : Profile → (code blocks : ℕ) → List Field
-resources profile code blocks =
-    field 2 code ∷ binary_list ∷ parameter_length ∷ resource_count profile blocks ∷ scope
-    ∷ reserved_bytes ∷ []
+-- A log parameter with a number of threshold sets.
+abbrev pub resources : (code sets : ℕ) → List Field
+resources code sets =
+    field 2 code ∷ binary_list ∷ parameter_length ∷ resource_count sets ∷ scope ∷ reserved_bytes ∷ []
 
 -- The parameter with a code, if PARAMETER POINTER asks for the parameters from a code on that is not
 -- larger (SPC-4, 6.8).
 abbrev pub from_pointer : (pointer code : ℕ) → (parameter : List Field) → List Field
 from_pointer pointer code parameter = if nat_le pointer code then parameter else []
 
--- The blocks of the pool that no address has, and those that mapped and anchored addresses have.
+-- What is left of the pool, and what is used.
 abbrev pub resource_parameters : Profile → MappingResources → (pointer : ℕ) → List Field
 resource_parameters profile pool pointer =
-    from_pointer pointer available_code
-    (resources profile available_code (pool.blocks - pool.used))
-    ++ from_pointer pointer used_code (resources profile used_code pool.used)
+    from_pointer pointer available_code (resources available_code (available_sets profile pool))
+    ++ from_pointer pointer used_code (resources used_code (used_sets profile pool))

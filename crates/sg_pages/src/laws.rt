@@ -1,9 +1,13 @@
-// Laws of the mode pages and of seeds: each is the contract of a function that changes nothing.
+// Laws of the mode pages, of thresholds and of seeds. Each is the contract of a function that changes
+// nothing.
 ghost use Rattle.sg_pages.specs.ModeLaws.{BaseDisksHaveNoSubpage, BytesPointToThemselves, EachPageIsFound};
 ghost use Rattle.sg_pages.specs.ModeLaws.{FieldsPointToTheirFirstByte};
 ghost use Rattle.sg_pages.specs.ModeLaws.{OnlyChangeableBitsChange, OnlySpSaves, SpSavesAll};
 ghost use Rattle.sg_pages.specs.SeedLaws.{SeedOneIsStandard, SeedsHaveDesignators};
 ghost use Rattle.sg_pages.specs.SeedLaws.{SeedsHaveSerials, SeedsMakeIdentities};
+ghost use Rattle.sg_pages.specs.ThresholdLaws.{BaseDisksCrossNothing, CrossingsDoNotRepeat};
+ghost use Rattle.sg_pages.specs.ThresholdLaws.{EqualCountsCrossNothing, OnlyMoreUsedBlocksCross};
+ghost use Rattle.sg_pages.specs.ThresholdLaws.{ThresholdSetsFitInFourBytes};
 
 /// A MODE SELECT changes only bits that can be changed.
 pub fn only_changeable_bits_change()
@@ -38,6 +42,32 @@ pub fn bytes_point_to_themselves()
 /// On an extended disk each byte of a field of several bytes points to the field's first byte.
 pub fn fields_point_to_their_first_byte()
     ensures { FieldsPointToTheirFirstByte }
+{}
+
+/// No threshold is crossed while the number of used blocks stays as it is.
+pub fn equal_counts_cross_nothing()
+    ensures { EqualCountsCrossNothing }
+{}
+
+/// Only a command that uses more blocks of the pool crosses a threshold.
+pub fn only_more_used_blocks_cross()
+    ensures { OnlyMoreUsedBlocksCross }
+{}
+
+/// On a base disk no threshold is ever crossed.
+pub fn base_disks_cross_nothing()
+    ensures { BaseDisksCrossNothing }
+{}
+
+/// A number that has fallen or risen to a threshold cannot do so again before it has gone back.
+pub fn crossings_do_not_repeat()
+    ensures { CrossingsDoNotRepeat }
+{}
+
+/// The number of the threshold sets of a disk fits in four bytes.
+#[tactic(auto, unfolding(crate::specs::ProvisioningPages::threshold_sets))]
+pub fn threshold_sets_fit_in_four_bytes()
+    ensures { ThresholdSetsFitInFourBytes }
 {}
 
 /// Each seed of at most 60 bits makes an identity.

@@ -1,4 +1,5 @@
 // The mode pages between two commands. The folder has MODE SENSE and MODE SELECT.
+use sg_wire::Profile;
 use std::marker::Model;
 
 mod block_descriptor;
@@ -8,9 +9,10 @@ mod mode_select;
 mod mode_sense;
 mod multi_byte_field;
 mod request;
+mod thresholds;
 
 pub(crate) use block_descriptor::LOGICAL_BLOCK_LENGTH;
-use mode_page::{D_SENSE, DEFAULT, SWP, WCE};
+use mode_page::{D_SENSE, SWP, WCE, default_values};
 pub use mode_page::{ModePage, PageValues};
 pub use mode_select::{Changed, ModeSelectFault};
 pub use mode_sense::LONGEST_MODE_LIST;
@@ -38,13 +40,14 @@ ghost use Rattle.sg_pages.specs.ModePage.{caches_writes, descriptor_sense, write
 ghost use Rattle.sg_pages.specs.ModePowerOn.{after_power_on, initial_state, restored_pages};
 
 impl ModePages {
-    /// The pages of a new disk: the current and the saved values are the default ones.
-    pub fn new() -> ModePages
-        ensures { result ≡ initial_state }
+    /// The pages of a new disk of a profile: the current and the saved values are the default ones.
+    pub fn new(profile: Profile) -> ModePages
+        ensures { result ≡ initial_state profile }
     {
+        let values = *default_values(profile);
         ModePages {
-            current: DEFAULT,
-            saved: DEFAULT,
+            current: values,
+            saved: values,
         }
     }
 

@@ -3,8 +3,9 @@
 ghost use Rattle.std.specs.Prelude.{◌≡◌, ◌≤◌, length};
 ghost use Rattle.sg_wire.specs.Cut.{Puts};
 ghost use Rattle.sg_wire.specs.Fields.{fields_bytes};
-ghost use Rattle.sg_pages.specs.ProvisioningPages.{block_limits, logical_block_provisioning};
-ghost use Rattle.sg_pages.specs.ProvisioningPages.{resources, threshold_exponent, threshold_sets};
+ghost use Rattle.sg_pages.specs.ProvisioningPages.{available_sets, block_limits};
+ghost use Rattle.sg_pages.specs.ProvisioningPages.{logical_block_provisioning, resources};
+ghost use Rattle.sg_pages.specs.ProvisioningPages.{threshold_exponent, threshold_sets, used_sets};
 ghost use Rattle.sg_pages.specs.Reports.{log_page_data};
 
 use super::physical_block::PhysicalBlock;
@@ -44,44 +45,72 @@ pub(crate) fn block_limits(limits: Limits, physical: PhysicalBlock) -> [u8; 60]
     bytes
 }
 
-/// THRESHOLD EXPONENT of a disk of a profile: 0 if it has no thresholds.
-fn threshold_exponent(profile: Profile) -> u8
-    ensures { result ≡ threshold_exponent profile }
+/// THRESHOLD EXPONENT of a disk of a profile and a capacity: 0 if it has no thresholds.
+fn threshold_exponent(profile: Profile, capacity: u64) -> u8
+    ensures value { result ≡ threshold_exponent profile capacity }
+    ensures at_most { result ≤ 9 }
 {
     match profile {
         Profile::Base => 0,
-        Profile::Extended => 1,
+        Profile::Extended if capacity < CAPACITY_OF_LARGE_SETS => 1,
+        Profile::Extended => 9,
     }
 }
 
-/// The whole threshold sets in a number of blocks.
+/// From this capacity on, the number of the sets of two blocks does not fit in four bytes.
+const CAPACITY_OF_LARGE_SETS: u64 = 1 << 33;
+
+/// The whole threshold sets in a number of blocks, on a disk of a profile and a capacity.
 #[tactic(auto, unfolding(crate::specs::ProvisioningPages::threshold_sets))]
-fn threshold_sets(profile: Profile, blocks: u32) -> u32
-    ensures { result ≡ threshold_sets profile blocks }
+fn threshold_sets(profile: Profile, capacity: u64, blocks: u32) -> u32
+    ensures { result ≡ threshold_sets profile capacity blocks }
 {
-    blocks >> threshold_exponent(profile)
+    blocks >> threshold_exponent(profile, capacity)
 }
 
 /// The content of Logical Block Provisioning: no group descriptor.
 #[tactic(auto, unfolding(crate::specs::ProvisioningPages::logical_block_provisioning))]
-pub(crate) fn logical_block_provisioning(profile: Profile) -> [u8; 4]
-    ensures { result ≡ logical_block_provisioning profile }
+pub(crate) fn logical_block_provisioning(profile: Profile, capacity: u64) -> [u8; 4]
+    ensures { result ≡ logical_block_provisioning profile capacity }
 {
     [
-        threshold_exponent(profile),
+        threshold_exponent(profile, capacity),
         PROVISIONING_BITS,
         THIN_PROVISIONED,
         0,
     ]
 }
 
-/// The pool of a thin provisioned disk. SBC-3 calls its blocks LBA mapping resources (SBC-3, 4.7).
+/// The pool of a thin provisioned disk, and the capacity of the disk, which decides the size of a threshold
+/// set. SBC-3 calls the blocks of the pool LBA mapping resources (SBC-3, 4.7).
 #[derive(Clone, Copy)]
 pub struct MappingResources {
-    /// The number of its blocks.
+    /// The number of logical blocks of the disk.
+    pub capacity: u64,
+    /// The number of blocks of the pool.
     pub blocks: u32,
     /// The number of addresses that have one of them: those that are mapped or anchored.
     pub used: u32,
+}
+
+impl MappingResources {
+    /// The threshold sets that no address has.
+    pub(crate) fn available_sets(self, profile: Profile) -> u32
+        ensures { result ≡ available_sets profile self }
+    {
+        threshold_sets(
+            profile,
+            self.capacity,
+            self.blocks.saturating_sub(self.used),
+        )
+    }
+
+    /// The threshold sets that mapped and anchored addresses have.
+    pub(crate) fn used_sets(self, profile: Profile) -> u32
+        ensures { result ≡ used_sets profile self }
+    {
+        threshold_sets(profile, self.capacity, self.used)
+    }
 }
 
 /// PARAMETER CODE of the available and of the used resource count.
@@ -104,8 +133,8 @@ pub(crate) fn write_provisioning_page(
         ≤ 28 }
 {
     parts_are_put_in_turn();
-    let available = resource_count(profile, AVAILABLE, pool.blocks.saturating_sub(pool.used));
-    let used = resource_count(profile, USED, pool.used);
+    let available = resource_count(AVAILABLE, pool.available_sets(profile));
+    let used = resource_count(USED, pool.used_sets(profile));
     if pointer <= AVAILABLE {
         cut.put(&[0x8C, 0x00, 0, 24]);
         cut.put(&available);
@@ -118,12 +147,12 @@ pub(crate) fn write_provisioning_page(
     }
 }
 
-/// A log parameter with a number of blocks, which are dedicated to the logical unit.
-fn resource_count(profile: Profile, code: u16, blocks: u32) -> [u8; 12]
-    ensures { result ≡ fields_bytes (resources profile code blocks) }
+/// A log parameter with a number of threshold sets, which are dedicated to the logical unit.
+fn resource_count(code: u16, sets: u32) -> [u8; 12]
+    ensures { result ≡ fields_bytes (resources code sets) }
 {
     let mut bytes = [0, 0, 0x03, 8, 0, 0, 0, 0, 0x01, 0, 0, 0];
     BigEndian::write_u16(&mut bytes, code);
-    BigEndian::write_u32(&mut bytes[4..], threshold_sets(profile, blocks));
+    BigEndian::write_u32(&mut bytes[4..], sets);
     bytes
 }

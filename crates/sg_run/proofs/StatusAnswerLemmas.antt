@@ -62,6 +62,8 @@ is-read state cdb c k is e =
 
 pub answers-of-walk : AnswersAreOfAWalk
 unfolding checked_cdb
-answers-of-walk state i cdb data_out c is =
+answers-of-walk state i cdb data_out c is good =
+    let untold =
     by-cdb state i c data_out (first_some (cdb_checks state i cdb)) (command_in (profile_of state) cdb)
-    (λ k e. is-read state cdb (command.GetLbaStatus c) k is e)
+    (λ k e. is-read state cdb (command.GetLbaStatus c) k is e) good in
+    record { data_in = untold.data_in; disk = untold.disk }

@@ -25,6 +25,7 @@ use Rattle.sg_store.specs.Disk.Mapping.{Data}
 use Rattle.sg_store.specs.Laws.{RemappingTakesWhatIsNeeded}
 use Rattle.std.specs.FinMap.{contains_key, get, len}
 use Rattle.std.proofs.Common.{zero, suc, ap₂, is_some}
+use Rattle.sg_target.specs.Alerts.{alerted}
 use Rattle.sg_target.specs.Checks.{checked_cdb}
 use Rattle.sg_target.specs.CommandLaws.{WritesOverUsedAddressesHaveSpace}
 use Rattle.sg_target.specs.Refusal.{checked_next, first_some, when_sound}
@@ -54,13 +55,14 @@ use Rattle.sg_target.specs.Laws.{AnchorsEachExtent, UnmapsEachExtent, lies_in_an
 use Rattle.sg_target.specs.ProvisioningCommands.{anchoring, filling, same_block, unmap_list_refusal}
 use Rattle.sg_target.specs.ProvisioningCommands.{unmapping, unmaps}
 use Rattle.sg_target.specs.Semantics.{effect_of}
-use Rattle.sg_target.specs.State.{State, config_of}
-use Rattle.sg_target.specs.Step.{Step, executed, outcome, refused, step}
+use Rattle.sg_target.specs.State.{State, config_of, resources_of}
+use Rattle.sg_target.specs.Step.{Step, executed, outcome, refused, step, with_alert}
 use Rattle.sg_target.specs.declared.operation.Operation.{Operation}
 use Rattle.sg_target.specs.declared.operation.Operation.TheVariants as operation
 use Rattle.sg_target.specs.declared.refusal.Refusal.{Refusal}
 use Rattle.sg_target.specs.declared.reply.Status.TheVariants.{Good}
 use Rattle.sg_target.proofs.BlocksLemmas.{same-whole}
+use Rattle.sg_target.proofs.AlertLemmas.{no-alert}
 use Rattle.sg_target.proofs.LiftLemmas.{Asked, asked, lifted, not_good, outcome-by, request_checks}
 
 -- ---- Any command
@@ -72,16 +74,17 @@ module _ (state : State) (i : ℕ) (cdb data_out : List ℕ) where
     pub asked : Asked state i cdb data_out operation
     pub effect : Effect
     pub effect_is : effect_of state i operation ≡ Ok effect
-    pub done_is : executed effect ≡ done
+    pub done_is : with_alert state i (executed effect) ≡ done
 
   abbrev DoneIfGood : Step → Type 0
   DoneIfGood done = done.answer.status ≡ Good → Done done
 
   by-effect : (operation : Operation) → Asked state i cdb data_out operation
       → (effect : Result Effect Refusal) → effect_of state i operation ≡ effect
-      → DoneIfGood (outcome state i effect)
+      → DoneIfGood (with_alert state i (outcome state i effect))
   by-effect operation k (Ok effect) e good =
-      outcome-by state i DoneIfGood effect (λ refusal good. absurd (not_good state i refusal good))
+      outcome-by state i (λ (done : Step). DoneIfGood (with_alert state i done)) effect
+      (λ refusal good. absurd (not_good state i refusal good))
       (λ none good. record {
         operation = operation;
         asked = k;
@@ -105,10 +108,11 @@ same-effect found first second e f = cc
 pub by-operation : (P : Step → Type 0) (state : State) (i : ℕ) (operation : Operation) (effect : Effect)
     (done : Step) (known : Operation) (its : Effect) → known ≡ operation
     → effect_of state i known ≡ Ok its
-    → effect_of state i operation ≡ Ok effect → executed effect ≡ done → P (executed its) → P done
+    → effect_of state i operation ≡ Ok effect → with_alert state i (executed effect) ≡ done
+    → P (with_alert state i (executed its)) → P done
 by-operation P state i operation effect done known its same e f is h =
     subst P
-    (ap executed
+    (ap (λ (e : Effect). with_alert state i (executed e))
     (same-effect (effect_of state i known) its effect e (ap (effect_of state i) same ∙ f)) ∙ is)
     h
 
@@ -130,7 +134,7 @@ reads-return state i cdb data_out read is good =
     d.asked.operation_is (ap blocks_to_read (sym d.asked.command_is) ∙ is) in
     by-operation (λ (done : Step). ReturnsBlocks state done read) state i d.operation d.effect
     (step state i cdb data_out) (operation.Read read) (reading state read) known refl d.effect_is
-    d.done_is (record { data_in = refl; state = refl })
+    d.done_is (record { data_in = refl; state = no-alert state i state refl })
 
 -- ---- WRITE
 
@@ -166,7 +170,7 @@ writes-leave maps puts state i cdb data_out named is good =
     let known = write-asked (config_of state) data_out d.operation named d.asked.command
     d.asked.accepted d.asked.operation_is (ap blocks_to_write (sym d.asked.command_is) ∙ is) in
     by-operation
-    (λ (done : Step). Changes state done.state (lies_in out.lba out.count) Mapped
+    (λ (done : Step). Changes i state done.state (lies_in out.lba out.count) Mapped
     (λ address. block_at data_out (address - out.lba)))
     state i d.operation d.effect (step state i cdb data_out) (operation.Write fields)
     (writing state fields) known refl d.effect_is d.done_is
@@ -296,8 +300,8 @@ module _ (state : State) (i : ℕ) where
   unmap-effect false extents = refl
 
   unmap-changes : UnmapsEachExtent → AnchorsEachExtent → (anchor : Bool) (extents : List Extent)
-      → Changes state (effect_of_unmap anchor extents).after (lies_in_any extents)
-      (unmapped_status anchor) (λ address. zero_block)
+      → Changes i state (alerted (resources_of state) i (effect_of_unmap anchor extents).after)
+      (lies_in_any extents) (unmapped_status anchor) (λ address. zero_block)
   unmap-changes unmaps anchors true extents = record {
     statuses = anchors.statuses state extents;
     blocks = anchors.blocks state extents;
@@ -321,11 +325,11 @@ unmaps-follow unmaps anchors state i cdb data_out c is good =
       listed = known.listed;
       unmapped =
           subst
-          (λ (inside : ℕ → Bool). Changes state (step state i cdb data_out).state inside
+          (λ (inside : ℕ → Bool). Changes i state (step state i cdb data_out).state inside
           (unmapped_status c.anchor) (λ address. zero_block))
           (λ d address. lies-in-named only known.extents address d)
           (by-operation
-          (λ (done : Step). Changes state done.state (lies_in_any named)
+          (λ (done : Step). Changes i state done.state (lies_in_any named)
           (unmapped_status c.anchor) (λ address. zero_block))
           state i d.operation d.effect (step state i cdb data_out)
           (unmap_extents c.anchor named) (effect_of_unmap state i c.anchor named)
@@ -385,14 +389,15 @@ zero-is unmap bytes h z =
     ∙ ap (λ n. replicate n 0) h)
 
 -- a range that is read as zeros is read as a block of zeros
-zeroed : (state : State) (contents : Contents) (e : Extent) (status : ProvisioningStatus)
+zeroed : (state : State) (i : ℕ) (contents : Contents) (e : Extent) (status : ProvisioningStatus)
     (given : List ℕ) → zero_block ≡ given
     → ((address : ℕ) → status_at contents address
     ≡ cond (lies_in e.lba e.count address) status (status_at state.disk.contents address))
     → ((address : ℕ) → block contents address
     ≡ cond (lies_in e.lba e.count address) zero_block (block state.disk.contents address))
-    → Changes state (with_contents state contents) (lies_in e.lba e.count) status (λ address. given)
-zeroed state contents e status given blank statuses blocks = record {
+    → Changes i state (alerted (resources_of state) i (with_contents state contents))
+    (lies_in e.lba e.count) status (λ address. given)
+zeroed state i contents e status given blank statuses blocks = record {
   statuses = statuses;
   blocks =
       λ address.
@@ -407,7 +412,8 @@ module _ (fills : FillMapsEachAddress) (puts : FillsEachBlock) (unmapped : Unmap
       (status : ProvisioningStatus) (given : List ℕ) : Type 0 where
     its : Effect
     is : effect_of state i o ≡ Ok its
-    changes : Changes state its.after (lies_in e.lba e.count) status (λ address. given)
+    changes : Changes i state (alerted (resources_of state) i its.after) (lies_in e.lba e.count) status
+        (λ address. given)
 
   by-flags : (state : State) (i : ℕ) (anchor unmapping_it : Bool) (e : Extent) (given : List ℕ)
       → (unmapping_it ≡ true → zero_block ≡ given)
@@ -416,13 +422,13 @@ module _ (fills : FillMapsEachAddress) (puts : FillsEachBlock) (unmapped : Unmap
   by-flags state i true true e given blank = record {
     its = anchoring state (e ∷ []);
     is = refl;
-    changes = zeroed state _ e Anchored given (blank refl)
+    changes = zeroed state i _ e Anchored given (blank refl)
         (anchored state.disk.contents e.lba e.count) (blanks state.disk.contents e.lba e.count);
   }
   by-flags state i false true e given blank = record {
     its = unmapping state (e ∷ []);
     is = refl;
-    changes = zeroed state _ e Deallocated given (blank refl)
+    changes = zeroed state i _ e Deallocated given (blank refl)
         (unmapped state.disk.contents e.lba e.count) (zeroes state.disk.contents e.lba e.count);
   }
   by-flags state i anchor false e given blank = record {
@@ -452,7 +458,7 @@ module _ (fills : FillMapsEachAddress) (puts : FillsEachBlock) (unmapped : Unmap
       let given = same_block c.ndob data_out in
       let done = by-fields state i c given (same-whole c.ndob data_out long) in
       by-operation
-      (λ (after : Step). Changes state after.state (lies_in c.extent.lba c.extent.count)
+      (λ (after : Step). Changes i state after.state (lies_in c.extent.lba c.extent.count)
       (status_of_same c given) (λ address. given))
       state i d.operation d.effect (step state i cdb data_out)
       (unmap_or_fill c.anchor c.unmap c.extent given) done.its known done.is

@@ -1,6 +1,6 @@
 -- A command is concluded: what it answers, leaves and costs on a disk with armed faults.
-use Rattle.std.proofs.Common.{◌≡◌, ◌≤◌, ℕ, List, [], ◌++◌, min, Option, Some, None, Result, false}
-use Rattle.std.proofs.Common.{refl, sym, ap, subst, ◌∙◌}
+use Rattle.std.proofs.Common.{◌≡◌, ◌≤◌, ℕ, List, [], ◌++◌, length, min, Option, Some, None, Result}
+use Rattle.std.proofs.Common.{Err, false, refl, sym, ap, subst, ◌∙◌, arith}
 use Rattle.std.proofs.lemmas.List.{append-nil, length-take, take-append-drop}
 use Rattle.sg_wire.specs.FirstBytes.{overwritten}
 use Rattle.sg_wire.specs.declared.sense.Format.{Format}
@@ -12,7 +12,8 @@ use Rattle.sg_faults.specs.declared.fault.Fault.{Fault}
 use Rattle.sg_faults.specs.declared.outcome.Afterwards.{Afterwards}
 use Rattle.sg_faults.specs.declared.outcome.Afterwards.TheVariants as after
 use Rattle.sg_faults.specs.declared.outcome.Struck.{Struck}
-use Rattle.sg_store.specs.Meter.{Meter}
+use Rattle.sg_store.specs.Meter.{Meter, no_counts}
+use Rattle.sg_store.specs.declared.store.Counts.{Counts}
 use Rattle.sg_target.specs.Armed.{Armed, ArmedStep, Attempt, afterwards_step, answer_afterwards}
 use Rattle.sg_target.specs.Armed.{armed_step, armed_step_by, attempt, attempt_by, faults_left}
 use Rattle.sg_target.specs.Armed.{finished, finished_if_good, marked_by, seen, step_of_checked}
@@ -22,18 +23,21 @@ use Rattle.sg_target.specs.Charge.{armed_ranges, visit_bound}
 use Rattle.sg_target.specs.Checks.{checked_cdb}
 use Rattle.sg_target.specs.Demands.{data_out_length}
 use Rattle.sg_target.specs.Execution.{IsExecuted}
-use Rattle.sg_target.specs.MadeReplies.{finished_reply, reply_afterwards}
+use Rattle.sg_target.specs.MadeReplies.{finished_reply, refused_reply, reply_afterwards}
 use Rattle.sg_target.specs.Laws.{LimitsAreKept}
 use Rattle.sg_target.specs.Ranges.{Range, ranges_if_passed}
 use Rattle.sg_target.specs.Reply.{Carries, CarriesOf, CarriesStep}
 use Rattle.sg_target.specs.State.{IsWithinLimits, State, config_of}
-use Rattle.sg_target.specs.Step.{Answer, Step, sense_format}
+use Rattle.sg_target.specs.Step.{Answer, Step, after_refusal, refusal_answer, sense_format}
 use Rattle.sg_target.specs.Target.{TargetFields, disk_of}
 use Rattle.sg_target.specs.declared.operation.Operation.{Operation}
 use Rattle.sg_target.specs.declared.refusal.Refusal.{Refusal}
+use Rattle.sg_target.specs.declared.refusal.Refusal.TheVariants as refusal
+use Rattle.sg_target.specs.declared.refusal.Refusal.TheVariants.{Conflict, DeferredError}
 use Rattle.sg_target.specs.declared.reply.Reply.{Reply}
 use Rattle.sg_target.specs.declared.reply.Status.{Status}
 use Rattle.sg_target.specs.declared.reply.Status.TheVariants.{Good, CheckCondition, NoReply}
+use Rattle.sg_target.proofs.AlertLemmas.{refused-no-alert}
 use Rattle.sg_target.proofs.ArmedLemmas.{attempt-unarmed, finished-bad, step-by-unarmed}
 
 -- ---- What the checks have passed or refused
@@ -104,6 +108,65 @@ module _ (limits : LimitsAreKept) (bounds : CostBounds) (i : ℕ) (cdb data_out 
             (charged-asked bounds old.state.disk.pool _ old.meter new.meter reply asked charge);
         visits = subst (λ (xs : List Range). reply.counts.visits ≤ visit_bound xs) over visits;
       }
+
+-- ---- The checks have refused it
+
+refusal-data : (format : Format) (refusal : Refusal) → (refusal_answer format refusal).data_in ≡ []
+refusal-data format Conflict = refl
+refusal-data format (refusal.CheckCondition reason) = refl
+refusal-data format refusal.Busy = refl
+refusal-data format refusal.TaskSetFull = refl
+refusal-data format refusal.NoReply = refl
+refusal-data format (DeferredError code) = refl
+
+-- nothing is returned, and nothing is counted
+module _ (bounds : CostBounds) (i : ℕ) (refusal : Refusal) (counts : Counts) (old new : TargetFields)
+    (reply : Reply) (buffer : List ℕ)
+    (reply_is : reply ≡ refused_reply (sense_format old.state) refusal counts)
+    (none : (counts.visits ≡ 0) × ((counts.probes ≡ 0) × (counts.links ≡ 0)))
+    (meter : new.meter ≡ old.meter) where
+  carries-refusal : Carries (refusal_answer (sense_format old.state) refusal) reply buffer buffer
+  carries-refusal = let nothing = refusal-data (sense_format old.state) refusal in record {
+    status = ap (λ (r : Reply). r.status) reply_is;
+    sense = ap (λ (r : Reply). r.sense) reply_is;
+    size = ap (λ (r : Reply). r.data_in) reply_is ∙ sym (ap length nothing);
+    data_in = sym (ap (λ d. overwritten d buffer) nothing);
+  }
+
+  counts-nothing : reply.counts ≡ no_counts
+  counts-nothing =
+      ap (λ (r : Reply). r.counts) reply_is
+      ∙ (λ d. record { visits = none.0 d; probes = none.1.0 d; links = none.1.1 d })
+
+  charges-nothing : IsCharged bounds old.state.disk.pool [] old.meter new.meter reply
+  charges-nothing = let visits = ap (λ (c : Counts). c.visits) counts-nothing in record {
+    visits = omega (arith, visits);
+    probes = omega (arith, ap (λ (c : Counts). c.probes) counts-nothing);
+    links = omega (arith, ap (λ (c : Counts). c.links) counts-nothing);
+    least = λ good. omega arith;
+    visited = ap (λ (m : Meter). m.total) meter ∙ omega (arith, visits);
+    counted = λ some. absurd (omega (arith, some));
+    restarts = ap (λ (m : Meter). m.restarts) meter ∙ omega arith;
+    idle = λ e. meter;
+  }
+
+  pub refused-taken : (checked : Result Operation Refusal) → checked ≡ Err refusal
+      → new.state ≡ after_refusal old.state i refusal → new.faults ≡ old.faults
+      → TakesStep bounds (step_of_checked old.state i checked) (ranges_if_passed old.state checked) old
+      new reply buffer buffer
+  refused-taken checked is state faults =
+      subst
+      (λ (r : Result Operation Refusal). TakesStep bounds (step_of_checked old.state i r)
+      (ranges_if_passed old.state r) old new reply buffer buffer)
+      (sym is)
+      (subst (λ (done : Step). TakesStep bounds done [] old new reply buffer buffer)
+      (sym (refused-no-alert old.state i refusal))
+      (record {
+        answer = carries-refusal;
+        state = state;
+        faults = faults;
+        charge = charges-nothing;
+      }))
 
 -- ---- No fault is armed
 

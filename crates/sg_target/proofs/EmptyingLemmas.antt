@@ -1,24 +1,24 @@
 -- Commands that unmap all blocks of a disk leave it empty.
-use Rattle.std.proofs.Common.{◌≡◌, ◌+◌, ◌<◌, ℕ, List, [], ◌∷◌, Bool, true, false, cond}
-use Rattle.std.proofs.Common.{Option, Some, None, Result, Ok, Err, refl, sym, ap, ◌∙◌, arith}
+use Rattle.std.proofs.Common.{◌≡◌, ◌<◌, ℕ, List, [], ◌∷◌, Bool, true, false, cond}
+use Rattle.std.proofs.Common.{Option, Some, None, Ok, refl, sym, ap, ◌∙◌, arith}
 use Rattle.std.proofs.lemmas.Bool.Decides.{nat_tests}
 use Rattle.std.specs.Cmp.{nat_cmp_total}
 use Rattle.std.specs.Ordering.{nat_cmp}
 use Rattle.std.specs.FinMap as map
 use Rattle.std.specs.FinMap.{empty, get-empty, len, len-empty, same_map, nat_cmp-IsAntisymmetric}
-use Rattle.sg_wire.specs.CdbDecoding.{command_of}
 use Rattle.sg_wire.specs.declared.command.Command.{Command}
 use Rattle.sg_wire.specs.declared.command.Command.TheVariants as command
 use Rattle.sg_store.specs.Disk.{Contents, IsWellFormed, Mapping, data_in, lies_in, unmapped}
 use Rattle.sg_store.specs.Laws.{UnmapsEachAddress, UnmapsEachBlock}
 use Rattle.sg_store.specs.LbaStatus.{status_in}
+use Rattle.sg_target.specs.Alerts.{alerted}
 use Rattle.sg_target.specs.CommandLaws.{FormatsEmptyTheDisk, IsEmptied, empties_disk}
 use Rattle.sg_target.specs.Config.{ConfigFields}
 use Rattle.sg_target.specs.Demands.{demands, extent, list_refusal}
 use Rattle.sg_target.specs.Effect.{with_contents}
 use Rattle.sg_target.specs.ProvisioningCommands.{unmapping}
 use Rattle.sg_target.specs.Refusal.{unless_refused}
-use Rattle.sg_target.specs.State.{State, config_of}
+use Rattle.sg_target.specs.State.{State, config_of, resources_of}
 use Rattle.sg_target.specs.Step.{Step, step}
 use Rattle.sg_target.specs.declared.operation.Operation.{Operation}
 use Rattle.sg_target.specs.declared.operation.Operation.TheVariants as operation
@@ -63,9 +63,9 @@ module _ (addresses : UnmapsEachAddress) (zeros : UnmapsEachBlock) where
       (addresses m 0 capacity q) (zeros m 0 capacity q)
       ∙ (none-left capacity q m whole (map.get m q) refl ∙ sym (get-empty nat_cmp q)))
 
-  empty-is : (state : State) (contents : Contents) → contents ≡ empty
-      → IsEmptied state (with_contents state contents)
-  empty-is state contents e = record {
+  empty-is : (state : State) (i : ℕ) (contents : Contents) → contents ≡ empty
+      → IsEmptied i state (alerted (resources_of state) i (with_contents state contents))
+  empty-is state i contents e = record {
     used = ap len e ∙ len-empty nat_cmp Mapping;
     statuses = λ address.
         ap (λ (m : Contents). status_in (map.get m address)) e ∙ ap status_in (get-empty nat_cmp address);
@@ -80,8 +80,8 @@ module _ (addresses : UnmapsEachAddress) (zeros : UnmapsEachBlock) where
       let all = extent 0 state.disk.capacity in
       let known = all-asked (config_of state) d.asked.command data_out d.operation
       d.asked.operation_is (ap empties_disk (sym d.asked.command_is) ∙ is) in
-      by-operation (λ (done : Step). IsEmptied state done.state) state i d.operation d.effect
+      by-operation (λ (done : Step). IsEmptied i state done.state) state i d.operation d.effect
       (step state i cdb data_out) (operation.UnmapAll state.disk.capacity)
       (unmapping state (all ∷ [])) known refl d.effect_is d.done_is
-      (empty-is state (unmapped state.disk.contents 0 state.disk.capacity)
+      (empty-is state i (unmapped state.disk.contents 0 state.disk.capacity)
       (emptied state.disk.capacity state.disk.contents limits.blocks))

@@ -36,16 +36,19 @@ use Rattle.sg_target.specs.Happenings.{faults_after}
 use Rattle.sg_target.specs.Laws.{ConfigurationStays}
 use Rattle.sg_target.specs.Runs.{after_events, answers_to, armed_after_happening, armed_disk}
 use Rattle.sg_target.specs.State.{State, profile_of}
-use Rattle.sg_target.specs.Step.{Answer, Step, refused, step}
+use Rattle.sg_target.specs.Step.{Answer, Step, refused, step, with_alert}
 use Rattle.sg_target.specs.declared.event.Event.{Event}
 use Rattle.sg_target.specs.declared.event.Event.TheVariants as event
 use Rattle.sg_target.specs.declared.happening.Happening.{Happening}
 use Rattle.sg_target.specs.declared.happening.Happening.TheVariants.{Arm, Disarm, DisarmAll}
 use Rattle.sg_target.specs.declared.operation.Operation.{Operation}
 use Rattle.sg_target.specs.declared.operation.Operation.TheVariants as operation
+use Rattle.sg_target.specs.declared.refusal.Reason.TheVariants as reason
 use Rattle.sg_target.specs.declared.refusal.Refusal.{Refusal}
+use Rattle.sg_target.specs.declared.refusal.Refusal.TheVariants.{CheckCondition}
 use Rattle.sg_target.specs.declared.reply.Status.{Status}
 use Rattle.sg_target.specs.declared.reply.Status.TheVariants.{Good}
+use Rattle.sg_target.proofs.AlertLemmas.{refused-no-alert, no-alert}
 use Rattle.sg_target.proofs.ArmedLemmas.{finished-bad, finished-state, of-both, step-unarmed}
 use Rattle.sg_target.proofs.LiftLemmas.{not_good}
 use Rattle.sg_target.proofs.MarkingLemmas.{only-write-long, unmarked-stays}
@@ -61,6 +64,11 @@ arrival-stays state i arrival.ReservationConflict = refl
 arrival-stays state i arrival.NoReply = refl
 arrival-stays state i (arrival.CheckCondition code) = refl
 arrival-stays state i (arrival.DeferredError code) = refl
+
+-- a refusal tells of no threshold
+refusal-left : (state : State) (i : ℕ) (refusal : Refusal)
+    → (step_of_checked state i (Err refusal)).state ≡ (refused state i refusal).state
+refusal-left state i refusal = ap (λ (s : Step). s.state) (refused-no-alert state i refusal)
 
 module _ (state : State) (i : ℕ) (cdb data_out : List ℕ) where
   abbrev pub state_by : Result Operation Refusal → State
@@ -87,7 +95,11 @@ module _ (state : State) (i : ℕ) (cdb data_out : List ℕ) where
   by-outcome : (o : Operation) → checked_cdb state i cdb data_out ≡ Ok o → (bad : Option ℕ)
       (outcome : AtMedium) → Tried (result_at_medium o bad outcome)
   by-outcome o passed bad (medium.CheckCondition code) =
-      inr (inl (record { refusal = _; is = refl; left = refl }))
+      inr (inl (record {
+        refusal = CheckCondition (reason.Fault code bad);
+        is = refl;
+        left = refusal-left state i (CheckCondition (reason.Fault code bad));
+      }))
   by-outcome o passed bad (medium.MovesOnly n) =
       inr (inr (record { operation = o; passed = passed; blocks = n; is = refl }))
 
@@ -114,7 +126,9 @@ module _ (state : State) (i : ℕ) (cdb data_out : List ℕ) where
       inr (inl (record {
         refusal = refusal_on_arrival struck.outcome;
         is = refl;
-        left = arrival-stays state i struck.outcome;
+        left =
+            refusal-left state i (refusal_on_arrival struck.outcome)
+            ∙ arrival-stays state i struck.outcome;
       }))
 
   -- ---- the state afterwards
@@ -126,7 +140,7 @@ module _ (state : State) (i : ℕ) (cdb data_out : List ℕ) where
 
   cut-short : (o : Operation) → checked_cdb state i cdb data_out ≡ Ok o → (n : ℕ)
       → Leaves (state_by (Ok (first_blocks n o)))
-  cut-short (operation.Read extent) passed n = inl refl
+  cut-short (operation.Read extent) passed n = inl (no-alert state i state refl)
   cut-short (operation.Write out) passed n = inr (inr (record {
     operation = operation.Write out;
     passed = passed;
@@ -223,7 +237,11 @@ module _ (disk : Armed) (i : ℕ) (cdb data_out : List ℕ) where
       let left = asked on_arrival command disk.faults in
       of-both (λ (t : Attempt). Tried disk.state i cdb data_out t.result)
       (lacks_room command (arrival_attempt struck command checked left))
-      (inr (inl (record { refusal = _; is = refl; left = refl })))
+      (inr (inl (record {
+        refusal = CheckCondition reason.InsufficientResources;
+        is = refl;
+        left = refusal-left disk.state i (CheckCondition reason.InsufficientResources);
+      })))
       (by-attempt disk.state i cdb data_out struck command checked left refl)
 
   state-left : (armed_step disk i cdb data_out).after.state ≡ done_by.state
@@ -253,10 +271,10 @@ module _ (disk : Armed) (i : ℕ) (cdb : List ℕ) (by_checks : Refusal) where
       → (refusal ≡ by_checks) ⊎ ((fault : OnArrival) × (refusal ≡ refusal_on_arrival fault))
       → (command : Seen) (faults : Faults)
       → StaysRefused disk.state i by_checks
-      (let done = refused disk.state i refusal in
+      (let done = with_alert disk.state i (refused disk.state i refusal) in
       finished_if_good done.answer.status None command faults done)
   refused-by refusal whose command faults =
-      let done = refused disk.state i refusal in
+      let done = with_alert disk.state i (refused disk.state i refusal) in
       let bad = not_good disk.state i refusal in
       let is = finished-bad done.answer.status None command faults done bad in
       record {
@@ -264,7 +282,9 @@ module _ (disk : Armed) (i : ℕ) (cdb : List ℕ) (by_checks : Refusal) where
         whose = whose;
         answer = ap (λ (s : ArmedStep). s.answer) is;
         all_sent = ap (λ (s : ArmedStep). s.unsent) is;
-        after = finished-state done.answer.status None command faults done;
+        after =
+            finished-state done.answer.status None command faults done
+            ∙ refusal-left disk.state i refusal;
       }
 
   by-struck : (struck : Option (Struck OnArrival)) (command : Seen) (faults : Faults)
@@ -297,10 +317,11 @@ module _ (state : State) (i : ℕ) (cdb : List ℕ) (command : Seen) (faults : F
       ≡ record { state = state; faults = faults }
   counted-only outcome =
       let refusal = refusal_on_arrival outcome in
-      let done = refused state i refusal in
+      let done = with_alert state i (refused state i refusal) in
       let bad = not_good state i refusal in
       ap (λ (s : ArmedStep). s.after) (finished-bad done.answer.status None _ faults done bad)
-      ∙ ap (λ (s : State). record { state = s; faults = faults }) (arrival-stays state i outcome)
+      ∙ ap (λ (s : State). record { state = s; faults = faults })
+      (refusal-left state i refusal ∙ arrival-stays state i outcome)
 
 pub arrival-counts : ArrivalChangesOnlyCounts
 arrival-counts disk i cdb data_out struck e =

@@ -1,6 +1,6 @@
 -- What an operation finds on its way.
 use Rattle.std.proofs.Common.{◌≡◌, ℕ, Bool, true, false, cond, Option, Some, None, Result, Ok, Err}
-use Rattle.std.proofs.Common.{List, [], ◌∷◌, refl, ap, subst, ◌∙◌}
+use Rattle.std.proofs.Common.{[], ◌∷◌, refl, ap, subst, ◌∙◌}
 use Rattle.std.specs.FinMap.{len}
 use Rattle.std.specs.Option.{option_map_or}
 use Rattle.std.specs.Prelude.{nat_lt}
@@ -12,7 +12,7 @@ use Rattle.sg_target.specs.Refusal.{checked_next, when_sound}
 use Rattle.sg_target.specs.Semantics.{effect_of}
 use Rattle.sg_target.specs.State.{State}
 use Rattle.sg_target.specs.Step.{after_refusal, executed, outcome, refusal_answer, refused}
-use Rattle.sg_target.specs.Step.{sense_format}
+use Rattle.sg_target.specs.Step.{sense_format, with_alert}
 use Rattle.sg_target.specs.declared.operation.Operation.{Operation}
 use Rattle.sg_target.specs.declared.operation.Operation.TheVariants as operation
 use Rattle.sg_target.specs.BlockCommands.{miscompare}
@@ -20,6 +20,7 @@ use Rattle.sg_target.specs.Refusal.{first_some}
 use Rattle.sg_target.specs.declared.refusal.Reason.TheVariants.{Miscompare, SpaceAllocationFailed}
 use Rattle.sg_target.specs.declared.refusal.Refusal.{Refusal}
 use Rattle.sg_target.specs.declared.refusal.Refusal.TheVariants.{CheckCondition}
+use Rattle.sg_target.proofs.AlertLemmas.{refused-no-alert}
 
 module _ (state : State) (i : ℕ) where
   -- a refusal that reports no unit attention
@@ -89,6 +90,9 @@ found-changes-nothing state i cdb data_out effect refusal e found =
     let keeps : EffectKeeps state i (Ok effect) =
     subst (EffectKeeps state i) e (checked-keeps state i (checked_cdb state i cdb data_out)) in
     let same = keeps refusal found in
-    ap (outcome state i) e
-    ∙ (ap (λ (f : Option Refusal). option_map_or (refused state i) f (executed effect)) found
-    ∙ (λ d. record { answer = refusal_answer (sense_format state) refusal; state = same d }))
+    ap (λ (r : Result Effect Refusal). with_alert state i (outcome state i r)) e
+    ∙ (ap
+    (λ (f : Option Refusal). with_alert state i (option_map_or (refused state i) f (executed effect)))
+    found
+    ∙ (refused-no-alert state i refusal
+    ∙ (λ d. record { answer = refusal_answer (sense_format state) refusal; state = same d })))

@@ -1,4 +1,6 @@
 -- From a CDB to its step, and lists of events.
+pub mod AlertLemmas
+mod TellingLemmas
 pub mod StepLemmas
 pub mod LiftLemmas
 pub mod SenseLemmas

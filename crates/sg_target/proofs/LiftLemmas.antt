@@ -6,11 +6,12 @@ use Rattle.sg_wire.specs.CdbDecoding.{command_in, command_of}
 use Rattle.sg_wire.specs.declared.command.CdbFault.{CdbFault}
 use Rattle.sg_wire.specs.declared.command.Command.{Command}
 use Rattle.sg_wire.proofs.ProfileLemmas.{read-any}
+use Rattle.sg_target.specs.Armed.{step_of_checked}
 use Rattle.sg_target.specs.Checks.{cdb_checks, checked_cdb, checked_operation, checked_parse, requested}
 use Rattle.sg_target.specs.Checks.{medium_checks, short_data_out, unsupported_value}
 use Rattle.sg_target.specs.Demands.{Demands, demands}
 use Rattle.sg_target.specs.Refusal.{checked_next, first_some, unless_refused}
-use Rattle.sg_target.specs.Semantics.{effect_of, medium_use}
+use Rattle.sg_target.specs.Semantics.{medium_use}
 use Rattle.sg_target.specs.State.{State, config_of, profile_of}
 use Rattle.sg_target.specs.Effect.{Effect}
 use Rattle.sg_target.specs.Step.{Step, executed, outcome, refused, step}
@@ -21,6 +22,7 @@ use Rattle.sg_target.specs.declared.refusal.Refusal.TheVariants.{Conflict, Check
 use Rattle.sg_target.specs.declared.refusal.Refusal.TheVariants.{Busy, TaskSetFull, NoReply}
 use Rattle.sg_target.specs.declared.refusal.Refusal.TheVariants.{DeferredError}
 use Rattle.sg_target.specs.declared.reply.Status.TheVariants.{Good}
+use Rattle.sg_target.proofs.AlertLemmas.{refused-no-alert}
 
 -- no refusal is GOOD
 pub not_good : (state : State) (i : ℕ) (refusal : Refusal)
@@ -135,8 +137,8 @@ module _ (state : State) (i : ℕ) (cdb data_out : List ℕ) where
   by-checked : (P : Step → Type 0) → ((refusal : Refusal) → P (refused state i refusal))
       → ((operation : Operation) → Asked state i cdb data_out operation → P (step_by state i operation))
       → (checked : Result Operation Refusal) → checked_cdb state i cdb data_out ≡ checked
-      → P (outcome state i (checked_next checked (effect_of state i)))
-  by-checked P r o (Err refusal) e = r refusal
+      → P (step_of_checked state i checked)
+  by-checked P r o (Err refusal) e = subst P (sym (refused-no-alert state i refusal)) (r refusal)
   by-checked P r o (Ok operation) e = o operation (asked operation e)
 
   -- what is true of each refusal, and of the operation that the command asks for, is of the step
@@ -161,9 +163,10 @@ module _ (s t : State) (i : ℕ) (cdb data_out : List ℕ) (profiles : profile_o
       → ((operation : Operation) → Asked s i cdb data_out operation
       → R (step_by s i operation) (step_by t i operation))
       → (checked : Result Operation Refusal) → checked_cdb s i cdb data_out ≡ checked
-      → R (outcome s i (checked_next checked (effect_of s i)))
-      (outcome t i (checked_next checked (effect_of t i)))
-  by-both R r o (Err refusal) e = r refusal
+      → R (step_of_checked s i checked) (step_of_checked t i checked)
+  by-both R r o (Err refusal) e =
+      subst (R (step_of_checked s i (Err refusal))) (sym (refused-no-alert t i refusal))
+      (subst (λ (done : Step). R done (refused t i refusal)) (sym (refused-no-alert s i refusal)) (r refusal))
   by-both R r o (Ok operation) e = o operation (asked s i cdb data_out operation e)
 
   pub lifted-both : (R : Step → Step → Type 0)
@@ -173,7 +176,6 @@ module _ (s t : State) (i : ℕ) (cdb data_out : List ℕ) (profiles : profile_o
       → R (step s i cdb data_out) (step t i cdb data_out)
   lifted-both R r o =
       subst
-      (λ (c : Result Operation Refusal). R (step s i cdb data_out)
-      (outcome t i (checked_next c (effect_of t i))))
+      (λ (c : Result Operation Refusal). R (step s i cdb data_out) (step_of_checked t i c))
       checked-same
       (by-both R r o (checked_cdb s i cdb data_out) refl)

@@ -4,6 +4,7 @@ use Rattle.std.proofs.Common.{Bool, true, false, Result, Ok, Err, refl, subst, s
 use Rattle.sg_wire.specs.declared.command.out_action.OutAction.{OutAction}
 use Rattle.sg_wire.specs.Profile.{rules_of}
 use Rattle.sg_pages.specs.ModeSelect.{changed_by}
+use Rattle.sg_pages.specs.declared.provisioning_pages.MappingResources.{MappingResources}
 use Rattle.sg_units.specs.Attentions.{ArePending, Pending, without_oldest}
 use Rattle.sg_units.specs.Laws.{QueuesKeepTheirLimits, ReservationsStayConsistent}
 use Rattle.sg_units.specs.Raised.{Conditions, raised_for_all, raised_for_members, raised_for_others}
@@ -19,11 +20,12 @@ use Rattle.sg_units.specs.declared.unit_attention.UnitAttention.TheVariants.{Mod
 use Rattle.sg_units.specs.declared.unit_attention.UnitAttention.TheVariants.{ScsiBusReset}
 use Rattle.sg_store.specs.Laws.{DisksStayWellFormed, RemappingTakesWhatIsNeeded}
 use Rattle.sg_store.specs.Laws.{UnmapsEachAddress, UnmapsEachBlock}
-use Rattle.sg_target.proofs.ArmedLemmas.{attempt-ready, finished-state}
+use Rattle.sg_target.proofs.ArmedLemmas.{attempt-ready, finished-state, of-both}
 use Rattle.sg_target.proofs.BlocksLemmas.{KeepsBlocks, Ready, by-checks, cdb-ready, keeps-blocks}
 use Rattle.sg_target.proofs.GrowthLemmas.{by-growth}
 use Rattle.sg_target.proofs.LiftLemmas.{outcome-by}
 use Rattle.sg_target.proofs.Space.{KeepsSpace, keeps-space, by-checks as space-by-checks}
+use Rattle.sg_target.specs.Alerts.{alerted, alerted_initiators, has_crossed}
 use Rattle.sg_target.specs.Armed.{Armed, armed_step, attempt, marked_by, seen, step_of_checked}
 use Rattle.sg_target.specs.Checks.{checked_cdb, checked_effect}
 use Rattle.sg_target.specs.Effect.{Effect, returning_up_to}
@@ -34,7 +36,7 @@ use Rattle.sg_target.specs.Refusal.{checked_next, or_refused, when_sound}
 use Rattle.sg_target.specs.ReservationCommands.{changing_reservations, out_refusal}
 use Rattle.sg_target.specs.ReservationCommands.{reservation_change}
 use Rattle.sg_target.specs.Semantics.{effect_of}
-use Rattle.sg_target.specs.State.{IsWithinLimits, State, profile_of}
+use Rattle.sg_target.specs.State.{IsWithinLimits, State, profile_of, resources_of}
 use Rattle.sg_target.specs.Step.{Step, outcome as step_outcome, refused, step}
 use Rattle.sg_target.specs.declared.happening.Happening.{Happening}
 use Rattle.sg_target.specs.declared.happening.Happening.TheVariants.{Power, LogicalUnitReset}
@@ -140,21 +142,37 @@ module _ (reservations : ReservationsStayConsistent) (queues : QueuesKeepTheirLi
       (λ refusal. refused-within state i refusal h)
       (λ none. record { used = space none; pending = k.0; registered = k.1; blocks = blocks })
 
+  alerted-within : (before : MappingResources) (i : ℕ) (after : State) → IsWithinLimits after
+      → IsWithinLimits (alerted before i after)
+  alerted-within before i after h = record {
+    used = h.used;
+    pending =
+        of-both ArePending (has_crossed before after)
+        (queues.raised after.attentions
+        (raised_for_members (alerted_initiators after.modes.current i) attention.SoftThresholdReached)
+        h.pending)
+        h.pending;
+    registered = h.registered;
+    blocks = h.blocks;
+  }
+
   pub step-within : (state : State) (i : ℕ) (cdb data_out : List ℕ) → IsWithinLimits state
       → IsWithinLimits (step state i cdb data_out).state
   step-within state i cdb data_out h =
-      outcome-within state i (checked_effect state i cdb data_out) h
+      alerted-within (resources_of state) i _
+      (outcome-within state i (checked_effect state i cdb data_out) h
       (checked-keeps state i (checked_cdb state i cdb data_out) (others state h))
       (keeps-blocks disks state i cdb data_out h.blocks)
-      (keeps-space law addresses zeros state i cdb data_out h.used)
+      (keeps-space law addresses zeros state i cdb data_out h.used))
 
   -- the same on a disk with armed faults
   attempt-within : (state : State) (i : ℕ) (checked : Result Operation Refusal) → IsWithinLimits state
       → Ready state checked → IsWithinLimits (step_of_checked state i checked).state
   attempt-within state i checked h ready =
-      outcome-within state i (checked_next checked (effect_of state i)) h
+      alerted-within (resources_of state) i _
+      (outcome-within state i (checked_next checked (effect_of state i)) h
       (checked-keeps state i checked (others state h)) (by-checks disks state i checked h.blocks ready)
-      (space-by-checks law addresses zeros state i checked h.used)
+      (space-by-checks law addresses zeros state i checked h.used))
 
   pub armed-within : (disk : Armed) (i : ℕ) (cdb data_out : List ℕ) → IsWithinLimits disk.state
       → IsWithinLimits (armed_step disk i cdb data_out).after.state

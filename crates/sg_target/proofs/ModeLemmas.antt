@@ -17,7 +17,7 @@ use Rattle.sg_target.specs.Reply.{Carries}
 use Rattle.sg_target.specs.MadeReplies.{executed_reply, refused_reply}
 use Rattle.sg_target.specs.State.{State}
 use Rattle.sg_target.specs.Step.{executed, refused, sense_format}
-use Rattle.sg_target.specs.Charge.{step_by}
+use Rattle.sg_target.specs.Charge.{step_before_alert}
 use Rattle.sg_target.specs.declared.operation.Operation.TheVariants.{ReturnModes}
 use Rattle.sg_target.specs.declared.reply.Reply.{Reply}
 
@@ -67,19 +67,19 @@ module _ (state : State) (i n : ℕ) (request request' : RequestFields) (modes :
       ∙ ap (λ (r : RequestFields). mode_sense state.modes r) asked) ∙ e
 
   returned : (list : List ℕ) → mode_sense state.modes request ≡ Ok list
-      → step_by state i (ReturnModes request n) ≡ executed (returning_up_to state n list)
+      → step_before_alert state i (ReturnModes request n) ≡ executed (returning_up_to state n list)
   unfolding mode_parameters
   returned list e = rw e refl
 
   refused-by : (fault : ModeSenseFault) → mode_sense state.modes request ≡ Err fault
-      → step_by state i (ReturnModes request n) ≡ refused state i (sense_refusal fault)
+      → step_before_alert state i (ReturnModes request n) ≡ refused state i (sense_refusal fault)
   unfolding mode_parameters
   refused-by fault e = rw e refl
 
   pub list-carried : (list : List ℕ) (limit most len : ℕ) → limit ≡ min most n → length list ≤ most
       → mode_sense modes request' ≡ Ok list → len ≡ length (first_bytes limit list)
       → after ≡ overwritten (first_bytes limit list) before → reply ≡ executed_reply len no_counts
-      → Carries (step_by state i (ReturnModes request n)).answer reply before after
+      → Carries (step_before_alert state i (ReturnModes request n)).answer reply before after
   list-carried list limit most len cut short e size bytes is =
       let same = cut-at limit most n list cut short in
       rw (returned list (at-state (Ok list) e)) (record {
@@ -108,6 +108,6 @@ module _ (state : State) (i n : ℕ) (request request' : RequestFields) (modes :
   pub fault-carried : (fault : ModeSenseFault) (counts : Counts)
       → mode_sense modes request' ≡ Err fault → after ≡ before
       → reply ≡ refused_reply (sense_format state) (sense_refusal fault) counts
-      → Carries (step_by state i (ReturnModes request n)).answer reply before after
+      → Carries (step_before_alert state i (ReturnModes request n)).answer reply before after
   fault-carried fault counts e same is =
       rw (refused-by fault (at-state (Err fault) e)) (carried fault counts same is)

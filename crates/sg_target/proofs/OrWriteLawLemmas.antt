@@ -148,7 +148,7 @@ or-writes-set law state i cdb data_out named limits is good =
     d.asked.operation_is names in
     let long = or-long (config_of state) d.asked.command data_out named d.asked.accepted names in
     by-operation
-    (λ (done : Step). SetsTheBitsOfItsBlocks state done.state out data_out)
+    (λ (done : Step). SetsTheBitsOfItsBlocks i state done.state out data_out)
     state i d.operation d.effect (step state i cdb data_out) (operation.OrWrite fields)
     (or_writing state fields) known refl d.effect_is d.done_is
     (record {

@@ -2,7 +2,6 @@
 use Rattle.std.proofs.Common.{◌≡◌, ℕ, ◌+◌, ◌<◌, ◌^◌, List, [], ◌∷◌, ◌++◌, length, take, drop}
 use Rattle.std.proofs.Common.{refl, sym, ap, ◌∙◌, arith}
 use Rattle.std.proofs.lemmas.List.{drop_all}
-use Rattle.std.specs.List.{flat_map}
 use Rattle.sg_store.specs.Disk.{Contents, Disk}
 use Rattle.sg_store.specs.LbaStatus.{count_alike, descriptor_at, descriptors_from, lba_status}
 use Rattle.sg_store.proofs.DescriptorLemmas.{alike-within, descriptors-more}

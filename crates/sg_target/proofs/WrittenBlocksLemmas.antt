@@ -248,6 +248,7 @@ write-only-theirs law unmapped anchored state i cdb data_out address h =
     (λ o k.
     let named = (asked-writes (config_of state) k.command data_out o k.operation_is).0
     ∙ ap (λ parsed. blocks_written (config_of state) parsed data_out) (sym k.command_is) in
-    outcome-apart law unmapped anchored state i address (effect_of state i o)
+    let apart = outcome-apart law unmapped anchored state i address (effect_of state i o)
     (by-operation law unmapped anchored state i address o
-    (ap (λ extents. lies_in_any extents address) named ∙ h)))
+    (ap (λ extents. lies_in_any extents address) named ∙ h)) in
+    record { status = apart.status; block = apart.block })

@@ -27,7 +27,7 @@ use Rattle.sg_target.specs.Checks.{checked_cdb}
 use Rattle.sg_target.specs.Refusal.{checked_next, fault_sense}
 use Rattle.sg_target.specs.Semantics.{MediumUse, effect_of, medium_use, uses_no_block}
 use Rattle.sg_target.specs.State.{State}
-use Rattle.sg_target.specs.Step.{Answer, Step, check_condition, outcome, sense_format}
+use Rattle.sg_target.specs.Step.{Answer, Step, check_condition, outcome, sense_format, with_alert}
 use Rattle.sg_target.specs.declared.operation.Operation.{Operation}
 use Rattle.sg_target.specs.declared.operation.Operation.TheVariants.{Read, Write, Fill, MarkBad}
 use Rattle.sg_target.specs.declared.refusal.Reason.TheVariants as reason
@@ -202,7 +202,8 @@ finished_if_good _ mark command faults done = afterwards_step None done faults
 -- The step of a command that the checks pass or refuse.
 abbrev pub step_of_checked : State → (initiator : ℕ) → Result Operation Refusal → Step
 step_of_checked state initiator checked =
-    outcome state initiator (checked_next checked (effect_of state initiator))
+    with_alert state initiator
+    (outcome state initiator (checked_next checked (effect_of state initiator)))
 
 abbrev pub finished_attempt : State → (initiator : ℕ) → (cdb : List ℕ) → Attempt → ArmedStep
 finished_attempt state initiator cdb tried =

@@ -6,7 +6,7 @@ use Rattle.sg_store.specs.Meter.{Meter, probe_bound}
 use Rattle.sg_target.specs.Armed.{Armed, ArmedStep, attempt_by}
 use Rattle.sg_target.specs.Ranges.{Range, ranges, ranges_if_passed}
 use Rattle.sg_target.specs.Reply.{Carries, CarriesStep}
-use Rattle.sg_target.specs.Step.{Step, outcome}
+use Rattle.sg_target.specs.Step.{Step, outcome, with_alert}
 use Rattle.sg_target.specs.Target.{TargetFields, disk_of}
 use Rattle.sg_target.specs.declared.reply.Reply.{Reply}
 use Rattle.sg_target.specs.declared.reply.Status.TheVariants.{Good}
@@ -77,9 +77,15 @@ pub record ChargesCommand (bounds : CostBounds) (initiator : ℕ) (cdb data_out 
 
 -- ---- Cited only by private contracts
 
--- The step of an operation that has passed the checks of its command.
+-- The step of an operation that has passed the checks of its command: without the alert of a threshold, and
+-- with it.
+abbrev pub step_before_alert : State → (initiator : ℕ) → Operation → Step
+step_before_alert state initiator operation =
+    outcome state initiator (effect_of state initiator operation)
+
 abbrev pub step_by : State → (initiator : ℕ) → Operation → Step
-step_by state initiator operation = outcome state initiator (effect_of state initiator operation)
+step_by state initiator operation =
+    with_alert state initiator (step_before_alert state initiator operation)
 
 -- A target takes a step that goes over ranges of blocks.
 pub record TakesStep (bounds : CostBounds) (done : Step) (over : List Range)

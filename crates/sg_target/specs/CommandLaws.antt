@@ -20,6 +20,7 @@ use Rattle.sg_store.specs.LbaStatus.{status_at}
 use Rattle.sg_wire.specs.declared.lba_status.ProvisioningStatus.{ProvisioningStatus}
 use Rattle.sg_wire.specs.declared.lba_status.ProvisioningStatus.TheVariants.{Mapped, Deallocated}
 use Rattle.sg_wire.specs.declared.lba_status.ProvisioningStatus.TheVariants.{Anchored}
+use Rattle.sg_target.specs.Alerts.{alerted}
 use Rattle.sg_target.specs.Checks.{checked_effect}
 use Rattle.sg_target.specs.Config.{ConfigFields}
 use Rattle.sg_target.specs.DataOut.{moved}
@@ -27,7 +28,7 @@ use Rattle.sg_target.specs.Demands.{extent, extents_out}
 use Rattle.sg_target.specs.Effect.{Effect, with_contents}
 use Rattle.sg_target.specs.Laws.{lies_in_any}
 use Rattle.sg_target.specs.ProvisioningCommands.{same_block, unmaps}
-use Rattle.sg_target.specs.State.{IsWithinLimits, State, config_of}
+use Rattle.sg_target.specs.State.{IsWithinLimits, State, config_of, resources_of}
 use Rattle.sg_target.specs.Step.{Step, step}
 use Rattle.sg_target.specs.declared.refusal.Refusal.{Refusal}
 use Rattle.sg_target.specs.declared.reply.Status.TheVariants.{Good}
@@ -40,14 +41,16 @@ EndsWithGood state initiator cdb data_out =
     (step state initiator cdb data_out).answer.status ≡ Good
 
 -- Some addresses have a status, and each is read as the block that is given for it. Every other address
--- is as it was. So are the mode pages, the unit attentions, the registrations and the reservation.
-pub record Changes (before after : State) (addresses : ℕ → Bool) (status : ProvisioningStatus)
-    (given : ℕ → List ℕ) : Type 0 where
+-- is as it was. So are the mode pages, the registrations and the reservation. The unit attentions are, too,
+-- unless the command of the initiator has crossed a threshold.
+pub record Changes (initiator : ℕ) (before after : State) (addresses : ℕ → Bool)
+    (status : ProvisioningStatus) (given : ℕ → List ℕ) : Type 0 where
   pub statuses : (address : ℕ) → status_at after.disk.contents address
       ≡ (if addresses address then status else status_at before.disk.contents address)
   pub blocks : (address : ℕ) → block after.disk.contents address
       ≡ (if addresses address then given address else block before.disk.contents address)
-  pub rest : after ≡ with_contents before after.disk.contents
+  pub rest : after
+      ≡ alerted (resources_of before) initiator (with_contents before after.disk.contents)
 
 -- ---- READ (SBC-3, 5.11 to 5.13; READ(6) of SBC-2)
 
@@ -105,7 +108,7 @@ WritesLeaveTheirData =
     (state : State) (initiator : ℕ) (cdb data_out : List ℕ) (named : Extent)
     → blocks_to_write (command_of cdb) ≡ Some named → EndsWithGood state initiator cdb data_out
     → let out = moved (config_of state) named data_out in
-    Changes state (step state initiator cdb data_out).state (lies_in out.lba out.count) Mapped
+    Changes initiator state (step state initiator cdb data_out).state (lies_in out.lba out.count) Mapped
     (λ address. block_at data_out (address - out.lba))
 
 -- Each block that the CDB names is on the disk, even if data-out has too few bytes for it.
@@ -149,19 +152,21 @@ pub record SetsBits (old given left : List ℕ) : Type 0 where
   pub bits : (byte bit : ℕ) → is_set left byte bit ≡ (is_set old byte bit || is_set given byte bit)
   pub none_cleared : (byte bit : ℕ) → is_set old byte bit ≡ true → is_set left byte bit ≡ true
 
--- Each of these blocks has the bits of the data-out set, too, and is mapped. Nothing more has changed.
-pub record SetsTheBitsOfItsBlocks (before after : State) (out : Extent) (data_out : List ℕ)
-    : Type 0 where
+-- Each of these blocks has the bits of the data-out set, too, and is mapped. Nothing more has changed,
+-- unless the command has crossed a threshold.
+pub record SetsTheBitsOfItsBlocks (initiator : ℕ) (before after : State) (out : Extent)
+    (data_out : List ℕ) : Type 0 where
   pub its_blocks : (address : ℕ) → lies_in out.lba out.count address ≡ true
       → SetsBits (block before.disk.contents address) (block_at data_out (address - out.lba))
       (block after.disk.contents address)
-  pub changes : Changes before after (lies_in out.lba out.count) Mapped (block after.disk.contents)
+  pub changes : Changes initiator before after (lies_in out.lba out.count) Mapped
+      (block after.disk.contents)
 
 abbrev pub OrWritesSetTheBitsOfTheirData : Type 0
 OrWritesSetTheBitsOfTheirData =
     (state : State) (initiator : ℕ) (cdb data_out : List ℕ) (named : Extent) → IsWithinLimits state
     → blocks_to_or (command_of cdb) ≡ Some named → EndsWithGood state initiator cdb data_out
-    → SetsTheBitsOfItsBlocks state (step state initiator cdb data_out).state
+    → SetsTheBitsOfItsBlocks initiator state (step state initiator cdb data_out).state
     (moved (config_of state) named data_out) data_out
 
 -- ---- UNMAP (SBC-3, 5.28)
@@ -172,17 +177,18 @@ unmapped_status anchor = if anchor then Anchored else Deallocated
 
 -- The parameter list names some extents. Each address that lies in one of them is unmapped so, and is
 -- read as zeros.
-pub record UnmapsItsList (before after : State) (c : Unmap) (data_out : List ℕ) : Type 0 where
+pub record UnmapsItsList (initiator : ℕ) (before after : State) (c : Unmap) (data_out : List ℕ)
+    : Type 0 where
   pub extents : List Extent
   pub listed : unmap_list (first_bytes c.list_length data_out) ≡ Ok extents
-  pub unmapped : Changes before after (lies_in_any extents) (unmapped_status c.anchor)
+  pub unmapped : Changes initiator before after (lies_in_any extents) (unmapped_status c.anchor)
       (λ address. zero_block)
 
 abbrev pub UnmapsFollowTheirLists : Type 0
 UnmapsFollowTheirLists =
     (state : State) (initiator : ℕ) (cdb data_out : List ℕ) (c : Unmap)
     → command_of cdb ≡ Ok (command.Unmap c) → EndsWithGood state initiator cdb data_out
-    → UnmapsItsList state (step state initiator cdb data_out).state c data_out
+    → UnmapsItsList initiator state (step state initiator cdb data_out).state c data_out
 
 -- ---- WRITE SAME (SBC-3, 5.43 and 5.44)
 
@@ -214,7 +220,8 @@ abbrev pub WriteSamesLeaveTheirBlock : Type 0
 WriteSamesLeaveTheirBlock =
     (state : State) (initiator : ℕ) (cdb data_out : List ℕ) (c : WriteSameFields)
     → write_same_fields (command_of cdb) ≡ Some c → EndsWithGood state initiator cdb data_out
-    → Changes state (step state initiator cdb data_out).state (lies_in c.extent.lba c.extent.count)
+    → Changes initiator state (step state initiator cdb data_out).state
+    (lies_in c.extent.lba c.extent.count)
     (status_of_same c (same_block c.ndob data_out)) (λ address. same_block c.ndob data_out)
 
 -- ---- FORMAT UNIT and SANITIZE (SBC-3, 5.3 and 5.24)
@@ -227,18 +234,20 @@ empties_disk (Ok (command.SanitizeCryptographicErase c)) = true
 empties_disk _ = false
 
 -- All blocks of the pool are free, as no address is mapped or anchored, and each block is read as zeros.
--- The mode pages, the unit attentions, the registrations and the reservation are as they were.
-pub record IsEmptied (before after : State) : Type 0 where
+-- The mode pages, the registrations and the reservation are as they were. The unit attentions are, too,
+-- unless the command of the initiator has crossed a threshold.
+pub record IsEmptied (initiator : ℕ) (before after : State) : Type 0 where
   pub used : len after.disk.contents ≡ 0
   pub statuses : (address : ℕ) → status_at after.disk.contents address ≡ Deallocated
   pub blocks : (address : ℕ) → block after.disk.contents address ≡ zero_block
-  pub rest : after ≡ with_contents before after.disk.contents
+  pub rest : after
+      ≡ alerted (resources_of before) initiator (with_contents before after.disk.contents)
 
 abbrev pub FormatsEmptyTheDisk : Type 0
 FormatsEmptyTheDisk =
     (state : State) (initiator : ℕ) (cdb data_out : List ℕ) → IsWithinLimits state
     → empties_disk (command_of cdb) ≡ true → EndsWithGood state initiator cdb data_out
-    → IsEmptied state (step state initiator cdb data_out).state
+    → IsEmptied initiator state (step state initiator cdb data_out).state
 
 -- ---- All commands
 

@@ -27,7 +27,7 @@ use Rattle.sg_target.specs.declared.data_in.DataIn.TheVariants.{Capacity10, Capa
 abbrev pub data_of : IdentityFields → (capacity : ℕ) → ReservationState → DataIn → List ℕ
 data_of identity capacity reservations (Sense stopped condition format) =
     sense_data format (pending_sense stopped condition)
-data_of identity capacity reservations (Inquiry page) = inquiry_data identity page
+data_of identity capacity reservations (Inquiry page) = inquiry_data identity capacity page
 data_of identity capacity reservations (Reservations action) =
     reserve_in_data (rules_of identity.profile) reservations action
 data_of identity capacity reservations (Report report pool) =

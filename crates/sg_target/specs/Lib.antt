@@ -16,6 +16,7 @@ pub mod Demands
 pub mod Semantics
 pub mod Checks
 pub mod Status
+pub mod Alerts
 pub mod Step
 pub mod Armed
 pub mod Reply
@@ -32,6 +33,7 @@ pub mod Runs
 pub mod Laws
 pub mod CommandLaws
 pub mod FaultLaws
+pub mod AlertLaws
 -- Modules that only private contracts cite.
 pub mod DataIn
 pub mod Extents

@@ -17,7 +17,7 @@ abbrev pub new_state : ConfigFields → State
 new_state config = record {
   identity = config.identity;
   disk = empty_disk config.blocks config.pool;
-  modes = initial_state;
+  modes = initial_state config.identity.profile;
   attentions = power_on_pending;
   reservations = empty_state;
   stopped = false;

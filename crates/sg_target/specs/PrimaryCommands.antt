@@ -36,12 +36,13 @@ abbrev pub inquiry_page : Profile → (evpd : Bool) (page_code : ℕ) → Option
 inquiry_page profile true page_code = option_map VitalProductData (page_with_code profile page_code)
 inquiry_page profile false page_code = if page_code == 0 then Some Standard else None
 
-abbrev pub inquiry_data : IdentityFields → InquiryPage → List ℕ
-inquiry_data identity Standard = standard_inquiry identity
-inquiry_data identity (VitalProductData page) = page_data page identity
+abbrev pub inquiry_data : IdentityFields → (capacity : ℕ) → InquiryPage → List ℕ
+inquiry_data identity capacity Standard = standard_inquiry identity
+inquiry_data identity capacity (VitalProductData page) = page_data page identity capacity
 
 abbrev pub returning_page : State → InquiryPage → (allocation_length : ℕ) → Effect
-returning_page state page n = returning_up_to state n (inquiry_data state.identity page)
+returning_page state page n =
+    returning_up_to state n (inquiry_data state.identity state.disk.capacity page)
 
 -- REPORT LUNS returns the list of logical units, and so clears the pending condition that the list has
 -- changed (SAM-5, 5.14).

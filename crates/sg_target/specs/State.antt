@@ -28,9 +28,13 @@ config_of state =
 abbrev pub profile_of : State → Profile
 profile_of state = state.identity.profile
 
--- The pool, and how many addresses have a block of it.
+-- The capacity, the pool, and how many addresses have a block of it.
 abbrev pub resources_of : State → MappingResources
-resources_of state = record { blocks = state.disk.pool; used = len state.disk.contents }
+resources_of state = record {
+  capacity = state.disk.capacity;
+  blocks = state.disk.pool;
+  used = len state.disk.contents;
+}
 
 -- No table of the disk is past its limit. No more addresses are used than the pool has blocks. Each of
 -- the 64 initiators has a queue of at most sixteen pending conditions, all distinct. No initiator is

@@ -7,11 +7,12 @@ use Rattle.sg_wire.specs.declared.sense.Format.{Format}
 use Rattle.sg_wire.specs.declared.sense.Format.TheVariants.{Fixed, Descriptor}
 use Rattle.sg_faults.specs.declared.sense_code.SenseCode.{SenseCode}
 use Rattle.sg_pages.specs.ModePage.{descriptor_sense}
+use Rattle.sg_target.specs.Alerts.{alerted}
 use Rattle.sg_target.specs.Checks.{checked_effect}
 use Rattle.sg_target.specs.Effect.{Effect, without_attention}
 use Rattle.sg_target.specs.PrimaryCommands.{format_of}
 use Rattle.sg_target.specs.Refusal.{fault_sense, sense_of}
-use Rattle.sg_target.specs.State.{State}
+use Rattle.sg_target.specs.State.{State, resources_of}
 use Rattle.sg_target.specs.declared.refusal.Refusal.{Refusal}
 use Rattle.sg_target.specs.declared.refusal.Reason.TheVariants.{UnitAttention as Attention}
 use Rattle.sg_target.specs.declared.refusal.Refusal.TheVariants as refusal
@@ -103,6 +104,13 @@ outcome state initiator (Ok effect) =
     option_map_or (refused state initiator) effect.found (executed effect)
 outcome state initiator (Err refusal) = refused state initiator refusal
 
+-- The step ends with the alert of a threshold, if the command has crossed one.
+abbrev pub with_alert : State → (initiator : ℕ) → Step → Step
+with_alert before initiator done =
+    record done { state = alerted (resources_of before) initiator done.state }
+
 -- The step of a CDB with its data-out.
 abbrev pub step : State → (initiator : ℕ) → (cdb data_out : List ℕ) → Step
-step state initiator cdb data_out = outcome state initiator (checked_effect state initiator cdb data_out)
+step state initiator cdb data_out =
+    with_alert state initiator
+    (outcome state initiator (checked_effect state initiator cdb data_out))

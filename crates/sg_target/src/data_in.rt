@@ -91,7 +91,7 @@ impl DataIn {
                 condition,
                 format,
             } => pending_sense(stopped, condition).write(format, cut),
-            DataIn::Inquiry(page) => page.write(config.identity(), cut),
+            DataIn::Inquiry(page) => page.write(config.identity(), config.blocks(), cut),
             DataIn::Reservations(action) => {
                 write_reserve_in_data(config.rules(), action, reservations, cut)
             }
@@ -109,11 +109,7 @@ impl<S: Store> Target<S> {
     pub(crate) fn report(&self, report: Report) -> DataIn
         ensures { result ≡ DataIn.Report report (resources_of self.now.state) }
     {
-        let pool = MappingResources {
-            blocks: self.config.pool(),
-            used: self.store.used(),
-        };
-        DataIn::Report(report, pool)
+        DataIn::Report(report, self.resources())
     }
 
     /// Returns data, at most `allocation_length` bytes of it.

@@ -1,5 +1,6 @@
 //! Laws of the definitions: each is the contract of a function that does nothing, and calls those
 //! whose laws it follows from.
+ghost use Rattle.sg_target.specs.AlertLaws.{CrossingsAreReported};
 ghost use Rattle.sg_target.specs.CommandLaws.{CommandsWriteOnlyTheirBlocks, FormatsEmptyTheDisk};
 ghost use Rattle.sg_target.specs.CommandLaws.{OrWritesSetTheBitsOfTheirData};
 ghost use Rattle.sg_target.specs.CommandLaws.{ReadsReturnTheirBlocks, UnmapsFollowTheirLists};
@@ -129,8 +130,8 @@ pub fn reads_return_their_blocks()
 {}
 
 /// After a WRITE that ends with GOOD each of its blocks has its bytes of the data-out and is
-/// mapped. Nothing more has changed. A disk that takes too little data-out writes only the blocks
-/// that data-out has in full.
+/// mapped. Nothing more has changed, unless the WRITE has crossed a threshold. A disk that takes too
+/// little data-out writes only the blocks that data-out has in full.
 pub fn writes_leave_their_data()
     ensures { WritesLeaveTheirData }
 {
@@ -153,8 +154,8 @@ pub fn writes_over_used_addresses_have_space()
 }
 
 /// After an ORWRITE that ends with GOOD a bit of its blocks is 1 exactly if it was 1 or is 1 in the
-/// data-out. So no bit goes from 1 to 0. The blocks are mapped, and nothing more has changed. With
-/// too little data-out they are the blocks that data-out has in full.
+/// data-out. So no bit goes from 1 to 0. The blocks are mapped, and nothing more has changed, unless the
+/// ORWRITE has crossed a threshold. With too little data-out they are the blocks that data-out has in full.
 pub fn or_writes_set_the_bits_of_their_data()
     ensures { OrWritesSetTheBitsOfTheirData }
 {
@@ -163,7 +164,7 @@ pub fn or_writes_set_the_bits_of_their_data()
 
 /// After an UNMAP that ends with GOOD each address that lies in some extent of its parameter list
 /// is read as zeros. Without ANCHOR the address is deallocated, and with ANCHOR it is anchored.
-/// Nothing more has changed.
+/// Nothing more has changed, unless the UNMAP has crossed a threshold.
 pub fn unmaps_follow_their_lists()
     ensures { UnmapsFollowTheirLists }
 {
@@ -173,7 +174,7 @@ pub fn unmaps_follow_their_lists()
 
 /// After a WRITE SAME that ends with GOOD each of its addresses is read as the block of the
 /// data-out. With UNMAP 1 and a block of zeros the address is deallocated, or with ANCHOR anchored.
-/// Otherwise it is mapped. Nothing more has changed.
+/// Otherwise it is mapped. Nothing more has changed, unless the WRITE SAME has crossed a threshold.
 pub fn write_sames_leave_their_block()
     ensures { WriteSamesLeaveTheirBlock }
 {
@@ -214,4 +215,10 @@ pub fn commands_overwrite_their_blocks()
 /// is gone. A command that is not executed heals nothing.
 pub fn only_overwriting_heals()
     ensures { OnlyOverwritingHeals }
+{}
+
+/// 38h/07h becomes pending exactly if a command has crossed a threshold: for its sender if SITUA is 1, and
+/// otherwise for each initiator. No other condition is established or cleared by that.
+pub fn crossings_are_reported()
+    ensures { CrossingsAreReported }
 {}

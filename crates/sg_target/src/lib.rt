@@ -2,6 +2,7 @@
 //! other (SPC-4, 4.2; SBC-3, 4).
 #![tactic(auto)]
 
+mod alert;
 mod anchoring;
 mod armed;
 mod block;

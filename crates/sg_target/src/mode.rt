@@ -3,7 +3,7 @@ ghost use Rattle.std.specs.Prelude.{◌≡◌, ◌≤◌, ◌<◌, ◌^◌, [], 
 ghost use Rattle.sg_pages.specs.DataLengths.{longest_list};
 ghost use Rattle.sg_target.specs.Checks.{requested};
 ghost use Rattle.sg_target.specs.Demands.{mode_select, mode_sense};
-ghost use Rattle.sg_target.specs.Charge.{TakesStep, cost_bounds, step_by};
+ghost use Rattle.sg_target.specs.Charge.{TakesStep, cost_bounds, step_before_alert};
 ghost use Rattle.sg_target.specs.ModeCommands.{attentions_after, required_blocks};
 ghost use Rattle.sg_target.specs.ModeCommands.{select_refusal, sense_refusal};
 ghost use Rattle.sg_target.specs.State.{IsWithinLimits, profile_of};
@@ -108,7 +108,7 @@ impl<S: Store> Target<S> {
         requires limits { IsWithinLimits self.old.state }
         requires room { min longest_list allocation_length ≤ length buf.old }
         ensures { let operation = Operation.ReturnModes requested.now allocation_length in
-            TakesStep (cost_bounds S.price S.least) (step_by self.old.state initiator operation)
+            TakesStep (cost_bounds S.price S.least) (step_before_alert self.old.state initiator operation)
             [] self.old self.new result buf.old buf.new }
     {
         let limit = LONGEST_MODE_LIST.min(usize::from(allocation_length));
@@ -218,7 +218,7 @@ impl<S: Store> Target<S> {
     ) -> Reply
         requires limits { IsWithinLimits self.old.state }
         ensures { let operation = Operation.ChangeModes width sp list.now in
-            TakesStep (cost_bounds S.price S.least) (step_by self.old.state initiator operation)
+            TakesStep (cost_bounds S.price S.least) (step_before_alert self.old.state initiator operation)
             [] self.old self.new result buf.now buf.now }
     {
         let blocks = self.required_blocks();

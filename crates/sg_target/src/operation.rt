@@ -3,7 +3,7 @@ ghost use Rattle.std.specs.Prelude.{◌≡◌, ◌≤◌, ◌∷◌, [], length,
 ghost use Rattle.sg_wire.specs.Layout.{is_block_command};
 ghost use Rattle.sg_target.specs.Checks.{out_of_range, requested};
 ghost use Rattle.sg_target.specs.Demands.{demands};
-ghost use Rattle.sg_target.specs.Charge.{TakesStep, cost_bounds, step_by};
+ghost use Rattle.sg_target.specs.Charge.{TakesStep, cost_bounds, step_before_alert};
 ghost use Rattle.sg_target.specs.DataIn.{returns_data};
 ghost use Rattle.sg_target.specs.DataInBound.{data_in_bound};
 ghost use Rattle.sg_target.specs.Extents.{AreOnDisk};
@@ -349,10 +349,10 @@ fn block_operation_of<'a>(
 }
 
 impl<S: Store> Target<S> {
-    /// Executes an operation, unless the disk's state refuses it.
+    /// Executes an operation, unless the disk's state refuses it. It reports no threshold.
     // Inlined: a command would pay for one more call.
     #[inline(always)]
-    pub(crate) fn execute_checked(
+    pub(crate) fn execute_operation(
         &mut self,
         initiator: Initiator,
         operation: &Operation<'_>,
@@ -362,7 +362,7 @@ impl<S: Store> Target<S> {
         requires limits { IsWithinLimits self.old.state }
         requires room { data_in_bound operation.now ≤ length buf.old }
         ensures { TakesStep (cost_bounds S.price S.least)
-            (step_by self.old.state initiator operation.now)
+            (step_before_alert self.old.state initiator operation.now)
             (ranges_of self.old.state operation.now)
             self.old self.new result buf.old buf.new }
     {
@@ -415,7 +415,7 @@ impl<S: Store> Target<S> {
         requires limits { IsWithinLimits self.old.state }
         requires room { data_in_bound operation.now ≤ length buf.old }
         ensures { TakesStep (cost_bounds S.price S.least)
-            (step_by self.old.state initiator operation.now)
+            (step_before_alert self.old.state initiator operation.now)
             (ranges_of self.old.state operation.now)
             self.old self.new result buf.old buf.new }
     {

@@ -96,13 +96,13 @@ impl InquiryPage {
     }
 
     /// Writes the data, whole.
-    pub(crate) fn write(self, identity: &Identity, cut: &mut Cut)
-        ensures data { Puts cut.old cut.new (inquiry_data identity.now self) }
-        ensures at_most { length (inquiry_data identity.now self) ≤ longest_inquiry }
+    pub(crate) fn write(self, identity: &Identity, capacity: u64, cut: &mut Cut)
+        ensures data { Puts cut.old cut.new (inquiry_data identity.now capacity self) }
+        ensures at_most { length (inquiry_data identity.now capacity self) ≤ longest_inquiry }
     {
         match self {
             InquiryPage::Standard => write_standard_inquiry(identity, cut),
-            InquiryPage::VitalProductData(page) => write_vpd_page(page, identity, cut),
+            InquiryPage::VitalProductData(page) => write_vpd_page(page, identity, capacity, cut),
         }
     }
 }

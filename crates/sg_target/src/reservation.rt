@@ -6,7 +6,7 @@ ghost use Rattle.sg_wire.specs.Profile.{rules_of};
 ghost use Rattle.sg_units.specs.FullStatus.{longest_reserve_in};
 ghost use Rattle.sg_target.specs.Checks.{requested};
 ghost use Rattle.sg_target.specs.Demands.{reserve_out};
-ghost use Rattle.sg_target.specs.Charge.{TakesStep, cost_bounds, step_by};
+ghost use Rattle.sg_target.specs.Charge.{TakesStep, cost_bounds, step_before_alert};
 ghost use Rattle.sg_target.specs.MadeReplies.{ReturnsData};
 ghost use Rattle.sg_target.specs.ReservationCommands.{always_needs_type, has_list_length};
 ghost use Rattle.sg_target.specs.ReservationCommands.{out_refusal, reserve_in_data};
@@ -182,7 +182,7 @@ impl<S: Store> Target<S> {
     ) -> Reply
         requires limits { IsWithinLimits self.old.state }
         ensures { let operation = Operation.ChangeReservations action scope_type list.now in
-            TakesStep (cost_bounds S.price S.least) (step_by self.old.state initiator operation)
+            TakesStep (cost_bounds S.price S.least) (step_before_alert self.old.state initiator operation)
             [] self.old self.new result buf.now buf.now }
     {
         let rules = self.config.rules();

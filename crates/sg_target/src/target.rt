@@ -97,13 +97,8 @@ impl<S: Store> Target<S> {
         }) }
     {
         let store = S::make(alloc, config.blocks(), config.pool())?;
-        Ok(Target::restored(
-            config,
-            store,
-            ModePages::new(),
-            Reservations::new(),
-            Faults::new(),
-        ))
+        let modes = ModePages::new(config.identity().profile());
+        Ok(Target::restored(config, store, modes, Reservations::new(), Faults::new()))
     }
 
     /// A target as it is after power on, with what a power cycle has left of a disk: its blocks, its
@@ -258,7 +253,7 @@ impl<S: Store> Target<S> {
     }
 
     /// Establishes unit attention conditions.
-    fn raise(&mut self, raised: &Raised)
+    pub(crate) fn raise(&mut self, raised: &Raised)
         ensures state { self.new.state ≡ with_raised self.old.state raised.now }
         ensures faults { self.new.faults ≡ self.old.faults }
         ensures meter { self.new.meter ≡ self.old.meter }

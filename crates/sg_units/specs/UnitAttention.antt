@@ -90,6 +90,8 @@ abbrev pub reset_code : ℕ
 reset_code = 0x29
 
 -- A condition is reported in place of a command, even if the command conflicts with a reservation
--- (SAM-5, 5.3.3). Every condition is if resets are not the only ones.
+-- (SAM-5, 5.3.3). Every condition is if resets are not the only ones. MICROCODE HAS BEEN CHANGED has the
+-- rank of a reset.
 abbrev pub outranks_conflict : (only_resets : Bool) → UnitAttention → Bool
-outranks_conflict only_resets condition = not only_resets || (code_of condition).0 == reset_code
+outranks_conflict only_resets condition =
+    not only_resets || ((code_of condition).0 == reset_code || has_code 0x3F 0x01 condition)

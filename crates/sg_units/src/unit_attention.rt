@@ -116,11 +116,11 @@ impl UnitAttention {
     }
 
     /// Returns `true` if it is reported in place of a command that conflicts with a reservation
-    /// (SAM-5, 5.3.3). With `only_resets` only the conditions of 29h are.
+    /// (SAM-5, 5.3.3). With `only_resets` only the conditions of 29h are, and MICROCODE HAS BEEN CHANGED.
     pub fn outranks_conflict(self, only_resets: bool) -> bool
         ensures { result ≡ outranks_conflict only_resets self }
     {
-        !only_resets || self.is_reset()
+        !only_resets || self.is_reset() || self == UnitAttention::MicrocodeChanged
     }
 
     /// A reset or a lost I_T nexus establishes it.

@@ -55,9 +55,10 @@ start_bits = record no_bits { used = bit 1 0 ∷ bit 4 2 ∷ [] }
 abbrev pub diagnostic_bits : FreeBits
 diagnostic_bits = record no_bits { ignored = bit 1 4 ∷ bit 1 1 ∷ bit 1 0 ∷ [] }
 
--- CMPLST and DEFECT LIST FORMAT of FORMAT UNIT: no list of defects is taken or kept.
+-- CMPLST of FORMAT UNIT: no list of defects is taken or kept.
+-- Choice (SBC-3, 5.3): a DEFECT LIST FORMAT other than 000b may be supported.
 abbrev pub format_bits : FreeBits
-format_bits = record no_bits { ignored = bits 1 3 0 ∷ [] }
+format_bits = record no_bits { ignored = bit 1 3 ∷ [] }
 
 -- IMMED and AUSE of SANITIZE, which is done before its status is sent, and never fails.
 abbrev pub sanitize_bits : FreeBits

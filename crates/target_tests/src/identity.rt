@@ -71,7 +71,7 @@ fn a_page_of_vital_product_data_is_written_by_its_code(rt: HostRuntime) {
     for (code, page) in PAGES {
         let mut bytes = [0xEE; 12];
         let mut cut = Cut::new(&mut bytes, 12);
-        let is_there = vpd(code, &identity, &mut cut);
+        let is_there = vpd(code, &identity, 16, &mut cut);
         let written = cut.written();
         assert!(rt;
             is_there != page.is_empty() && written == page.len() && bytes.starts_with(page)
@@ -92,7 +92,7 @@ fn standard_inquiry_data_is_cut(rt: HostRuntime) {
 /// The disk has no mode page 3Eh, and a parameter list of one byte ends within its header.
 #[test]
 fn requests_for_mode_pages_are_refused(rt: HostRuntime) {
-    let mut pages = ModePages::new();
+    let mut pages = ModePages::new(Profile::Base);
     let ask = Ask {
         width: CdbWidth::Six,
         llbaa: false,

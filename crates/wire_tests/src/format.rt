@@ -57,10 +57,10 @@ fn format_unit_and_sanitize_are_read_and_written(rt: HostRuntime) {
     }
 }
 
-/// CDBs with their ignored bits: CMPLST and DEFECT LIST FORMAT; IMMED and AUSE.
+/// CDBs with their ignored bits: CMPLST; IMMED and AUSE.
 const IGNORED: [(&[u8], Command); 4] = [
-    (&[0x04, 0x0F, 0, 0, 0, 0], NO_LIST),
-    (&[0x04, 0x3F, 0, 0, 0, 0], LONG_LIST),
+    (&[0x04, 0x08, 0, 0, 0, 0], NO_LIST),
+    (&[0x04, 0x38, 0, 0, 0, 0], LONG_LIST),
     (&[0x48, 0xA2, 0, 0, 0, 0, 0, 0, 0, 0], BLOCK_ERASE),
     (&[0x48, 0xBF, 0, 0, 0, 0, 0, 3, 4, 0], EXIT_FAILURE_MODE),
 ];
@@ -72,11 +72,14 @@ fn ignored_bits_change_no_format_unit_and_no_sanitize(rt: HostRuntime) {
     }
 }
 
-/// FMTPINFO, bits that are reserved, CDBs that end early, and service actions that the disk does not
-/// have: OVERWRITE is 01h.
-const FAULTS: [(&[u8], CdbFault); 11] = [
+/// FMTPINFO, each bit of DEFECT LIST FORMAT, bits that are reserved, CDBs that end early, and service
+/// actions that the disk does not have: OVERWRITE is 01h.
+const FAULTS: [(&[u8], CdbFault); 14] = [
     (&[0x04, 0x40, 0, 0, 0, 0], CdbFault::Field(1)),
     (&[0x04, 0x80, 0, 0, 0, 0], CdbFault::Field(1)),
+    (&[0x04, 0x01, 0, 0, 0, 0], CdbFault::Field(1)),
+    (&[0x04, 0x12, 0, 0, 0, 0], CdbFault::Field(1)),
+    (&[0x04, 0x34, 0, 0, 0, 0], CdbFault::Field(1)),
     (&[0x04, 0, 0x01, 0, 0, 0], CdbFault::Field(2)),
     (&[0x04, 0, 0, 0, 0x80, 0], CdbFault::Field(4)),
     (&[0x04, 0, 0, 0, 0], CdbFault::Short(5)),

@@ -16,7 +16,7 @@ from mehdalung.methods import Commands
 # The bits that the disk does not look at (PROFILE, "Commands"): the report has none of them.
 IGNORED = {"address_descriptor_index", "ause", "byte_transfer_length", "cmplst", "devoffl", "fua_nv",
            "group_number", "sync_nv", "unitoffl"}
-IGNORED_IN = {("format_unit", "defect_list_format"), ("send_diagnostic", "pf")}
+IGNORED_IN = {("send_diagnostic", "pf")}
 # These service actions of PERSISTENT RESERVE OUT ignore SCOPE and TYPE (SPC-4, 6.16.2).
 WITHOUT_TYPE = {ReserveOut.REGISTER, ReserveOut.CLEAR, ReserveOut.REGISTER_AND_IGNORE_EXISTING_KEY,
                 ReserveOut.REGISTER_AND_MOVE}

@@ -1,10 +1,9 @@
 """Lines of scripts, by the commands that they send."""
 
 from device import INITIATORS
-from modes import DEFAULT, PAGES_OF, page_header
+from modes import DEFAULT, PAGES_OF, PROVISIONING, page_header
 
 MODE_PAGES = tuple(code for code, _ in PAGES_OF["base"])
-PROVISIONING = 0x1C, 0x02  # page code and subpage code of a page that only an extended disk has
 
 
 def raw(initiator, cdb, data_out=None):
@@ -53,9 +52,11 @@ def mode_select_10(parameters, sp=0, initiator=0):
                parameters or None)
 
 
-def mode_page(code, subpage=0):
-    """The default values of a mode page, as a list of MODE SELECT has them."""
-    return page_header((code, subpage)) + DEFAULT[code, subpage]
+def mode_page(code, subpage=0, profile="base"):
+    """The default values of a mode page, as a list of MODE SELECT has them. Only an extended disk has the
+    page of logical block provisioning."""
+    profile = "extended" if (code, subpage) == PROVISIONING else profile
+    return page_header((code, subpage)) + DEFAULT[profile][code, subpage]
 
 
 def with_byte(data, place, value):

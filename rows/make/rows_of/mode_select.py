@@ -3,7 +3,7 @@
 from itertools import permutations
 
 from device import GOOD, INITIATORS
-from modes import ALL_PAGES, CHANGEABLE, DEFAULT
+from modes import ALL_PAGES, CHANGEABLE
 from rows_of import row
 from rows_of.lines import (
     MODE_PAGES, POWER_ON_REPORTED, POWER_ON_TAKEN, PROVISIONING, mode_page, mode_select_10,
@@ -23,6 +23,8 @@ FIVE_PAGES = [(0x0A, 0), PROVISIONING, (0x1C, 0), (0x01, 0), (0x08, 0)]
 @row("mode-select/six-with-each-value-in-the-caching-page", 0x08)
 @row("mode-select/six-with-each-value-in-the-control-page", 0x0A)
 @row("mode-select/six-with-each-value-in-the-informational-exceptions-control-page", 0x1C)
+@row("mode-select/six-with-each-value-in-the-read-write-error-recovery-page-of-an-extended-disk", 0x01, 0,
+     "extended", profile="extended")
 @row("mode-select/six-with-each-value-in-the-logical-block-provisioning-page", *PROVISIONING, "extended",
      profile="extended")
 def each_value(code, subpage=0, profile="base"):
@@ -30,18 +32,18 @@ def each_value(code, subpage=0, profile="base"):
 
     Only changeable bits may differ, and PS; of another byte its number is reported. If a list is
     accepted and the pages are not the default ones then, the page is read. The default page is
-    selected again before the next byte. In the end each other initiator has one unit attention. The
-    page of logical block provisioning cannot be changed, so nobody has one after it.
+    selected again before the next byte. In the end each other initiator has one unit attention, if the
+    page has a bit that can be changed.
     """
     session = Session(profile)
     session.send(*POWER_ON_TAKEN)
-    default = mode_page(code, subpage)
+    default = mode_page(code, subpage, profile)
     session.send(mode_select_6(bytes(4) + default))
     for place in range(len(default)):
         was_read = False
         for value in range(256):
             reply = session.send(mode_select_6(bytes(4) + with_byte(default, place, value)))
-            if reply.status == GOOD and session.device.modes.current != DEFAULT:
+            if reply.status == GOOD and session.device.modes.current != session.device.modes.default:
                 session.send(mode_sense_6(code, dbd=1, subpage=subpage))
                 was_read = True
         if was_read:
@@ -72,15 +74,15 @@ def each_header(select, sense, size):
 @row("mode-select/six-with-each-bit-of-each-page", mode_select_6, 4, WITHOUT_SUBPAGES)
 @row("mode-select/ten-with-each-bit-of-each-page", mode_select_10, 8, WITHOUT_SUBPAGES)
 @row("mode-select/ten-with-each-bit-of-the-logical-block-provisioning-page", mode_select_10, 8,
-     [PROVISIONING], profile="extended")
-def each_bit(select, size, pages):
+     [PROVISIONING], "extended", profile="extended")
+def each_bit(select, size, pages, profile="base"):
     """Each bit of each page differs from its default value, one after the other (SPC-4, 6.11).
 
     After a bit that can be changed the default values are selected again.
     """
     yield from POWER_ON_REPORTED
     for code, subpage in pages:
-        page, changeable = mode_page(code, subpage), CHANGEABLE[code, subpage]
+        page, changeable = mode_page(code, subpage), CHANGEABLE[profile][code, subpage]
         front = len(page) - len(changeable)
         for place in range(len(page)):
             for bit in range(8):
@@ -117,13 +119,13 @@ def each_bit_of_the_descriptor(select, header, descriptor):
 @row("mode-select/ten-list-cut-at-each-length", mode_select_10, LONG_HEADER + LONG_DESCRIPTOR,
      FOUR_PAGES)
 @row("mode-select/six-list-of-five-pages-cut-at-each-length", mode_select_6, bytes(4), FIVE_PAGES,
-     profile="extended")
+     "extended", profile="extended")
 @row("mode-select/ten-list-of-five-pages-cut-at-each-length", mode_select_10,
-     LONG_HEADER + LONG_DESCRIPTOR, FIVE_PAGES, profile="extended")
-def cut_list(select, front, pages):
+     LONG_HEADER + LONG_DESCRIPTOR, FIVE_PAGES, "extended", profile="extended")
+def cut_list(select, front, pages, profile="base"):
     """A list with all pages, cut: whole after an item, or 1Ah/00h (SPC-4, 6.11). Most have a descriptor."""
     yield from POWER_ON_REPORTED
-    whole = front + b"".join(mode_page(*page) for page in pages)
+    whole = front + b"".join(mode_page(*page, profile) for page in pages)
     for length in range(len(whole) + 1):
         yield select(whole[:length])
 

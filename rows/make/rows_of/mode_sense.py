@@ -25,6 +25,16 @@ ONE_SET = pages_with("80 21 00 00 00 00 43 00 00 00", 0x00, "00 00 08 00 00 00 0
 OTHER_SET = pages_with("40 65 00 00 00 00 87 00 00 00", 0x04, "04 00 00 00 00 00 00 00 00 00")
 
 
+def provisioning(situa, available, used):
+    """The page of logical block provisioning, with two threshold descriptors"""
+    return mode_page(*PROVISIONING)[:4] + bytes([situa]) + bytes(11) + bytes.fromhex(available + used)
+
+
+# LBPERE is 0 in these sets, and 1 by default.
+ONE_OF_EXTENDED = ONE_SET + provisioning(1, "80 01 00 00 01 23 45 67", "01 02 00 00 89 AB CD EF")
+OTHER_OF_EXTENDED = OTHER_SET + provisioning(0, "00 01 00 00 FF FE FD FC", "81 02 00 00 00 00 00 02")
+
+
 def lengths_of(page, header_and_descriptor):
     """Each allocation length up to one byte past the list."""
     sizes = {code: len(mode_page(code)) for code in MODE_PAGES}
@@ -168,11 +178,12 @@ def ten_cut_at_each_length():
 def six_with_subpage_cut():
     """Lists with page 1Ch/02h, cut at each allocation length, without and with DBD (SPC-4, 6.13).
 
-    PC takes turns. Its header has 4 bytes, and the page is the last one (SPC-4, 7.5).
+    PC takes turns. Its header has 4 bytes, and the page is the last one (SPC-4, 7.5). Saved, current, default
+    and changeable values all differ.
     """
     yield from POWER_ON_TAKEN
-    yield mode_select_6(bytes(4) + ONE_SET, sp=1)
-    yield mode_select_6(bytes(4) + OTHER_SET)
+    yield mode_select_6(bytes(4) + ONE_OF_EXTENDED, sp=1)
+    yield mode_select_6(bytes(4) + OTHER_OF_EXTENDED)
     for page, subpage, size in WITH_SUBPAGE:
         for dbd in (0, 1):
             for length in range((4 if dbd else 12) + size + 2):
@@ -186,8 +197,8 @@ def ten_with_subpage_cut():
     The longest list has 112 bytes: a header of 8, the long descriptor, and all pages.
     """
     yield from POWER_ON_TAKEN
-    yield mode_select_10(bytes(8) + OTHER_SET, sp=1)
-    yield mode_select_10(bytes(8) + ONE_SET)
+    yield mode_select_10(bytes(8) + OTHER_OF_EXTENDED, sp=1)
+    yield mode_select_10(bytes(8) + ONE_OF_EXTENDED)
     for page, subpage, size in WITH_SUBPAGE:
         for dbd, llbaa, front in ((1, 0, 8), (1, 1, 8), (0, 0, 16), (0, 1, 24)):
             for length in range(front + size + 2):

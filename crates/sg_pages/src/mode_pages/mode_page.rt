@@ -1,6 +1,7 @@
 // The mode pages of the disk, by their first bytes, and the bytes of each after its header.
 ghost use Rattle.std.specs.Prelude.{◌≡◌, ◌<◌, ◌≤◌, length};
-ghost use Rattle.sg_pages.specs.ModePage.{code_of, first_byte, has_page, page_header, page_length};
+ghost use Rattle.sg_pages.specs.ModePage.{changeable_bits, code_of, default_values, first_byte};
+ghost use Rattle.sg_pages.specs.ModePage.{has_page, page_header, page_length};
 ghost use Rattle.sg_pages.specs.ModePage.{page_with, row_of, subpage_of, values_of};
 ghost use Rattle.sg_pages.specs.ModeSelect.{ignored_page_header_bits};
 ghost use Rattle.sg_pages.specs.SentValues.{with_values};
@@ -174,8 +175,8 @@ static PROVISIONING_FIELDS: [MultiByteField; 3] = [
 /// The bytes of each mode page after its header.
 #[derive(Clone, Copy, PartialEq, Eq)]
 pub struct PageValues {
-    /// Page 01h. Byte 2: AWRE (bit 7) and ARRE (bit 6). Byte 3: READ RETRY COUNT. Byte 8: WRITE
-    /// RETRY COUNT.
+    /// Page 01h. Byte 2: AWRE (bit 7) and ARRE (bit 6). Byte 3: READ RETRY COUNT. Byte 7: LBPERE
+    /// (bit 7). Byte 8: WRITE RETRY COUNT.
     pub error_recovery: [u8; 10],
     /// Page 08h. Byte 2: WCE (bit 2).
     pub caching: [u8; 18],
@@ -188,16 +189,6 @@ pub struct PageValues {
     pub provisioning: [u8; 28],
 }
 
-pub(super) const DEFAULT: PageValues = PageValues {
-    error_recovery: [0xC0, 0x08, 0, 0, 0, 0, 0x08, 0, 0, 0],
-    caching: [0x04, 0, 0, 0, 0, 0, 0, 0, 0, 0, 0, 0, 0, 0, 0, 0, 0, 0],
-    control: [0; 10],
-    exceptions_control: [0x08, 0, 0, 0, 0, 0, 0, 0, 0, 0],
-    provisioning: [
-        0, 0, 0, 0, 0, 0, 0, 0, 0, 0, 0, 0, 0, 0x01, 0, 0, 0, 0, 0, 0, 0x01, 0x02, 0, 0, 0, 0, 0, 0,
-    ],
-};
-
 /// PS, a bit of a page's first byte: the page can be saved. MODE SELECT ignores it.
 pub(super) const PS: u8 = 0x80;
 
@@ -209,13 +200,64 @@ pub(super) const D_SENSE: u8 = 0x04;
 
 pub(super) const SWP: u8 = 0x08;
 
-/// The bits that MODE SELECT may change.
-pub(super) const CHANGEABLE: PageValues = PageValues {
+/// LBPERE, a bit of byte 7 of page 01h.
+pub(super) const LBPERE: u8 = 0x80;
+
+/// Bits of page 1Ch/02h: SITUA is in byte 4, and ENABLED in the first byte of a threshold descriptor.
+pub(super) const SITUA: u8 = 0x01;
+
+pub(super) const ENABLED: u8 = 0x80;
+
+/// The default values on a disk of a profile.
+#[tactic(auto, unfolding(crate::specs::ModePage::default_values))]
+pub(super) fn default_values(profile: Profile) -> &'static PageValues
+    ensures { result.now ≡ default_values profile }
+{
+    match profile {
+        Profile::Base => &BASE_DEFAULTS,
+        Profile::Extended => &EXTENDED_DEFAULTS,
+    }
+}
+
+static BASE_DEFAULTS: PageValues = PageValues {
+    error_recovery: [0xC0, 0x08, 0, 0, 0, 0, 0x08, 0, 0, 0],
+    caching: [WCE, 0, 0, 0, 0, 0, 0, 0, 0, 0, 0, 0, 0, 0, 0, 0, 0, 0],
+    control: [0; 10],
+    exceptions_control: [0x08, 0, 0, 0, 0, 0, 0, 0, 0, 0],
+    provisioning: [
+        0, 0, 0, 0, 0, 0, 0, 0, 0, 0, 0, 0, 0, 0x01, 0, 0, 0, 0, 0, 0, 0x01, 0x02, 0, 0, 0, 0, 0, 0,
+    ],
+};
+
+static EXTENDED_DEFAULTS: PageValues = PageValues {
+    error_recovery: [0xC0, 0x08, 0, 0, 0, LBPERE, 0x08, 0, 0, 0],
+    ..BASE_DEFAULTS
+};
+
+/// The bits that MODE SELECT may change on a disk of a profile.
+pub(super) fn changeable_bits(profile: Profile) -> &'static PageValues
+    ensures { result.now ≡ changeable_bits profile }
+{
+    match profile {
+        Profile::Base => &BASE_CHANGEABLE,
+        Profile::Extended => &EXTENDED_CHANGEABLE,
+    }
+}
+
+static BASE_CHANGEABLE: PageValues = PageValues {
     error_recovery: [0xC0, 0xFF, 0, 0, 0, 0, 0xFF, 0, 0, 0],
     caching: [WCE, 0, 0, 0, 0, 0, 0, 0, 0, 0, 0, 0, 0, 0, 0, 0, 0, 0],
     control: [D_SENSE, 0, SWP, 0, 0, 0, 0, 0, 0, 0],
     exceptions_control: [0; 10],
-    provisioning: [0; 28],
+    provisioning: [
+        SITUA, 0, 0, 0, 0, 0, 0, 0, 0, 0, 0, 0, ENABLED, 0, 0, 0, 0xFF, 0xFF, 0xFF, 0xFF, ENABLED,
+        0, 0, 0, 0xFF, 0xFF, 0xFF, 0xFF,
+    ],
+};
+
+static EXTENDED_CHANGEABLE: PageValues = PageValues {
+    error_recovery: [0xC0, 0xFF, 0, 0, 0, LBPERE, 0xFF, 0, 0, 0],
+    ..BASE_CHANGEABLE
 };
 
 impl PageValues {

@@ -15,7 +15,7 @@ ghost use Rattle.sg_pages.specs.SentValues.{with_sent};
 use super::list_check::{
     check, check_descriptor, check_header, header_length, point_to_field, pointed_fields,
 };
-use super::mode_page::{CHANGEABLE, SPF_AND_PAGE_CODE};
+use super::mode_page::{SPF_AND_PAGE_CODE, changeable_bits};
 use super::multi_byte_field::MultiByteField;
 use super::{ModePage, ModePages, PageValues};
 use sg_wire::{CdbWidth, Profile};
@@ -137,7 +137,7 @@ fn take_page(
     match ModePage::with_first_byte(profile, list[offset] & SPF_AND_PAGE_CODE) {
         Some(page) => {
             let fields = pointed_fields(profile, page.multi_byte_fields());
-            let end = check_page(list, offset, page, current.of(page), fields)?;
+            let end = check_page(list, offset, page, current.of(page), profile, fields)?;
             values.set(page, &list[offset + page.header().len()..end]);
             Ok(end)
         }
@@ -152,6 +152,7 @@ fn check_page(
     offset: usize,
     page: ModePage,
     expected: &[u8],
+    profile: Profile,
     fields: &[MultiByteField],
 ) -> Result<usize, ModeSelectFault>
     requires offset { offset < length list.now }
@@ -159,7 +160,7 @@ fn check_page(
     requires expected { length expected.now ≡ page_length page }
     ensures result { let sent = page_at offset list.now in
         let faults = field_faults fields.now (page_bytes page expected.now)
-        (ignored_page_header_bits page ++ (row_of page).changeable) sent in
+        (ignored_page_header_bits page ++ (row_of page).changeable profile) sent in
         result ≡ unless_fault (first_fault (length list.now) faults) (offset + sent.size) }
     ensures size { OnOk result ((page_at offset list.now).size
         ≡ page_header_length page + page_length page) }
@@ -167,7 +168,7 @@ fn check_page(
     ensures whole { OnOk result (offset + page_header_length page + page_length page
         ≤ length list.now) }
 {
-    match check_bytes(list, offset, page, expected) {
+    match check_bytes(list, offset, page, expected, profile) {
         Ok(end) => Ok(end),
         Err(fault) => Err(point_to_field(fault, offset, fields)),
     }
@@ -180,13 +181,14 @@ fn check_bytes(
     offset: usize,
     page: ModePage,
     expected: &[u8],
+    profile: Profile,
 ) -> Result<usize, ModeSelectFault>
     requires offset { offset < length list.now }
     requires first { sent_first (page_at offset list.now) ≡ first_byte page }
     requires expected { length expected.now ≡ page_length page }
     ensures result { let sent = page_at offset list.now in
         let faults = part_faults (page_bytes page expected.now)
-        (ignored_page_header_bits page ++ (row_of page).changeable) sent in
+        (ignored_page_header_bits page ++ (row_of page).changeable profile) sent in
         result ≡ unless_fault (first_fault (length list.now) faults) (offset + sent.size) }
     ensures size { OnOk result ((page_at offset list.now).size
         ≡ page_header_length page + page_length page) }
@@ -195,8 +197,8 @@ fn check_bytes(
         ≤ length list.now) }
 {
     let header = page.header();
-    let changeable = CHANGEABLE.of(page);
     let values = offset + header.len();
+    let changeable = changeable_bits(profile).of(page);
     check(list, offset, header.len(), header, page.ignored_in_header())?;
     check(list, values, expected.len(), expected, changeable)?;
     Ok(values + expected.len())

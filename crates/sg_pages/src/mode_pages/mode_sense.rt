@@ -13,7 +13,7 @@ ghost use Rattle.sg_pages.specs.ModeSense.{requested_pages, selected_by};
 use super::block_descriptor::{
     LONG_DESCRIPTOR_LENGTH, SHORT_DESCRIPTOR_LENGTH, long_descriptor, short_descriptor,
 };
-use super::mode_page::{CHANGEABLE, DEFAULT};
+use super::mode_page::{changeable_bits, default_values};
 use super::{ModePage, ModePages, ModeSenseFault, ModeSenseRequest, PageValues};
 use byteorder::{BigEndian, ByteOrder};
 use sg_wire::laws::parts_are_put_in_turn;
@@ -66,7 +66,7 @@ impl ModePages {
             ≤ longest_list }
     {
         parts_are_put_in_turn();
-        let values = self.selected_by(request.page.page_control);
+        let values = self.selected_by(request.profile, request.page.page_control);
         let descriptor = descriptor_length(request);
         let following = descriptor + requested_length(values, request.profile, &request.page);
         self.write_header(request, descriptor, following, cut);
@@ -114,13 +114,13 @@ impl ModePages {
     }
 
     /// The values that PC selects.
-    fn selected_by(&self, page_control: PageControl) -> &PageValues
-        ensures { result.now ≡ selected_by self.now page_control }
+    fn selected_by(&self, profile: Profile, page_control: PageControl) -> &PageValues
+        ensures { result.now ≡ selected_by self.now profile page_control }
     {
         match page_control {
             PageControl::Current => &self.current,
-            PageControl::Changeable => &CHANGEABLE,
-            PageControl::Default => &DEFAULT,
+            PageControl::Changeable => changeable_bits(profile),
+            PageControl::Default => default_values(profile),
             PageControl::Saved => &self.saved,
         }
     }

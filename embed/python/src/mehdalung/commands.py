@@ -132,11 +132,10 @@ def compare_and_write(lba: int = 0, blocks: int = 1, *, dpo: bool = False, fua: 
                ("group_number", group_number, 14, 0, 5))
 
 
-def format_unit(*, longlist: bool = False, fmtdata: bool = False, cmplst: bool = False,
-                defect_list_format: int = 0) -> bytes:
+def format_unit(*, longlist: bool = False, fmtdata: bool = False, cmplst: bool = False) -> bytes:
     """FORMAT UNIT, operation code 04h (SBC-3, 5.3). Only an extended disk has it."""
     return cdb(6, 0x04, ("longlist", longlist, 1, 5, 1), ("fmtdata", fmtdata, 1, 4, 1),
-               ("cmplst", cmplst, 1, 3, 1), ("defect_list_format", defect_list_format, 1, 0, 3))
+               ("cmplst", cmplst, 1, 3, 1))
 
 
 def orwrite16(lba: int = 0, blocks: int = 1, *, dpo: bool = False, fua: bool = False,

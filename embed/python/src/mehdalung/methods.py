@@ -126,13 +126,11 @@ class Commands:
         return self.send(cdb, data_out)
 
     def format_unit(self, data_out: bytes = b"", *, longlist: bool = False,
-                    fmtdata: Optional[bool] = None, cmplst: bool = False,
-                    defect_list_format: int = 0) -> "Reply":
+                    fmtdata: Optional[bool] = None, cmplst: bool = False) -> "Reply":
         """FORMAT UNIT, operation code 04h (SBC-3, 5.3). Only an extended disk has it."""
         if fmtdata is None:
             fmtdata = bool(data_out)
-        cdb = commands.format_unit(longlist=longlist, fmtdata=fmtdata, cmplst=cmplst,
-                                   defect_list_format=defect_list_format)
+        cdb = commands.format_unit(longlist=longlist, fmtdata=fmtdata, cmplst=cmplst)
         return self.send(cdb, data_out)
 
     def orwrite16(self, lba: int, data_out: bytes, *, blocks: Optional[int] = None,

@@ -10,6 +10,7 @@ use Rattle.sg_target.specs.declared.reply.Status.TheVariants.{Good}
 use Rattle.sg_target.proofs.LiftLemmas.{lifted, outcome-by}
 use Rattle.sg_fencing.specs.Laws.{IsKept}
 use Rattle.sg_fencing.proofs.laws.refused_changes_nothing.Goals as goal
+use Rattle.sg_target.proofs.AlertLemmas.{by-no-alert}
 
 refused-keeps : (state : State) (i : ℕ) (refusal : Refusal)
     → IsKept state (refused state i refusal).state i
@@ -45,4 +46,6 @@ by-effect state i (Err refusal) h = refused-keeps state i refusal
 pub returns : goal.returns
 returns c state i cdb data_out =
     lifted state i cdb data_out (KeptUnlessGood state i) (λ refusal h. refused-keeps state i refusal)
-    (λ operation k. by-effect state i (effect_of state i operation))
+    (λ operation k h.
+    let kept = by-effect state i (effect_of state i operation) h in
+    by-no-alert (λ (after : State). IsKept state after i) state i _ kept.disk kept)

@@ -1,6 +1,5 @@
-use Rattle.std.proofs.Common.{◌≡◌, ◌∙◌, false, List, ap, ap₂, arith, sym}
+use Rattle.std.proofs.Common.{◌∙◌, List, ap, ap₂, arith, sym}
 use Rattle.std.specs.FinMap.{len}
-use Rattle.std.specs.Result.{is_ok}
 use Rattle.sg_store.specs.Disk.{Disk, need}
 use Rattle.sg_store.specs.Disk.Mapping.{Data}
 use Rattle.sg_target.specs.BlockCommands.{or_bytes}

@@ -1,5 +1,4 @@
 use Rattle.std.proofs.Common.{◌≡◌, ap, arith}
-use Rattle.sg_store.specs.Disk.{Disk}
 use Rattle.sg_store.specs.Disk.Mapping.{Data}
 use Rattle.sg_target.specs.BlockCommands.{BlocksOutFields, ored_block}
 use Rattle.sg_target.specs.Charge.{cost_bounds}

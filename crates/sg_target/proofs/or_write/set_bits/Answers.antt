@@ -1,4 +1,4 @@
-use Rattle.std.proofs.Common.{◌<◌, arith, rules}
+use Rattle.std.proofs.Common.{arith, rules}
 use Rattle.sg_target.proofs.OrWriteLemmas.{bits-set}
 use Rattle.sg_target.proofs.or_write.set_bits.Goals as goal
 

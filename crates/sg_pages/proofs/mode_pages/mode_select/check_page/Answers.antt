@@ -13,7 +13,7 @@ returns-in-Err-clause-result c =
     ap Err c.point_to_field.ensures
     ∙ pointed-err _ _ (pointed_fault a.fields.now a.offset) c.in-Err.fault (a.offset + sent.size)
     (pointed a.fields.now (page_bytes a.page a.expected.now)
-    (ignored_page_header_bits a.page ++ (row_of a.page).changeable)
+    (ignored_page_header_bits a.page ++ (row_of a.page).changeable a.profile)
     a.offset sent.size list (omega (arith, c.requires.offset)))
     c.in-Err.ensures.result
 
@@ -24,6 +24,6 @@ returns-in-Ok-clause-result c =
     let sent = page_at a.offset list in
     pointed-ok _ _ (pointed_fault a.fields.now a.offset) c.in-Ok.end (a.offset + sent.size)
     (pointed a.fields.now (page_bytes a.page a.expected.now)
-    (ignored_page_header_bits a.page ++ (row_of a.page).changeable)
+    (ignored_page_header_bits a.page ++ (row_of a.page).changeable a.profile)
     a.offset sent.size list (omega (arith, c.requires.offset)))
     c.in-Ok.ensures.result

@@ -12,7 +12,7 @@ use Rattle.sg_target.specs.Target.{TargetFields, disk_of}
 use Rattle.sg_target.specs.declared.operation.Operation.{Operation}
 use Rattle.sg_target.specs.declared.refusal.Refusal.{Refusal}
 use Rattle.sg_target.specs.declared.reply.Reply.{Reply}
-use Rattle.sg_target.proofs.ConcludingLemmas.{charged, executed, takes-unarmed}
+use Rattle.sg_target.proofs.ConcludingLemmas.{charged, executed, refused-taken, takes-unarmed}
 use Rattle.sg_target.proofs.RangeLemmas.{price-within}
 use Rattle.sg_target.proofs.target.Target.conclude.Goals as goal
 
@@ -60,3 +60,18 @@ returns-in-Ok-clause-charged g c =
     omega (arith, within, step.charge.visits) in
     charged c.limits_are_kept.ensures bounds i cdb _ c.args.asked c.args.checked.now c.args.self.now _ _
     c.args.buf.now c.execute_checked-reply.new.buf c.requires.checked step.charge few
+
+pub returns-in-Err-clause-executed : goal.returns-in-Err-clause-executed
+returns-in-Err-clause-executed g c =
+    let bounds = cost_bounds g.S.Store.price g.S.Store.least in
+    let i = c.args.call.initiator in
+    let done = c.refuse-reply.ensures in
+    let checked = c.args.checked.now in
+    executed c.limits_are_kept.ensures bounds _ _ _ c.args.asked checked c.args.self.now _ _ _ _
+    c.requires.checked _ c.requires.asked c.requires.limits
+    (takes-unarmed c.unarmed_faults_do_nothing.ensures bounds i c.args.call.cdb.now checked
+    c.args.self.now _ _ _ _ c.requires.unarmed
+    (none-by _ (sym c.if-arms_fault.false ∙ c.arms_fault.ensures))
+    (refused-taken bounds i c.in-Err.refusal _ c.args.self.now c.refuse-reply.new.self
+    c.refuse-reply.result c.args.buf.now done.reply c.default.ensures done.meter checked c.in-Err.is
+    done.state done.faults))
