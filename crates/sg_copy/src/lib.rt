@@ -4,10 +4,12 @@
 
 mod copy_list;
 mod fault;
+mod held;
 mod reports;
 
 pub use copy_list::{CopyList, DESIGNATION_LENGTH, Segment};
 pub use fault::{CopyFault, Invalid};
+pub use held::{EndedCopy, HeldCopies};
 pub use reports::{write_copy_status, write_operating_parameters};
 
 #[cfg(test)]
