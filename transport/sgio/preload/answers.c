@@ -4,6 +4,7 @@
 #include "node.h"
 
 #include <errno.h>
+#include <linux/fs.h>
 #include <scsi/scsi.h>
 #include <string.h>
 
@@ -46,6 +47,7 @@ int answer_ioctl(unsigned long request, void *argument)
     switch (request) {
     case SG_GET_VERSION_NUM: return put_number(argument, SG_VERSION);
     case SG_GET_RESERVED_SIZE: return put_number(argument, MOST_DATA_OUT);
+    case BLKSECTGET: return put_number(argument, MOST_DATA_OUT); /* bytes, as with Linux's sg */
     case SG_GET_SG_TABLESIZE: return put_number(argument, MOST_DATA_OUT / 4096);
     case SG_GET_COMMAND_Q: return put_number(argument, 0);
     case SG_EMULATED_HOST: return put_number(argument, 1);

@@ -193,7 +193,8 @@ static void expect_timed_out(const sg_io_hdr_t *header)
 {
     WANT(header->host_status == 3 && header->status == 0 && header->masked_status == 0);
     WANT(header->driver_status == 0 && header->sb_len_wr == 0 && header->info == SG_INFO_CHECK);
-    WANT(header->duration >= SHORT_TIMEOUT && header->duration < 20 * SHORT_TIMEOUT);
+    /* of this header, and not the other timeout here: a busy machine may wake a process seconds late */
+    WANT(header->duration >= SHORT_TIMEOUT && header->duration < TIMEOUT);
     WANT(header->resid == (int)header->dxfer_len && sense[0] == GUARD);
 }
 
