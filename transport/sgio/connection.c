@@ -53,24 +53,31 @@ int is_connected_to(int descriptor, const char *path)
     return result;
 }
 
-static int64_t milliseconds_now(void)
+static int64_t nanoseconds_now(void)
 {
     struct timespec now;
 
     clock_gettime(CLOCK_MONOTONIC, &now);
-    return (int64_t)now.tv_sec * 1000 + now.tv_nsec / 1000000;
+    return (int64_t)now.tv_sec * 1000000000 + now.tv_nsec;
 }
 
-/* Waits until a connection is ready, or the time `end` (-1: none) has come. Returns 0 or an errno. */
+/* The milliseconds until a time in nanoseconds, rounded up, so that no wait ends early. */
+static int milliseconds_until(int64_t end)
+{
+    const int64_t rest = end - nanoseconds_now();
+
+    return rest < 0 ? 0 : (int)((rest + 999999) / 1000000);
+}
+
+/* Waits until a connection is ready, or the time `end` in nanoseconds (-1: none) has come. Returns 0 or an
+ * errno. */
 static int wait_for(int connection, short events, int64_t end)
 {
     struct pollfd ready = { connection, events, 0 };
-    int64_t rest;
     int count;
 
     do {
-        rest = end < 0 ? -1 : end - milliseconds_now();
-        count = poll(&ready, 1, end < 0 ? -1 : rest < 0 ? 0 : (int)rest);
+        count = poll(&ready, 1, end < 0 ? -1 : milliseconds_until(end));
     } while (count < 0 && errno == EINTR);
     return count > 0 ? 0 : count == 0 ? ETIMEDOUT : ENODEV;
 }
@@ -150,7 +157,7 @@ static int exchange_bytes(int connection, uint8_t *request, size_t length, int t
                           struct reply_header *reply, uint8_t *data_in)
 {
     static uint8_t unwanted[MDL_BUFFER_LENGTH];
-    const int64_t end = timeout < 0 ? -1 : milliseconds_now() + timeout;
+    const int64_t end = timeout < 0 ? -1 : nanoseconds_now() + (int64_t)timeout * 1000000;
     const uint8_t tag = next_tag();
     int error;
 

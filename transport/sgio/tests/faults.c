@@ -193,8 +193,7 @@ static void expect_timed_out(const sg_io_hdr_t *header)
 {
     WANT(header->host_status == 3 && header->status == 0 && header->masked_status == 0);
     WANT(header->driver_status == 0 && header->sb_len_wr == 0 && header->info == SG_INFO_CHECK);
-    /* of this header, and not the other timeout here: a busy machine may wake a process seconds late */
-    WANT(header->duration >= SHORT_TIMEOUT && header->duration < TIMEOUT);
+    WANT(header->duration >= SHORT_TIMEOUT && header->duration < 20 * SHORT_TIMEOUT);
     WANT(header->resid == (int)header->dxfer_len && sense[0] == GUARD);
 }
 
@@ -219,6 +218,21 @@ static void times_out(void)
     expect_timed_out(&header);
     WANT(buffer[0] == GUARD);
     expect_block(0x88);
+}
+
+/* No command ends before its timeout, wherever in a millisecond it begins. */
+static void times_out_never_early(void)
+{
+    const mdl_happening heal = { .kind = MDL_DISARM_ALL };
+    sg_io_hdr_t header;
+
+    arm((mdl_fault){ .initiators = 1, .outcome = MDL_ARRIVAL_NO_REPLY });
+    for (unsigned round = 0; round < 500; round++) {
+        header = write_block(0x77, 2);
+        WANT(header.host_status == 3 && header.duration >= 2);
+    }
+    WANT(happen(&heal) == MDL_OK);
+    expect_ready();
 }
 
 /* At the socket nothing comes for a silent command. The next reply has the tag of its request. */
@@ -252,6 +266,7 @@ int main(void)
     passes_sense_and_data();
     tells_the_residual();
     times_out();
+    times_out_never_early();
     sends_nothing();
     expect_ready();
     return 0;
