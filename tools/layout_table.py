@@ -48,7 +48,8 @@ FIRST = ("service_action", "lba", "blocks")
 
 def name_of(label: str) -> str:
     """A label or a title of a standard as a name: `READ(10)` as `read10`."""
-    return SHORT_NAMES.get(label) or re.sub(r"\W+", "_", re.sub(r"\((\d+)\)", r"\1", label.lower()))
+    name = re.sub(r"\W+", "_", re.sub(r"\((\d+)\)", r"\1", label.lower()))
+    return SHORT_NAMES.get(label) or name.strip("_")
 
 
 def family_of(title: str) -> str:

@@ -1,13 +1,14 @@
 """The device server: the order of checks, happenings, and the way to each command.
 
 docs/PROFILE.md, "The order of checks", numbers the checks; the numbers below are the same. Checks 1
-to 6 are here and in `layouts.Command`. Checks 7 to 15 are in `blocks`, `pages`, `modes`, `reports`
-and `reservations`, in each command in the order of its lines.
+to 6 are here and in `layouts.Command`. Checks 7 to 15 are in `blocks`, `copying`, `pages`, `modes`,
+`reports` and `reservations`, in each command in the order of its lines.
 """
 
 from dataclasses import dataclass
 
 import blocks
+import copying
 import faults
 import modes
 import pages
@@ -200,6 +201,8 @@ OPERATIONS = {
     "REPORT CAPABILITIES": reservations.report_capabilities,
     "READ FULL STATUS": reservations.read_full_status,
     **dict.fromkeys(reservations.ACTIONS, reservations.persistent_reserve_out),
+    "EXTENDED COPY(LID1)": copying.extended_copy,
+    "RECEIVE COPY OPERATING PARAMETERS": copying.operating_parameters,
     "READ(16)": blocks.read,
     "COMPARE AND WRITE": blocks.compare_and_write,
     "WRITE(16)": blocks.write,

@@ -111,6 +111,9 @@ class Probe:
     def orwrite(self, address, count, _data):
         raise Reached([(address, count)], False)  # it needs the bits that a bad block has
 
+    def copy(self, source, destination, count):
+        raise Reached([(source, count), (destination, count)], False)  # it needs what the source has
+
     def write(self, address, count, _block):
         raise Reached([(address, count)], True, True)
 

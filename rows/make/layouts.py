@@ -56,6 +56,9 @@ TABLE = """
                                            allocation_length 7-8                       |
 5E    | PERSISTENT RESERVE IN  | allowed | allocation_length 7-8                       |
 5F    | PERSISTENT RESERVE OUT | allowed | scope 2:F0, type 2:0F, list_length 5-8      |
+83.00 | EXTENDED COPY(LID1)    | writes  | list_length 10-13                           |
+84.03 | RECEIVE COPY OPERATING PARAMETERS \
+                               | writes  | allocation_length 10-13                     |
 88    | READ(16)               | reads   | address 2-9, count 10-13                    | 1:1A, 14:1F
 89    | COMPARE AND WRITE      | writes  | address 2-9, count 13                       | 1:1A, 14:1F
 8A    | WRITE(16)              | writes  | address 2-9, count 10-13                    | 1:1A, 14:1F
@@ -108,8 +111,8 @@ NOT_SHOWN = {"group_number", "transfer_length", "index"}
 WITHOUT_TYPE = {"REGISTER", "CLEAR", "REGISTER AND IGNORE EXISTING KEY", "REGISTER AND MOVE"}
 
 # Operation codes that only a disk of the extended profile knows.
-OF_EXTENDED = {0x04, 0x1B, 0x1D, 0x2E, 0x2F, 0x34, 0x37, 0x3F, 0x48, 0x4D, 0x89, 0x8B, 0x8E, 0x8F, 0x90,
-               0x91, 0x9C, 0xA0, 0xA3, 0xA8, 0xAA, 0xAE, 0xAF, 0xB7}
+OF_EXTENDED = {0x04, 0x1B, 0x1D, 0x2E, 0x2F, 0x34, 0x37, 0x3F, 0x48, 0x4D, 0x83, 0x84, 0x89, 0x8B, 0x8E,
+               0x8F, 0x90, 0x91, 0x9C, 0xA0, 0xA3, 0xA8, 0xAA, 0xAE, 0xAF, 0xB7}
 
 # Fields that only a disk of the extended profile knows. A base disk refuses their bits.
 FIELDS_OF_EXTENDED = {("WRITE SAME(16)", "ndob")}

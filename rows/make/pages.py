@@ -33,17 +33,17 @@ def page(code, parameters):
     return bytes([0x00, code]) + len(parameters).to_bytes(2, "big") + parameters
 
 
-def standard_inquiry_data(tpgs=0x00, cmdque=0x00, after_revision=b""):
+def standard_inquiry_data(byte_5=0x00, cmdque=0x00, after_revision=b""):
     """SPC-4, 6.6.2: VERSION 06h is SPC-4, RESPONSE DATA FORMAT 2"""
-    after_length = bytes([tpgs, 0, cmdque]) + VENDOR + PRODUCT + REVISION + after_revision
+    after_length = bytes([byte_5, 0, cmdque]) + VENDOR + PRODUCT + REVISION + after_revision
     return bytes([0x00, 0x00, 0x06, 0x02, len(after_length)]) + after_length
 
 
 def extended_standard_inquiry_data():
-    """SPC-4, 6.6.2: TPGS is 01b in byte 5, CMDQUE 1 in byte 7, and VERSION DESCRIPTOR 1 begins at
-    byte 58"""
+    """SPC-4, 6.6.2: TPGS is 01b and 3PC 1 in byte 5, CMDQUE 1 in byte 7, and VERSION DESCRIPTOR 1 begins
+    at byte 58"""
     descriptors = b"".join(it.to_bytes(2, "big") for it in (SAM_5, SPC_4, SBC_3))
-    return standard_inquiry_data(0x10, 0x02, bytes(58 - 36) + descriptors.ljust(16, bytes(1)))
+    return standard_inquiry_data(0x10 | 0x08, 0x02, bytes(58 - 36) + descriptors.ljust(16, bytes(1)))
 
 
 def unit_serial_number(device):
@@ -74,14 +74,19 @@ def device_identification(device):
 
 
 def extended_device_identification(device):
-    """SPC-4, 7.8.6: a designator by the vendor; an IEEE Registered Extended NAA, 6h (7.8.6.6): 24 bits
-    of COMPANY_ID, 36 bits of 0 and 64 bits of the seed; the target port (7.8.6.7); its group (7.8.6.8)
+    """SPC-4, 7.8.6: a designator by the vendor; the NAA one; the target port (7.8.6.7); its group (7.8.6.8)
     """
-    naa = (0x6 << 124 | COMPANY_ID << 100 | device.seed).to_bytes(16, "big")
     port, group = (bytes(2) + it.to_bytes(2, "big") for it in (RELATIVE_TARGET_PORT, TARGET_PORT_GROUP))
-    return (name_by_vendor(device) + designator(BINARY, LOGICAL_UNIT, NAA, naa)
+    return (name_by_vendor(device) + extended_name(device)
             + designator(BINARY, TARGET_PORT, RELATIVE_PORT, port)
             + designator(BINARY, TARGET_PORT, PORT_GROUP, group))
+
+
+def extended_name(device):
+    """An IEEE Registered Extended NAA, 6h (SPC-4, 7.8.6.6): 24 bits of COMPANY_ID, 36 bits of 0 and 64 bits
+    of the seed. A CSCD descriptor names the unit by it, too."""
+    naa = (0x6 << 124 | COMPANY_ID << 100 | device.seed).to_bytes(16, "big")
+    return designator(BINARY, LOGICAL_UNIT, NAA, naa)
 
 
 def block_limits(device):

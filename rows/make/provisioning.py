@@ -72,6 +72,13 @@ class Provisioning:
             sent = data[place:place + BLOCK_LENGTH]
             self.contents[address + offset] = bytes(old | new for old, new in zip(kept, sent))
 
+    def copy(self, source, destination, count):
+        """Maps each address of the destination to what an address of the source had before (SPC-4, 6.5)."""
+        self._need_room([(destination, count)])
+        copied = [self.contents.get(source + offset) or ZEROS for offset in range(count)]
+        for offset, block in enumerate(copied):
+            self.contents[destination + offset] = block
+
     def write(self, address, count, block):
         """Maps each address to `block(offset)`, or none if the pool lacks room (SBC-3, 4.7)."""
         count = min(count, self.most_moved)

@@ -6,9 +6,11 @@ and then a bit is turned. So most states of a small disk come up within some hun
 
 import random
 
+from copying import CSCD_LENGTH, copy_list, cscd_descriptor, segment_descriptor
 from device import PROFILES, Device
 from layouts import LAYOUTS_OF
 from modes import CHANGEABLE, DEFAULT, ERROR_RECOVERY, PAGES_OF, PROVISIONING, page_header
+from pages import extended_name
 from random_words import attention_words, fault_words, in_any_form, show_line, tool_line
 from reservations import ALL_TG_PT, INITIATORS, SPEC_I_PT, TYPES, UNREG, transport_id
 from script import Run
@@ -36,10 +38,12 @@ THEMES = (
      "REPORT TARGET PORT GROUPS"),
     (),
 )
-# Of an extended disk, too: moves of a reservation, with few lines that end it, and thresholds.
+# Of an extended disk, too: moves of a reservation, with few lines that end it, thresholds, and copies.
 THEMES_OF_EXTENDED = (
     (*4 * ("REGISTER AND MOVE", "REGISTER"), *2 * ("RESERVE", "READ FULL STATUS")),
     ("MODE SELECT(6)", "MODE SELECT(10)", *2 * ("WRITE(10)", "WRITE SAME(16)", "UNMAP"), "FORMAT UNIT"),
+    (*6 * ("EXTENDED COPY(LID1)",), "RECEIVE COPY OPERATING PARAMETERS", "WRITE(10)", "READ(10)", "UNMAP",
+     "WRITE LONG(10)"),
 )
 OFTEN = 6
 TOOL_LINES = ("sg_inq", "sg_inq -l 5", "sg_vpd -p di", "sg_vpd -p bl", "sg_modes", "sg_modes -c 3",
@@ -126,12 +130,14 @@ class Script:
 
     def sender(self, initiator, command):
         """Who sends a command. A registrant mostly reserves an extended disk, and the holder moves the
-        reservation, each with its own key."""
+        reservation, each with its own key. Mostly no unit attention is in the way of a copy."""
         state, self.key = self.run.device.reservations, None
         fitting = {
             "REGISTER": [initiator],
             "RESERVE": [*state.keys],
             "REGISTER AND MOVE": [it for it in state.keys if it == state.taker],
+            "EXTENDED COPY(LID1)": [
+                it for it in SENDERS[self.profile] if not self.run.device.attentions[it]],
         }.get(command)
         if self.profile == "extended" and fitting and not self.is_rare(0.15):
             initiator = self.random.choice(fitting)
@@ -188,7 +194,14 @@ class Script:
             f"{initiator} sg_unmap -l {address} -n 6",
             f"{initiator} sg_unmap -l {address + 1},{address} -n 6,6",
             f"{initiator} sg_get_lba_status -b -l {address}",
+            f"raw {initiator} {self.copy_line(address, self.small(), count)}",
+            f"raw {initiator} {self.copy_line(self.small(), address, count)}",
         ))
+
+    def copy_line(self, source, destination, count):
+        """A CDB of EXTENDED COPY with the list of one segment, both without a fault."""
+        data = copy_list([self.cscd()], [segment_descriptor(source, destination, count)])
+        return f"8300{'00' * 8}{len(data):08x}0000 {data.hex()}"
 
     def near_thresholds(self):
         """A command that sets thresholds, or one that takes blocks of the pool or gives some back. Mostly no
@@ -201,6 +214,7 @@ class Script:
         return self.random.choice((
             *3 * (f"raw {initiator} 15{self.random.choice((0x10, 0x11)):02x}00002400 00000000{page.hex()}",),
             *3 * (f"fill {initiator} {address} {count} 9",),
+            f"raw {initiator} {self.copy_line(0, address, count)}",
             f"{initiator} sg_unmap -l {address} -n {count}",
             f"{initiator} sg_unmap -a -l {address} -n {count}",
             f"{initiator} sg_write_same -S -l {address} -n {count} -U",
@@ -320,7 +334,57 @@ class Script:
             return self.format_header(8 if values["longlist"] else 4) if values["fmtdata"] else b""
         if command.startswith("MODE SELECT"):
             return self.mode_list(4 if command.endswith("(6)") else 8)
+        if command == "EXTENDED COPY(LID1)":
+            return self.list_of_copy()
         return self.reserve_list(command) if "list_length" in values else b""
+
+    def cscd(self):
+        return cscd_descriptor(extended_name(self.run.device))
+
+    def list_of_copy(self):
+        """A list of EXTENDED COPY. Most lists have no fault, and the others one or two."""
+        chance, rare = self.random, self.is_rare
+        cscds = [bytearray(self.cscd()) for _ in range(chance.choice((1, 1, 1, 2, 2)))]
+        segments, inline = [bytearray(self.segment(len(cscds)))], b""
+        usage, identifier = chance.choice(((0, 0), (0, 7), (2, 7), (3, 0), (3, 0)))
+        if rare(0.06):
+            usage, identifier = chance.randrange(4), chance.choice((0, 1, 255))
+        if rare(0.06):
+            cscds[0][1] ^= chance.choice((0x01, 0x1F, 0x20, 0x40, 0x80))
+        if rare(0.08):
+            self.turn_a_bit_of(chance.choice((*cscds, *segments)))
+        if rare(0.06):
+            cut = cscds[0][:chance.randrange(CSCD_LENGTH)]
+            cscds = chance.choice(([], 3 * cscds, [*cscds, cut], [cut]))
+        if rare(0.06):
+            whole = segments[0]
+            segments = chance.choice(([], 2 * segments, 40 * segments, [whole, b"\0"], [whole[:-1]]))
+        if rare(0.03):
+            inline = bytes(self.small())
+        data = bytearray(copy_list(cscds, segments, usage, identifier, inline))
+        if rare(0.06):
+            self.turn_a_bit_of(data)
+        return b"" if rare(0.03) else bytes(data)
+
+    def segment(self, cscds):
+        """A segment descriptor for a list of some CSCD descriptors. Most copy blocks of the disk."""
+        chance, (address, count) = self.random, self.extent()
+        if self.is_rare(0.03):
+            count = chance.choice((2047, 2048, 2049, 65535))
+        last = max(0, self.capacity - count)
+        near = (address, self.bad, 0, 1, 2, 3, last)
+        source, destination = chance.choices(near, k=2)
+        if not self.is_rare(0.1):
+            source, destination = min(source, last), min(destination, last)
+        ids = [chance.choice((1, 2, 256, 65535)) if self.is_rare(0.04) else chance.randrange(cscds)
+               for _ in range(2)]
+        return segment_descriptor(source, destination, count, *ids)
+
+    def turn_a_bit_of(self, data):
+        """Turns a bit, mostly one of the first bytes, as bytes of addresses differ anyway."""
+        if data:
+            place = self.random.randrange(len(data) if self.is_rare(0.4) else min(len(data), 24))
+            data[place] ^= 1 << self.random.randrange(8)
 
     def nearly_equal(self, data):
         """Bytes to compare with blocks, which WRITE and `fill` fill with one byte each."""

@@ -73,7 +73,7 @@ SENSE_CODES = ("3/11/00", "3/0C/00", "4/44/00", "1/17/01", "2/04/01", "b/08/01",
 OPERATION_CODES = ("00h", "28h", "28h", "2Ah", "8ah", "8Ah", "88h", "41h", "93h", "42h", "9Eh",
                    "5eh", "5Fh", "12h", "03h", "1ah", "15h", "C1h", "3fh", "3Fh", "A8h", "aah",
                    "2Eh", "8eh", "34h", "91h", "A0h", "a3h", "4dh", "B7h", "1Dh", "2fh", "AFh",
-                   "8Fh", "89h", "89h")
+                   "8Fh", "89h", "89h", "83h", "83h", "84h")
 WRONG_WORDS = ("busy", "once", "to", "64", "code", "28", "blocks", "0", "healed", "times", "65536",
                "-1", "first", "deferred", "3/11", "medium", "BUSY", "0x")
 

@@ -1,18 +1,24 @@
 // Commands of the extended profile from a fixed seed.
 use crate::LONGEST_LIST;
 use crate::random::Random;
+use sg_pages::{Identity, unit_designation};
 use sg_store::BLOCK_LENGTH;
 use sg_wire::{
-    ByteCheck, Command, CompareAndWrite, Extent12, Extent16, FormatUnit, FourBits, LogSense,
-    PageCode, ReadDefectData12, ReportLuns, ReportSupportedTaskManagementFunctions,
-    ReportTargetPortGroups, SendDiagnostic, StartStopUnit, ThreeBits, Verify12, Verify16,
+    ByteCheck, Command, CompareAndWrite, ExtendedCopy, Extent12, Extent16, FormatUnit, FourBits,
+    LogSense, PageCode, ReadDefectData12, ReceiveCopyOperatingParameters, ReportLuns,
+    ReportSupportedTaskManagementFunctions, ReportTargetPortGroups, SendDiagnostic, StartStopUnit,
+    ThreeBits, Verify12, Verify16,
 };
 
 /// The bytes of the parameter list of FORMAT UNIT without LONGLIST (SBC-3, 5.3.2).
 const FORMAT_LIST: usize = 4;
 
+/// The bytes of the parameter list of EXTENDED COPY with two CSCD descriptors and a segment
+/// descriptor (SPC-4, 6.5).
+const COPY_LIST: usize = 108;
+
 /// Makes a command of the next kind, and returns its data-out's length too. COMPARE AND WRITE also
-/// gets blocks to write.
+/// gets blocks to write, and EXTENDED COPY its parameter list.
 pub(crate) fn next_extended(
     random: &mut Random,
     lba: u32,
@@ -28,7 +34,7 @@ pub(crate) fn next_extended(
         count: u32::from(count),
     };
     let bytes = BLOCK_LENGTH * usize::from(count);
-    Some(match random.byte() % 20 {
+    Some(match random.byte() % 22 {
         0 | 1 => (Command::Read12(twelve), 0),
         2 | 3 => (Command::Write12(twelve), bytes),
         4 => (write_and_verify(random, twelve), bytes),
@@ -44,7 +50,9 @@ pub(crate) fn next_extended(
         16 => format_unit(random),
         17 => (start_stop_unit(random)?, 0),
         18 => (port_groups(random)?, 0),
-        _ => (task_management(random), 0),
+        19 => (task_management(random), 0),
+        20 => extended_copy(random, lba, count, data_out),
+        _ => (copy_parameters(random), 0),
     })
 }
 
@@ -160,4 +168,60 @@ fn port_groups(random: &mut Random) -> Option<Command> {
         format: ThreeBits::new(random.byte() % 3)?,
         allocation_length: u32::from(random.byte()),
     }))
+}
+
+/// EXTENDED COPY with its parameter list. Sometimes a byte of the list is wrong.
+fn extended_copy(
+    random: &mut Random,
+    lba: u32,
+    count: u8,
+    list: &mut [u8; LONGEST_LIST],
+) -> (Command, usize) {
+    list_copy(random, lba, count, list);
+    let at = usize::from(random.byte()) % COPY_LIST;
+    if let Some(place) = list.get_mut(at)
+        && random.byte() < 32
+    {
+        *place = random.byte();
+    }
+    let command = Command::ExtendedCopy(ExtendedCopy {
+        list_length: COPY_LIST as u32,
+    });
+    (command, COPY_LIST)
+}
+
+/// Writes the parameter list of EXTENDED COPY (SPC-4, 6.5). It has two CSCD descriptors, at bytes 16
+/// and 48, and a segment descriptor at byte 80. Source and destination may have either of the two.
+fn list_copy(random: &mut Random, lba: u32, count: u8, list: &mut [u8; LONGEST_LIST]) {
+    let unit = unit_designation(&Identity::standard());
+    list.fill(0);
+    list[0] = random.byte();
+    list[3] = 64;
+    list[11] = 28;
+    list[16] = 0xE4;
+    list[20..40].copy_from_slice(&unit);
+    list[48] = 0xE4;
+    list[52..72].copy_from_slice(&unit);
+    list[80] = 0x02;
+    list[83] = 24;
+    list[85] = random.byte() % 2;
+    list[87] = random.byte() % 2;
+    list[91] = count;
+    list[92..100].copy_from_slice(&u64::from(lba).to_be_bytes());
+    list[100..108].copy_from_slice(&next_destination(random, lba).to_be_bytes());
+}
+
+/// The first block that a copy writes. It is most often near the first one that it reads.
+fn next_destination(random: &mut Random, source: u32) -> u64 {
+    if random.byte() < 64 {
+        return u64::from(random.byte());
+    }
+    let near = u64::from(source).saturating_add(u64::from(random.byte() % 16));
+    near.saturating_sub(8)
+}
+
+fn copy_parameters(random: &mut Random) -> Command {
+    Command::ReceiveCopyOperatingParameters(ReceiveCopyOperatingParameters {
+        allocation_length: u32::from(random.byte() % 64),
+    })
 }

@@ -177,7 +177,7 @@ fn run(disks: &mut Disks) -> Option<Tally> {
     let mut random = Random::new();
     let mut data_out = [0; LONGEST_LIST];
     for _ in 0..COMMANDS {
-        if random.byte() < 4 {
+        if random.byte() < 8 {
             disks.happen(&next_happening(&mut random)?);
         }
         let initiator = Initiator::new(random.byte() % 3)?;

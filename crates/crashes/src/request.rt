@@ -9,8 +9,8 @@ pub(crate) const INITIATORS: u8 = 3;
 /// The most bytes of data-out, four blocks.
 pub(crate) const LONGEST_DATA_OUT: usize = 4 * BLOCK_LENGTH;
 
-/// The most bytes of a parameter list.
-const LONGEST_LIST: usize = 24;
+/// The most bytes of a parameter list, those of EXTENDED COPY.
+const LONGEST_LIST: usize = 76;
 
 /// FUA, in byte 1 of a CDB (SBC-3, 5.11 and 5.33).
 const FUA: u8 = 0x08;
@@ -111,7 +111,7 @@ impl Request {
         let initiator = Initiator::new(random.below(INITIATORS))?;
         let kinds = match profile {
             Profile::Base => 16,
-            Profile::Extended => 24,
+            Profile::Extended => 25,
         };
         let (cdb, data_out, owes_flush) = match random.below(kinds) {
             0..=3 => write(random, 0x2A),
@@ -128,6 +128,7 @@ impl Request {
             19 | 20 => compare_and_write(random),
             21 => or_write(random),
             22 => start_stop_unit(random),
+            23 => extended_copy(random),
             _ => format_unit(),
         };
         Some(Request {
@@ -219,6 +220,32 @@ fn or_write(random: &mut Random) -> Sent {
     let fua = next_fua(random);
     let cdb = cdb_with(&[(0, 0x8B), (1, fua), (9, lba), (13, count)]);
     (cdb, next_blocks(random, count), fua != 0)
+}
+
+/// EXTENDED COPY, whose ranges often overlap (SPC-4, 6.5). The list has one CSCD descriptor, at byte
+/// 16, for the source and the destination: it names the unit by the NAA designator of the standard
+/// identity. The segment descriptor is at byte 48.
+fn extended_copy(random: &mut Random) -> Sent {
+    let (source, count) = next_extent(random);
+    let (destination, _) = next_extent(random);
+    let fields = [
+        (3, 32),
+        (11, 28),
+        (16, 0xE4),
+        (20, 0x01),
+        (21, 0x03),
+        (23, 16),
+        (24, 0x60),
+        (25, 0x20),
+        (39, 1),
+        (48, 0x02),
+        (51, 24),
+        (59, count),
+        (67, source),
+        (75, destination),
+    ];
+    let cdb = cdb_with(&[(0, 0x83), (13, LONGEST_LIST as u8)]);
+    (cdb, list_with(&fields, LONGEST_LIST), false)
 }
 
 /// WRITE SAME(16): UNMAP is 1:08, and ANCHOR is 1:10.

@@ -7,7 +7,7 @@ use Rattle.sg_copy.specs.declared.fault.Invalid.TheVariants.{Field, TooManyCscds
 use Rattle.sg_copy.specs.declared.fault.Invalid.TheVariants.{TooManySegments, SegmentType, InlineData}
 use Rattle.sg_copy.specs.declared.fault.CopyFault.{CopyFault}
 use Rattle.sg_copy.specs.declared.fault.CopyFault.TheVariants.{Length, InvalidAt}
-use Rattle.sg_copy.specs.declared.fault.CopyFault.TheVariants.{NotReachable, OtherDeviceType}
+use Rattle.sg_copy.specs.declared.fault.CopyFault.TheVariants.{NotReachable, OtherDeviceType, PastCapacity}
 
 -- The sense key COPY ABORTED (SPC-4, sense key descriptions).
 abbrev pub copy_aborted : ℕ
@@ -28,9 +28,11 @@ abbrev pub plain : (key asc ascq : ℕ) → SenseFields
 plain key asc ascq =
     record { key = key; asc = asc; ascq = ascq; information = None; pointer = None }
 
--- PARAMETER LIST LENGTH ERROR, or 26h with a pointer to the byte in error. The last two are found when the
--- segment is processed. They are COPY TARGET DEVICE NOT REACHABLE and INCORRECT COPY TARGET DEVICE TYPE. The
--- segment has number 0, which COMMAND-SPECIFIC INFORMATION of fixed format says by its zeros.
+-- PARAMETER LIST LENGTH ERROR, or 26h with a pointer to the byte in error. The last three are found when the
+-- segment is processed. They are COPY TARGET DEVICE NOT REACHABLE, INCORRECT COPY TARGET DEVICE TYPE, and NO
+-- ADDITIONAL SENSE INFORMATION for a block that the unit does not have. The segment has number 0, which
+-- COMMAND-SPECIFIC INFORMATION of fixed format says by its zeros.
+-- Choice (SPC-4, 6.5): a block past the last one may have another code.
 abbrev pub copy_sense : CopyFault → SenseFields
 copy_sense Length = plain illegal_request 0x1A 0x00
 copy_sense (InvalidAt what byte) =
@@ -38,3 +40,4 @@ copy_sense (InvalidAt what byte) =
     { pointer = Some (record { in_command = false; byte = byte }) }
 copy_sense NotReachable = plain copy_aborted 0x0D 0x02
 copy_sense OtherDeviceType = plain copy_aborted 0x0D 0x03
+copy_sense PastCapacity = plain copy_aborted 0x00 0x00

@@ -1,7 +1,7 @@
 -- The parameter list of EXTENDED COPY(LID1) (SPC-4, 6.5): what the disk supports, and what a list asks for.
 -- CSCD descriptors identify the copy source and the copy destination. Here both are the one logical unit. A
 -- segment descriptor says which blocks are copied where.
-use Rattle.std.specs.Prelude.{ℕ, ◌+◌, ◌*◌, ◌/◌, ◌%◌, ◌==◌, Bool, not, ◌&&◌, nat_lt, if◌then◌else◌}
+use Rattle.std.specs.Prelude.{◌≤◌, ℕ, ◌+◌, ◌*◌, ◌/◌, ◌%◌, ◌==◌, Bool, not, ◌&&◌, nat_lt, if◌then◌else◌}
 use Rattle.std.specs.Prelude.{List, [], ◌∷◌, ◌++◌, length, take, drop, map, find, slice_index}
 use Rattle.std.specs.Prelude.{Option, Some, None, Result, Ok, Err}
 use Rattle.std.specs.Option.{option_map, option_map_or}
@@ -15,7 +15,7 @@ use Rattle.sg_copy.specs.declared.fault.Invalid.TheVariants.{Field, TooManyCscds
 use Rattle.sg_copy.specs.declared.fault.Invalid.TheVariants.{TooManySegments, SegmentType, InlineData}
 use Rattle.sg_copy.specs.declared.fault.CopyFault.{CopyFault}
 use Rattle.sg_copy.specs.declared.fault.CopyFault.TheVariants.{Length, InvalidAt}
-use Rattle.sg_copy.specs.declared.fault.CopyFault.TheVariants.{NotReachable, OtherDeviceType}
+use Rattle.sg_copy.specs.declared.fault.CopyFault.TheVariants.{NotReachable, OtherDeviceType, PastCapacity}
 
 -- ---- Limits
 
@@ -113,6 +113,7 @@ length_checks list =
 -- One value of LIST ID USAGE is reserved, and with another there is no LIST IDENTIFIER. There is no inline
 -- data, and there are not too many CSCD descriptors. STR and PRIORITY change nothing. Reserved bits are
 -- ignored.
+-- Choice (SPC-4, 6.5): reserved bits may be refused.
 abbrev pub header_checks : (list : List ℕ) → List Check
 header_checks list =
     refuse_if (list_id_usage list == reserved_usage) (InvalidAt Field 1)
@@ -123,6 +124,7 @@ header_checks list =
     ∷ []
 
 -- Each CSCD descriptor is whole, and of the supported type. One that is not whole has no such type.
+-- Choice (SPC-4, 6.5): a descriptor that is not whole may be another fault.
 abbrev pub type_check : (list : List ℕ) → (id : ℕ) → Check
 type_check list id =
     refuse_if (not (slice_index list (cscd_at id) == identification)) (InvalidAt CscdType (cscd_at id))
@@ -145,6 +147,7 @@ block_count list = big_number 2 (drop (segment_at list + 10) list)
 
 -- The first segment descriptor is of the supported type. There is no other one, and it is whole. It does not
 -- copy too many blocks.
+-- Choice (SPC-4, 6.5): a segment may be longer.
 abbrev pub segment_checks : (maximum_blocks : ℕ) → (list : List ℕ) → List Check
 segment_checks maximum_blocks list =
     refuse_if (not (slice_index list (segment_at list) == block_to_block))
@@ -171,36 +174,22 @@ identifies designation list id =
     && bytes_eq (take (length designation) (drop (cscd_at id + 4) list)) designation
 
 -- A CSCD DESCRIPTOR ID leads to the unit: it has a descriptor, which identifies the unit and has its
--- PERIPHERAL DEVICE TYPE. FFFFh, the unit of the copy manager without a descriptor, is not supported.
+-- PERIPHERAL DEVICE TYPE.
+-- Choice (SPC-4, 6.5): FFFFh may name the unit of the copy manager without a descriptor.
 abbrev pub cscd_id_checks : (designation : List ℕ) → (list : List ℕ) → (id : ℕ) → List Check
 cscd_id_checks designation list id =
     refuse_if (not (nat_lt id (cscd_count list) && identifies designation list id)) NotReachable
     ∷ refuse_if (not (bits_of (slice_index list (cscd_at id + 1)) 4 0 == 0)) OtherDeviceType
     ∷ []
 
--- The checks of each list, and the checks of a list with a segment descriptor. CSCD DESCRIPTOR IDs are
--- checked when the segment is processed.
-abbrev pub list_checks : (list : List ℕ) → List Check
-list_checks list = length_checks list ++ header_checks list ++ cscd_checks list
+-- The blocks that are read, and then the blocks that are written, are on the unit.
+abbrev pub range_check : (capacity lba blocks : ℕ) → Check
+range_check capacity lba blocks = refuse_if (nat_lt capacity (lba + blocks)) PastCapacity
 
-abbrev pub copy_checks : (designation : List ℕ) → (maximum_blocks : ℕ) → (list : List ℕ) → List Check
-copy_checks designation maximum_blocks list =
-    segment_checks maximum_blocks list
-    ++ cscd_id_checks designation list (source_id list)
-    ++ cscd_id_checks designation list (destination_id list)
-
--- All of them, in this order. The standard asks for no order among the faults of a list.
-abbrev pub checks : (designation : List ℕ) → (maximum_blocks : ℕ) → (list : List ℕ) → List Check
-checks designation maximum_blocks list =
-    list_checks list
-    ++ (if segments_length list == 0 then [] else copy_checks designation maximum_blocks list)
-
--- ---- What a list asks for
-
--- RECEIVE COPY STATUS finds the copy under its LIST IDENTIFIER, if it has one. LIST ID USAGE 10b only lets
--- held data go, and there is none.
-abbrev pub held_under : (list : List ℕ) → Option ℕ
-held_under list = if list_id_usage list == no_identifier then None else Some (list_identifier list)
+abbrev pub range_checks : (capacity : ℕ) → Segment → List Check
+range_checks capacity segment =
+    range_check capacity segment.source segment.blocks
+    ∷ range_check capacity segment.destination segment.blocks ∷ []
 
 -- SOURCE BLOCK DEVICE LOGICAL BLOCK ADDRESS, DESTINATION BLOCK DEVICE LOGICAL BLOCK ADDRESS, and the number
 -- of blocks.
@@ -211,19 +200,55 @@ segment_of list = record {
   blocks = block_count list;
 }
 
+-- The checks of each list.
+abbrev pub list_checks : (list : List ℕ) → List Check
+list_checks list = length_checks list ++ header_checks list ++ cscd_checks list
+
+-- When the segment is processed, its CSCD DESCRIPTOR IDs and its blocks are checked.
+abbrev pub processing_checks : (designation : List ℕ) → (capacity : ℕ) → (list : List ℕ) → List Check
+processing_checks designation capacity list =
+    (cscd_id_checks designation list (source_id list)
+    ++ cscd_id_checks designation list (destination_id list))
+    ++ range_checks capacity (segment_of list)
+
+-- The checks of a list with a segment descriptor.
+abbrev pub copy_checks : (designation : List ℕ) → (maximum_blocks capacity : ℕ) → (list : List ℕ) → List Check
+copy_checks designation maximum_blocks capacity list =
+    segment_checks maximum_blocks list ++ processing_checks designation capacity list
+
+-- All of them, in this order.
+-- Choice (SPC-4, 6.5): the faults of a list may be found in another order.
+abbrev pub checks : (designation : List ℕ) → (maximum_blocks capacity : ℕ) → (list : List ℕ) → List Check
+checks designation maximum_blocks capacity list =
+    list_checks list
+    ++ (if segments_length list == 0 then [] else copy_checks designation maximum_blocks capacity list)
+
+-- ---- What a list asks for
+
+-- RECEIVE COPY STATUS finds the copy under its LIST IDENTIFIER, if it has one. LIST ID USAGE 10b only lets
+-- held data go, and there is none.
+abbrev pub identifier : (list : List ℕ) → Option ℕ
+identifier list = if list_id_usage list == no_identifier then None else Some (list_identifier list)
+
 abbrev pub asked : (list : List ℕ) → CopyList
 asked list = record {
-  held_under = held_under list;
+  identifier = identifier list;
   segment = if segments_length list == 0 then None else Some (segment_of list);
 }
 
 abbrev pub nothing_asked : CopyList
-nothing_asked = record { held_under = None; segment = None }
+nothing_asked = record { identifier = None; segment = None }
 
--- What a list asks for, on a unit with this designation descriptor that copies at most this number of blocks.
--- A list of no bytes asks for nothing.
-abbrev pub copy_list : (designation : List ℕ) → (maximum_blocks : ℕ) → (list : List ℕ)
+-- What a list asks for, on a unit with this designation descriptor that copies at most this number of blocks,
+-- and has this number of blocks. A list of no bytes asks for nothing.
+abbrev pub copy_list : (designation : List ℕ) → (maximum_blocks capacity : ℕ) → (list : List ℕ)
     → Result CopyList CopyFault
-copy_list designation maximum_blocks list =
+copy_list designation maximum_blocks capacity list =
     if length list == 0 then Ok nothing_asked
-    else option_map_or Err (first_fault (checks designation maximum_blocks list)) (Ok (asked list))
+    else option_map_or Err (first_fault (checks designation maximum_blocks capacity list)) (Ok (asked list))
+
+-- A segment has at most this number of blocks, and all of them are on the unit.
+pub record IsPossible (maximum_blocks capacity : ℕ) (segment : Segment) : Type 0 where
+  pub blocks : segment.blocks ≤ maximum_blocks
+  pub source : segment.source + segment.blocks ≤ capacity
+  pub destination : segment.destination + segment.blocks ≤ capacity

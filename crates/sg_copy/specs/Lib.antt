@@ -1,4 +1,4 @@
 pub mod CopyFaults
 pub mod CopyList
 pub mod CopyReports
-pub mod HeldCopies
+pub mod EndedCopies

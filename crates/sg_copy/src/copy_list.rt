@@ -1,11 +1,13 @@
 // The parameter list of EXTENDED COPY(LID1), read.
-ghost use Rattle.std.specs.Prelude.{◌≡◌, ◌≤◌, ◌<◌, ◌+◌, ◌*◌, ◌^◌, ◌++◌, length, Some, None, IfErr, IfOk};
+ghost use Rattle.std.specs.Prelude.{◌≡◌, ◌≤◌, ◌<◌, ◌+◌, ◌*◌, ◌^◌, ◌++◌, length, Some, None};
+ghost use Rattle.std.specs.Prelude.{IfErr, IfOk, IfSome, nat_lt};
 ghost use Rattle.sg_copy.specs.CopyList.{block_count, copy_checks, copy_list, cscd_at, cscd_checks};
 ghost use Rattle.sg_copy.specs.CopyList.{cscd_count, cscd_id_checks, cscd_length, cscds_length};
 ghost use Rattle.sg_copy.specs.CopyList.{destination_id, first_fault, header_checks, header_length};
-ghost use Rattle.sg_copy.specs.CopyList.{held_under, identifies, inline_length, length_checks};
+ghost use Rattle.sg_copy.specs.CopyList.{identifier, identifies, inline_length, length_checks};
 ghost use Rattle.sg_copy.specs.CopyList.{list_checks, list_id_usage, maximum_cscds, segment_at};
 ghost use Rattle.sg_copy.specs.CopyList.{segment_checks, segment_length, segment_of};
+ghost use Rattle.sg_copy.specs.CopyList.{IsPossible, processing_checks, range_checks};
 ghost use Rattle.sg_copy.specs.CopyList.{segments_length, source_id};
 
 use crate::fault::{CopyFault, Invalid};
@@ -46,7 +48,7 @@ const FOLLOWING_LENGTH: u16 = 24;
 #[derive(Clone, Copy, Debug, PartialEq, Eq)]
 pub struct CopyList {
     /// The LIST IDENTIFIER under which RECEIVE COPY STATUS finds the copy.
-    pub held_under: Option<u8>,
+    pub identifier: Option<u8>,
     /// The blocks to copy.
     pub segment: Option<Segment>,
 }
@@ -73,7 +75,8 @@ impl CopyList {
     pub const SEGMENT_LENGTH: usize = 28;
 
     /// Reads the list of an EXTENDED COPY (SPC-4, 6.5). `designation` is the designation descriptor of the
-    /// unit in page 83h, and `maximum_blocks` the most blocks that it copies at once.
+    /// unit in page 83h, `maximum_blocks` the most blocks that it copies at once, and `capacity` the number
+    /// of its blocks.
     ///
     /// # Errors
     /// The first fault of the list.
@@ -81,27 +84,30 @@ impl CopyList {
     pub fn read(
         designation: &[u8; DESIGNATION_LENGTH],
         maximum_blocks: u16,
+        capacity: u64,
         list: &[u8],
     ) -> Result<CopyList, CopyFault>
-        ensures { result ≡ copy_list designation.now maximum_blocks list.now }
+        ensures value { result ≡ copy_list designation.now maximum_blocks capacity list.now }
+        ensures possible { IfOk result (λ asked.
+            IfSome asked.segment (IsPossible maximum_blocks capacity)) }
     {
         if list.is_empty() {
             return Ok(CopyList {
-                held_under: None,
+                identifier: None,
                 segment: None,
             });
         }
         check_list(list)?;
-        let held_under = held_under(list);
+        let identifier = identifier(list);
         if segments_length(list) == 0 {
             return Ok(CopyList {
-                held_under,
+                identifier,
                 segment: None,
             });
         }
-        check_copy(designation, maximum_blocks, list)?;
+        check_copy(designation, maximum_blocks, capacity, list)?;
         Ok(CopyList {
-            held_under,
+            identifier,
             segment: Some(segment_of(list)),
         })
     }
@@ -140,9 +146,9 @@ fn inline_length(list: &[u8]) -> usize
     BigEndian::read_u32(&list[12..]) as usize
 }
 
-fn held_under(list: &[u8]) -> Option<u8>
+fn identifier(list: &[u8]) -> Option<u8>
     requires { header_length ≤ length list.now }
-    ensures { result ≡ held_under list.now }
+    ensures { result ≡ identifier list.now }
 {
     (list_id_usage(list) != NO_IDENTIFIER).then_some(list[0])
 }
@@ -221,19 +227,69 @@ fn check_descriptors(list: &[u8]) -> Result<(), CopyFault>
 fn check_copy(
     designation: &[u8; DESIGNATION_LENGTH],
     maximum_blocks: u16,
+    capacity: u64,
     list: &[u8],
 ) -> Result<(), CopyFault>
     requires whole { segment_at list.now + segments_length list.now ≤ length list.now }
     requires cscds { cscds_length list.now ≤ cscd_length * maximum_cscds }
     requires segment { 0 < segments_length list.now }
     ensures refused { IfErr result (λ fault.
-        first_fault (copy_checks designation.now maximum_blocks list.now) ≡ Some fault) }
+        first_fault (copy_checks designation.now maximum_blocks capacity list.now) ≡ Some fault) }
     ensures passed { IfOk result (λ _.
-        first_fault (copy_checks designation.now maximum_blocks list.now) ≡ None) }
+        first_fault (copy_checks designation.now maximum_blocks capacity list.now) ≡ None) }
     ensures is_whole { IfOk result (λ _. segments_length list.now ≡ segment_length) }
+    ensures possible { IfOk result (λ _. IsPossible maximum_blocks capacity (segment_of list.now)) }
 {
     check_segment(maximum_blocks, list)?;
-    check_cscd_ids(designation, list)
+    check_at_segment(designation, capacity, list)
+}
+
+/// Refuses a segment for a fault that is found when it is processed.
+#[tactic(auto, using(crate::proofs::CheckLemmas::refuses_first, crate::proofs::CheckLemmas::passes_first))]
+fn check_at_segment(
+    designation: &[u8; DESIGNATION_LENGTH],
+    capacity: u64,
+    list: &[u8],
+) -> Result<(), CopyFault>
+    requires { segment_at list.now + segment_length ≤ length list.now }
+    ensures refused { IfErr result (λ fault.
+        first_fault (processing_checks designation.now capacity list.now) ≡ Some fault) }
+    ensures passed { IfOk result (λ _.
+        first_fault (processing_checks designation.now capacity list.now) ≡ None) }
+    ensures source { IfOk result (λ _. (segment_of list.now).source + (segment_of list.now).blocks
+        ≤ capacity) }
+    ensures destination { IfOk result (λ _. (segment_of list.now).destination
+        + (segment_of list.now).blocks ≤ capacity) }
+{
+    check_cscd_ids(designation, list)?;
+    check_ranges(capacity, list)
+}
+
+/// Refuses a segment whose blocks are not all on the unit.
+fn check_ranges(capacity: u64, list: &[u8]) -> Result<(), CopyFault>
+    requires { segment_at list.now + segment_length ≤ length list.now }
+    ensures refused { IfErr result (λ fault.
+        first_fault (range_checks capacity (segment_of list.now)) ≡ Some fault) }
+    ensures passed { IfOk result (λ _.
+        first_fault (range_checks capacity (segment_of list.now)) ≡ None) }
+    ensures source { IfOk result (λ _. (segment_of list.now).source + (segment_of list.now).blocks
+        ≤ capacity) }
+    ensures destination { IfOk result (λ _. (segment_of list.now).destination
+        + (segment_of list.now).blocks ≤ capacity) }
+{
+    let segment = segment_of(list);
+    let blocks = u64::from(segment.blocks);
+    if is_past(capacity, segment.source, blocks) || is_past(capacity, segment.destination, blocks) {
+        return Err(CopyFault::PastCapacity);
+    }
+    Ok(())
+}
+
+/// Returns `true` if some of the blocks from an address on are past the last one of a unit.
+fn is_past(capacity: u64, lba: u64, blocks: u64) -> bool
+    ensures { result ≡ nat_lt capacity (lba + blocks) }
+{
+    capacity < blocks || capacity - blocks < lba
 }
 
 /// Refuses a segment whose source or destination does not lead to the unit.

@@ -24,6 +24,9 @@ pub enum CopyFault {
     /// INCORRECT COPY TARGET DEVICE TYPE: a CSCD descriptor has another PERIPHERAL DEVICE TYPE.
     #[error("a CSCD descriptor has another device type")]
     OtherDeviceType,
+    /// NO ADDITIONAL SENSE INFORMATION: a block to read or to write is past the last block of the unit.
+    #[error("a block is past the last one")]
+    PastCapacity,
 }
 
 /// What the disk does not support at a byte of a list.
@@ -68,6 +71,7 @@ impl CopyFault {
             },
             CopyFault::NotReachable => plain(COPY_ABORTED, 0x0D, 0x02),
             CopyFault::OtherDeviceType => plain(COPY_ABORTED, 0x0D, 0x03),
+            CopyFault::PastCapacity => plain(COPY_ABORTED, 0x00, 0x00),
         }
     }
 }

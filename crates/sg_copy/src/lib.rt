@@ -3,13 +3,13 @@
 #![tactic(auto)]
 
 mod copy_list;
+mod ended_copies;
 mod fault;
-mod held;
 mod reports;
 
 pub use copy_list::{CopyList, DESIGNATION_LENGTH, Segment};
+pub use ended_copies::{EndedCopies, EndedCopy};
 pub use fault::{CopyFault, Invalid};
-pub use held::{EndedCopy, HeldCopies};
 pub use reports::{write_copy_status, write_operating_parameters};
 
 #[cfg(test)]

@@ -1,5 +1,5 @@
 // The reports about copies.
-ghost use Rattle.std.specs.Prelude.{◌≡◌};
+ghost use Rattle.std.specs.Prelude.{◌≡◌, length};
 ghost use Rattle.sg_wire.specs.Cut.{Puts};
 ghost use Rattle.sg_copy.specs.CopyReports.{copy_status, operating_parameters};
 
@@ -25,14 +25,16 @@ const ENDED: u8 = 0x01;
 /// Writes the data of RECEIVE COPY OPERATING PARAMETERS (SPC-4, 6.23), 46 bytes. `maximum_blocks` is the most
 /// blocks that an EXTENDED COPY copies, at least 1.
 pub fn write_operating_parameters(maximum_blocks: u16, cut: &mut Cut)
-    ensures { Puts cut.old cut.new (operating_parameters maximum_blocks) }
+    ensures data { Puts cut.old cut.new (operating_parameters maximum_blocks) }
+    ensures length { length (operating_parameters maximum_blocks) ≡ 46 }
 {
     cut.put(&operating_parameters(maximum_blocks));
 }
 
 #[tactic(auto, unfolding(crate::specs::CopyReports::operating_parameters))]
 fn operating_parameters(maximum_blocks: u16) -> [u8; 46]
-    ensures { result ≡ operating_parameters maximum_blocks }
+    ensures data { result ≡ operating_parameters maximum_blocks }
+    ensures length { length (operating_parameters maximum_blocks) ≡ 46 }
 {
     let mut bytes = [0; 46];
     BigEndian::write_u32(&mut bytes, 42);

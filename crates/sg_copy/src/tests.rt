@@ -29,20 +29,20 @@ const SEGMENT: Segment = Segment {
 
 #[test]
 fn a_list_asks_for_a_copy(rt: HostRuntime) -> Result<(), Fail> {
-    for (usage, identifier, held_under) in [
+    for (usage, byte, identifier) in [
         (0x00, 5, Some(5)),
         (0x10, 6, Some(6)),
         (0x18, 0, None),
         (0x20, 0, Some(0)),
     ] {
         let mut list = LIST;
-        list[0] = identifier;
+        list[0] = byte;
         list[1] = usage;
         let wanted = CopyList {
-            held_under,
+            identifier,
             segment: Some(SEGMENT),
         };
-        let is_wanted = CopyList::read(&UNIT, 2048, &list) == Ok(wanted);
+        let is_wanted = CopyList::read(&UNIT, 2048, 0x2008, &list) == Ok(wanted);
         assert!(rt; is_wanted, "usage {usage}");
     }
     Ok(())
@@ -51,26 +51,26 @@ fn a_list_asks_for_a_copy(rt: HostRuntime) -> Result<(), Fail> {
 #[test]
 fn no_segment_is_no_fault(rt: HostRuntime) -> Result<(), Fail> {
     let nothing = CopyList {
-        held_under: None,
+        identifier: None,
         segment: None,
     };
-    assert!(rt; CopyList::read(&UNIT, 2048, &[]) == Ok(nothing));
+    assert!(rt; CopyList::read(&UNIT, 2048, 0x2008, &[]) == Ok(nothing));
     let header = [7, 0x10, 0, 0, 0, 0, 0, 0, 0, 0, 0, 0, 0, 0, 0, 0];
     let no_segment = CopyList {
-        held_under: Some(7),
+        identifier: Some(7),
         segment: None,
     };
-    assert!(rt; CopyList::read(&UNIT, 2048, &header) == Ok(no_segment));
+    assert!(rt; CopyList::read(&UNIT, 2048, 0x2008, &header) == Ok(no_segment));
     let mut list = LIST;
     list[91] = 0;
     let no_block = CopyList {
-        held_under: Some(5),
+        identifier: Some(5),
         segment: Some(Segment {
             blocks: 0,
             ..SEGMENT
         }),
     };
-    assert!(rt; CopyList::read(&UNIT, 2048, &list) == Ok(no_block));
+    assert!(rt; CopyList::read(&UNIT, 2048, 0x2008, &list) == Ok(no_block));
     Ok(())
 }
 
@@ -98,13 +98,17 @@ fn each_fault_is_found(rt: HostRuntime) -> Result<(), Fail> {
         (71, 0x08, CopyFault::NotReachable),
         (17, 0x01, CopyFault::OtherDeviceType),
         (49, 0x05, CopyFault::OtherDeviceType),
+        (98, 0x21, CopyFault::PastCapacity),
+        (107, 0x01, CopyFault::PastCapacity),
+        (92, 0xFF, CopyFault::PastCapacity),
+        (100, 0xFF, CopyFault::PastCapacity),
     ] {
         let mut list = LIST;
         if let Some(place) = list.get_mut(at) {
             *place = byte;
         }
         assert!(rt;
-            CopyList::read(&UNIT, 2048, &list) == Err(fault),
+            CopyList::read(&UNIT, 2048, 0x2008, &list) == Err(fault),
             "byte {at}: {fault}"
         );
     }
@@ -119,7 +123,7 @@ fn too_much_is_refused(rt: HostRuntime) -> Result<(), Fail> {
         what: Invalid::TooManyCscds,
         byte: 2,
     });
-    assert!(rt; CopyList::read(&UNIT, 2048, &list) == too_many_cscds);
+    assert!(rt; CopyList::read(&UNIT, 2048, 0x2008, &list) == too_many_cscds);
     list[..80].copy_from_slice(&LIST[..80]);
     list[11] = 56;
     list[80] = 0x0A;
@@ -127,23 +131,23 @@ fn too_much_is_refused(rt: HostRuntime) -> Result<(), Fail> {
         what: Invalid::SegmentType,
         byte: 80,
     });
-    assert!(rt; CopyList::read(&UNIT, 2048, &list) == other_type);
+    assert!(rt; CopyList::read(&UNIT, 2048, 0x2008, &list) == other_type);
     list[80] = 0x02;
     let too_many_segments = Err(CopyFault::InvalidAt {
         what: Invalid::TooManySegments,
         byte: 8,
     });
-    assert!(rt; CopyList::read(&UNIT, 2048, &list) == too_many_segments);
+    assert!(rt; CopyList::read(&UNIT, 2048, 0x2008, &list) == too_many_segments);
     list[11] = 28;
     list[15] = 1;
     let inline_data = Err(CopyFault::InvalidAt {
         what: Invalid::InlineData,
         byte: 12,
     });
-    assert!(rt; CopyList::read(&UNIT, 2048, &list) == inline_data);
-    assert!(rt; CopyList::read(&UNIT, 2048, &list[..15]) == Err(CopyFault::Length));
+    assert!(rt; CopyList::read(&UNIT, 2048, 0x2008, &list) == inline_data);
+    assert!(rt; CopyList::read(&UNIT, 2048, 0x2008, &list[..15]) == Err(CopyFault::Length));
     assert!(rt;
-        CopyList::read(&UNIT, 7, &LIST)
+        CopyList::read(&UNIT, 7, 0x2008, &LIST)
             == Err(CopyFault::InvalidAt {
                 what: Invalid::Field,
                 byte: 90,
@@ -165,6 +169,7 @@ fn faults_have_their_codes(rt: HostRuntime) -> Result<(), Fail> {
         (at_byte_80(Invalid::InlineData), 0x05, 0x26, 0x0B),
         (CopyFault::NotReachable, 0x0A, 0x0D, 0x02),
         (CopyFault::OtherDeviceType, 0x0A, 0x0D, 0x03),
+        (CopyFault::PastCapacity, 0x0A, 0x00, 0x00),
     ] {
         let sense = fault.sense();
         let has_codes = (sense.key, sense.asc, sense.ascq) == (key, asc, ascq);

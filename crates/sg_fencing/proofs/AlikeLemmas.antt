@@ -31,7 +31,7 @@ use Rattle.sg_units.specs.declared.unit_attention.UnitAttention.{UnitAttention}
 use Rattle.sg_units.specs.declared.unit_attention.UnitAttention.TheVariants.{ModeParametersChanged}
 use Rattle.sg_units.specs.declared.unit_attention.UnitAttention.TheVariants.{SoftThresholdReached}
 use Rattle.sg_units.specs.declared.unit_attention.UnitAttention.TheVariants.{ReportedLunsDataChanged}
-use Rattle.sg_target.specs.BlockCommands.{comparing, comparing_each, exchanging, or_writing, reading}
+use Rattle.sg_target.specs.BlockCommands.{comparing, comparing_each, copying, exchanging, or_writing, reading}
 use Rattle.sg_target.specs.BlockCommands.{writing}
 use Rattle.sg_target.specs.Checks.{attention_refusal, bad_field, blocking_attention, cdb_checks}
 use Rattle.sg_target.specs.Checks.{checked_parse, empty_cdb, if_it_outranks}
@@ -52,7 +52,7 @@ use Rattle.sg_target.specs.State.{State, profile_of, resources_of}
 use Rattle.sg_target.specs.Step.{Step, cut, executed, good, outcome, refused, with_alert}
 use Rattle.sg_target.specs.Charge.{step_before_alert}
 use Rattle.sg_target.specs.declared.operation.Operation.{Operation}
-use Rattle.sg_target.specs.declared.operation.Operation.TheVariants.{Compare, CompareAndWrite, OrWrite}
+use Rattle.sg_target.specs.declared.operation.Operation.TheVariants.{Compare, CompareAndWrite, Copy, OrWrite}
 use Rattle.sg_target.specs.declared.operation.Operation.TheVariants.{CompareEach, Verify}
 use Rattle.sg_target.specs.declared.operation.Operation.TheVariants.{Nothing, ReturnSense}
 use Rattle.sg_target.specs.declared.operation.Operation.TheVariants.{TestReady, StartStop}
@@ -368,6 +368,8 @@ module _ (Related : ReservationState → ReservationState → Type 0) (s : State
   operation-agrees (CompareAndWrite exchange) c =
       leaving (exchanging s exchange) (exchanging t exchange) refl refl refl refl refl
   operation-agrees (OrWrite out) c = leaving (or_writing s out) (or_writing t out) refl refl refl refl refl
+  operation-agrees (Copy segment) c =
+      leaving (copying s segment) (copying t segment) refl refl refl refl refl
   operation-agrees (PreFetch extent) c = leaving (no_effect s) (no_effect t) refl refl refl refl refl
   operation-agrees (Synchronize extent) c = leaving (no_effect s) (no_effect t) refl refl refl refl refl
   operation-agrees (MarkBad lba cor_dis) c = leaving (no_effect s) (no_effect t) refl refl refl refl refl

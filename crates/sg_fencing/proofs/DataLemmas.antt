@@ -176,6 +176,7 @@ module _ (law : RemappingTakesWhatIsNeeded) (s : State) (x : Contents) (i : ℕ)
   operation-alike (operation.CompareEach extent block) r = absurd (false≢true (sym r))
   operation-alike (operation.CompareAndWrite exchange) r = absurd (false≢true (sym r))
   operation-alike (operation.OrWrite out) r = absurd (false≢true (sym r))
+  operation-alike (operation.Copy segment) r = absurd (false≢true (sym r))
   operation-alike (operation.Write out) r =
       stored-alike _ _ (remapped-alike law m x out.extent.lba out.extent.count
       (λ index. Data (block_at out.bytes index)) (λ index. Data (block_at out.bytes index)) used).size

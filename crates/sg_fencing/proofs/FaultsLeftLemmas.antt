@@ -171,6 +171,7 @@ first-writes-nothing n operation h = λ e. h (sym (first-class n operation) ∙ 
 no-writes : (o : Operation) → WritesNothing o → (medium_use o).writes ≡ false
 no-writes (operation.CompareAndWrite exchange) h = absurd (h refl)
 no-writes (operation.OrWrite out) h = absurd (h refl)
+no-writes (operation.Copy segment) h = absurd (h refl)
 no-writes (operation.Write out) h = absurd (h refl)
 no-writes (operation.Fill extent block) h = absurd (h refl)
 no-writes (operation.MarkBad lba cor_dis) h = absurd (h refl)

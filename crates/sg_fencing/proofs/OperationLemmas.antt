@@ -14,6 +14,8 @@ use Rattle.sg_wire.specs.declared.command.Class.TheVariants.{Always, Reads, Writ
 use Rattle.sg_wire.specs.declared.command.Command.{Command}
 use Rattle.sg_wire.specs.declared.command.Command.TheVariants as command
 use Rattle.sg_wire.specs.declared.command.CdbFault.{CdbFault}
+use Rattle.sg_copy.specs.declared.copy_list.Segment.{Segment}
+use Rattle.sg_wire.specs.declared.command.copy.ExtendedCopy.{ExtendedCopy}
 use Rattle.sg_wire.specs.declared.command.format.FormatUnit.{FormatUnit}
 use Rattle.sg_wire.specs.declared.command.diagnostic.LogSense.{LogSense}
 use Rattle.sg_wire.specs.declared.command.out_action.OutAction.{OutAction}
@@ -26,6 +28,7 @@ use Rattle.sg_pages.specs.BlockDescriptor.{logical_block_length}
 use Rattle.sg_target.specs.Demands.{extent, takes, too_long, verify, verify_only}
 use Rattle.sg_target.specs.Armed.{first_blocks}
 use Rattle.sg_target.specs.Config.{ConfigFields}
+use Rattle.sg_target.specs.CopyRequest.{copy_asked, list_asked}
 use Rattle.sg_target.specs.Demands.{demands, list_refusal, unmap_extent, unmap_extents}
 use Rattle.sg_target.specs.PrimaryCommands.{inquiry_page}
 use Rattle.sg_target.specs.ProvisioningCommands.{block_out, same_block, unmaps}
@@ -40,11 +43,11 @@ use Rattle.sg_pages.specs.declared.reports.Report.TheVariants as report
 use Rattle.sg_target.specs.Refusal.{or_refused, unless_refused, when_sound}
 use Rattle.sg_target.specs.ReservationCommands.{fields_out, has_list_length}
 use Rattle.sg_target.specs.declared.operation.Operation.{Operation}
-use Rattle.sg_target.specs.declared.operation.Operation.TheVariants.{Compare, CompareAndWrite, OrWrite}
+use Rattle.sg_target.specs.declared.operation.Operation.TheVariants.{Compare, CompareAndWrite, Copy, OrWrite}
 use Rattle.sg_target.specs.declared.operation.Operation.TheVariants.{CompareEach, Verify}
 use Rattle.sg_target.specs.declared.operation.Operation.TheVariants.{ChangeModes, Read, Write, Fill}
 use Rattle.sg_target.specs.declared.operation.Operation.TheVariants.{Unmap, UnmapExtent, Anchor, AnchorExtent}
-use Rattle.sg_target.specs.declared.operation.Operation.TheVariants.{MarkBad, StartStop, UnmapAll}
+use Rattle.sg_target.specs.declared.operation.Operation.TheVariants.{MarkBad, Nothing, StartStop, UnmapAll}
 use Rattle.sg_target.specs.declared.operation.Operation.TheVariants.{ReturnInquiry, ReturnLbaStatus}
 use Rattle.sg_target.specs.declared.operation.Operation.TheVariants.{ReturnLuns, ReturnReport}
 use Rattle.sg_target.specs.declared.operation.Operation.TheVariants.{ReturnReservations}
@@ -65,6 +68,7 @@ class_for (Compare out) = Some Reads
 class_for (CompareEach extent block) = Some Reads
 class_for (CompareAndWrite exchange) = Some Writes
 class_for (OrWrite out) = Some Writes
+class_for (Copy segment) = Some Writes
 class_for (Write out) = Some Writes
 class_for (Fill extent block) = Some Writes
 class_for (MarkBad lba cor_dis) = Some Writes
@@ -181,6 +185,14 @@ module _ (command : Command) (r : (layout command).class ≡ Reads)
       record { class = λ class h. cc; of_kind = λ kind k. refl; shown = s; number = λ n. cc }
   verify-suits check.OneBlock data_out = each-suits (block_out data_out) (extent.count == 0)
 
+-- EXTENDED COPY writes, unless its list has no segment
+copy-suits : (c : ExtendedCopy) (segment : Option Segment)
+    → Suits (command.ExtendedCopy c) (option_map_or Copy segment Nothing)
+copy-suits c (Some segment) =
+    record { class = λ class h. cc; of_kind = λ kind k. refl; shown = refl; number = λ n. cc }
+copy-suits c None =
+    record { class = λ class h. cc; of_kind = λ kind k. refl; shown = refl; number = λ n. cc }
+
 -- FORMAT UNIT writes
 format-suits : (c : FormatUnit) (refused : Option Refusal) (blocks : ℕ)
     → SuitsIf (command.FormatUnit c) (unless_refused refused (Ok (UnmapAll blocks)))
@@ -256,6 +268,9 @@ suits config (command.Verify12 c) data_out =
 suits config (command.Verify16 c) data_out =
     verify-suits (command.Verify16 c) refl refl config (extent c.extent.lba c.extent.count) 10
     c.byte_check data_out
+suits config (command.ExtendedCopy c) data_out =
+    sound-suits (command.ExtendedCopy c) (list_asked config (first_bytes c.list_length data_out)) copy_asked
+    (λ list. copy-suits c list.segment)
 suits config (command.FormatUnit c) data_out =
     format-suits c (list_refusal c data_out) config.blocks
 suits config (command.LogSense c) data_out =

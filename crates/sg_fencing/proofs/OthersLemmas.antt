@@ -31,7 +31,7 @@ use Rattle.sg_target.specs.Semantics.{effect_of}
 use Rattle.sg_target.specs.State.{IsWithinLimits, State, config_of}
 use Rattle.sg_target.specs.Step.{Step, outcome as step_outcome, refused, step}
 use Rattle.sg_target.specs.declared.operation.Operation.{Operation}
-use Rattle.sg_target.specs.declared.operation.Operation.TheVariants.{CompareAndWrite, OrWrite}
+use Rattle.sg_target.specs.declared.operation.Operation.TheVariants.{CompareAndWrite, Copy, OrWrite}
 use Rattle.sg_target.specs.declared.operation.Operation.TheVariants.{ReturnSense, ReturnModes}
 use Rattle.sg_target.specs.declared.operation.Operation.TheVariants.{ReturnLuns, StartStop}
 use Rattle.sg_target.specs.declared.operation.Operation.TheVariants.{ChangeModes, Write, Fill, Unmap}
@@ -170,6 +170,7 @@ module _ (Where : ReservationState → Type 0) (state : State) (i j : ℕ) (othe
     operation-keeps (ChangeModes width sp list) c k = absurd (c refl)
     operation-keeps (CompareAndWrite exchange) c k = absurd (c refl)
     operation-keeps (OrWrite out) c k = absurd (c refl)
+    operation-keeps (Copy segment) c k = absurd (c refl)
     operation-keeps (Write out) c k = absurd (c refl)
     operation-keeps (Fill extent block) c k = absurd (c refl)
     operation-keeps (Unmap extents) c k = absurd (c refl)

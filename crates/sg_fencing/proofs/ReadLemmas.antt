@@ -126,6 +126,9 @@ reads-if config (command.SanitizeBlockErase c) data_out =
 reads-if config (command.SanitizeCryptographicErase c) data_out =
     changing-reads (command.SanitizeCryptographicErase c)
     (demands config (command.SanitizeCryptographicErase c) data_out).operation refl refl
+reads-if config (command.ExtendedCopy c) data_out =
+    changing-reads (command.ExtendedCopy c)
+    (demands config (command.ExtendedCopy c) data_out).operation refl refl
 reads-if config (command.OrWrite16 c) data_out =
     changing-reads (command.OrWrite16 c) (demands config (command.OrWrite16 c) data_out).operation refl refl
 reads-if config (command.WriteAtomic16 c) data_out =

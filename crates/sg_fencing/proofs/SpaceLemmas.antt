@@ -5,6 +5,9 @@ use Rattle.std.proofs.lemmas.Bool.{false≢true}
 use Rattle.std.specs.Prelude.{◌==◌, if◌then◌else◌, ◌+◌, ◌^◌, ◌&&◌, nat_lt, length}
 use Rattle.std.specs.Prelude.{option_and_then, slice_index}
 use Rattle.std.specs.Option.{option_map}
+use Rattle.sg_copy.specs.declared.fault.CopyFault.{CopyFault}
+use Rattle.sg_copy.specs.declared.fault.CopyFault.TheVariants.{Length, InvalidAt, NotReachable}
+use Rattle.sg_copy.specs.declared.fault.CopyFault.TheVariants.{OtherDeviceType, PastCapacity}
 use Rattle.sg_wire.specs.CdbDecoding.{class_in, command_in, command_of}
 use Rattle.sg_wire.specs.Profile.{rules_of}
 use Rattle.sg_wire.specs.SenseData.{SenseFields, fixed_data, sense_data}
@@ -43,7 +46,7 @@ use Rattle.sg_target.specs.declared.refusal.Reason.{Reason}
 use Rattle.sg_target.specs.declared.refusal.Reason.TheVariants.{LbaOutOfRange}
 use Rattle.sg_target.specs.declared.refusal.Reason.TheVariants.{SoftwareWriteProtected, WriteProtected}
 use Rattle.sg_target.specs.declared.refusal.Reason.TheVariants.{DataPhaseError, InvalidInformationUnit}
-use Rattle.sg_target.specs.declared.refusal.Reason.TheVariants.{Miscompare}
+use Rattle.sg_target.specs.declared.refusal.Reason.TheVariants.{Copy, Miscompare}
 use Rattle.sg_target.specs.declared.refusal.Reason.TheVariants.{SpaceAllocationFailed, Fault}
 use Rattle.sg_target.specs.declared.refusal.Refusal.{Refusal}
 use Rattle.sg_target.specs.declared.refusal.Refusal.TheVariants.{Conflict, CheckCondition}
@@ -54,10 +57,11 @@ use Rattle.sg_fencing.specs.Laws.{WritesOverUsedAddressesAreNeverRefusedForSpace
 
 -- ---- The refusal for space, and its answer
 
--- (an armed fault may look like it)
+-- (an armed fault may look like it, and no WRITE is refused for a copy)
 abbrev is_for_space : Reason → Bool
 is_for_space SpaceAllocationFailed = true
 is_for_space (Fault code first_bad) = true
+is_for_space (Copy fault) = true
 is_for_space _ = false
 
 abbrev IsOther : Refusal → Type 0
@@ -97,6 +101,7 @@ fixed-apart : (reason : Reason) → is_for_space reason ≡ false
 unfolding sense_data
 fixed-apart SpaceAllocationFailed h = absurd (false≢true (sym h))
 fixed-apart (Fault code first_bad) h = absurd (false≢true (sym h))
+fixed-apart (Copy fault) h = absurd (false≢true (sym h))
 fixed-apart (LbaOutOfRange lba) h =
     differ-fixed (nat_lt lba (2 ^ 32)) lba (sense_of (LbaOutOfRange lba)) _ 2 7 refl refl refl
 fixed-apart (Miscompare offset) h =
@@ -111,9 +116,19 @@ descriptor-apart : (reason : Reason) → is_for_space reason ≡ false
 unfolding sense_data
 descriptor-apart SpaceAllocationFailed h = absurd (false≢true (sym h))
 descriptor-apart (Fault code first_bad) h = absurd (false≢true (sym h))
+descriptor-apart (Copy fault) h = absurd (false≢true (sym h))
 descriptor-apart SoftwareWriteProtected h = differ _ _ 3 7 refl refl
 descriptor-apart WriteProtected h = differ _ _ 3 7 refl refl
 descriptor-apart _ h = differ _ _ 1 7 refl refl
+
+copy-descriptor-apart : (fault : CopyFault)
+    → sense_data Fixed (sense_of (Copy fault)) ≡ sense_data Descriptor (sense_of SpaceAllocationFailed) → ⊥
+unfolding sense_data
+copy-descriptor-apart Length = differ _ _ 0 0x72 refl refl
+copy-descriptor-apart (InvalidAt what byte) = differ _ _ 0 0x72 refl refl
+copy-descriptor-apart NotReachable = differ _ _ 0 0x72 refl refl
+copy-descriptor-apart OtherDeviceType = differ _ _ 0 0x72 refl refl
+copy-descriptor-apart PastCapacity = differ _ _ 0 0x72 refl refl
 
 fixed-descriptor-apart : (reason : Reason)
     → sense_data Fixed (sense_of reason) ≡ sense_data Descriptor (sense_of SpaceAllocationFailed) → ⊥
@@ -124,6 +139,7 @@ fixed-descriptor-apart (Miscompare offset) =
     differ-fixed (nat_lt offset (2 ^ 32)) offset (sense_of (Miscompare offset)) _ 0 0x72 refl refl refl
 fixed-descriptor-apart (Fault code (Some lba)) =
     differ-fixed (nat_lt lba (2 ^ 32)) lba (sense_of (Fault code (Some lba))) _ 0 0x72 refl refl refl
+fixed-descriptor-apart (Copy fault) = copy-descriptor-apart fault
 fixed-descriptor-apart (Fault code None) = differ _ _ 0 0x72 refl refl
 fixed-descriptor-apart _ = differ _ _ 0 0x72 refl refl
 

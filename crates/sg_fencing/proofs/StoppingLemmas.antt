@@ -4,6 +4,7 @@ use Rattle.std.proofs.Common.{Some, None, Result, Ok, Err, refl, sym, ap, ◌∙
 use Rattle.std.specs.Prelude.{ok_or, if◌then◌else◌, not}
 use Rattle.std.proofs.lemmas.Bool.{false≢true}
 use Rattle.sg_wire.specs.CdbDecoding.{command_in}
+use Rattle.std.specs.Option.{option_map_or}
 use Rattle.sg_wire.specs.FirstBytes.{first_bytes}
 use Rattle.sg_wire.specs.Profile.{rules_of}
 use Rattle.sg_wire.specs.Laws.{ProfilesAreClosed, has_command}
@@ -11,6 +12,8 @@ use Rattle.sg_wire.specs.SupportedOperations.{requested_report}
 use Rattle.sg_wire.specs.declared.command.CdbFault.{CdbFault}
 use Rattle.sg_wire.specs.declared.command.Command.{Command}
 use Rattle.sg_wire.specs.declared.command.Command.TheVariants as command
+use Rattle.sg_copy.specs.declared.copy_list.Segment.{Segment}
+use Rattle.sg_wire.specs.declared.command.copy.ExtendedCopy.{ExtendedCopy}
 use Rattle.sg_wire.specs.declared.command.format.FormatUnit.{FormatUnit}
 use Rattle.sg_wire.specs.declared.command.start_stop.StartStopUnit.{StartStopUnit}
 use Rattle.sg_wire.specs.declared.command.verify.ByteCheck.{ByteCheck}
@@ -25,6 +28,7 @@ use Rattle.sg_target.specs.Charge.{step_by}
 use Rattle.sg_target.specs.Checks.{not_ready}
 use Rattle.sg_target.specs.Config.{ConfigFields}
 use Rattle.sg_target.specs.Demands.{demands, extent, takes, too_long, unmap_extent, unmap_extents}
+use Rattle.sg_target.specs.CopyRequest.{copy_asked, list_asked}
 use Rattle.sg_target.specs.Demands.{extents_out, list_refusal, verify, verify_only}
 use Rattle.sg_target.specs.Effect.{Effect, returning_up_to, with_contents}
 use Rattle.sg_target.specs.Happenings.{after_happening}
@@ -44,7 +48,7 @@ use Rattle.sg_target.specs.declared.happening.Happening.TheVariants.{Power, Logi
 use Rattle.sg_target.specs.declared.happening.Happening.TheVariants.{TargetReset, Grow}
 use Rattle.sg_target.specs.declared.operation.Operation.{Operation}
 use Rattle.sg_target.specs.declared.operation.Operation.TheVariants.{ChangeModes, ReturnModes}
-use Rattle.sg_target.specs.declared.operation.Operation.TheVariants.{ChangeReservations, CompareEach}
+use Rattle.sg_target.specs.declared.operation.Operation.TheVariants.{ChangeReservations, CompareEach, Copy}
 use Rattle.sg_target.specs.declared.operation.Operation.TheVariants.{Fill, Nothing, ReturnInquiry}
 use Rattle.sg_target.specs.declared.operation.Operation.TheVariants.{ReturnLuns, ReturnReport, StartStop}
 use Rattle.sg_target.specs.declared.operation.Operation.TheVariants.{UnmapAll}
@@ -116,6 +120,11 @@ module _ (command : Command) (h : is_start_stop (Ok command) ≡ false) (config 
   verify-stops check.DataOut data_out = record { stops = h }
   verify-stops check.OneBlock data_out = each-stops (block_out data_out) (extent.count == 0)
 
+copy-stops : (c : ExtendedCopy) (segment : Option Segment)
+    → StopsIf (command.ExtendedCopy c) (option_map_or Copy segment Nothing)
+copy-stops c (Some segment) = record { stops = refl }
+copy-stops c None = record { stops = refl }
+
 stops-if : (config : ConfigFields) (command : Command) (data_out : List ℕ)
     → StopsIfAsked command (demands config command data_out).operation
 stops-if config (command.Inquiry c) data_out =
@@ -158,6 +167,9 @@ stops-if config (command.WriteSame10 c) data_out =
 stops-if config (command.WriteSame16 c) data_out =
     same-stops (command.WriteSame16 c) refl c.anchor (unmaps c.unmap (same_block c.ndob data_out)) _
     (same_block c.ndob data_out)
+stops-if config (command.ExtendedCopy c) data_out =
+    sound-stops (command.ExtendedCopy c) (list_asked config (first_bytes c.list_length data_out)) copy_asked
+    (λ list. copy-stops c list.segment)
 stops-if config (command.FormatUnit c) data_out =
     format-stops c (list_refusal c data_out) config.blocks
 stops-if config (command.Unmap c) data_out =

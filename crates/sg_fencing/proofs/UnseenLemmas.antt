@@ -22,7 +22,7 @@ use Rattle.sg_target.specs.State.{State, profile_of}
 use Rattle.sg_target.specs.Step.{Step, good, outcome, step}
 use Rattle.sg_target.specs.Charge.{step_by}
 use Rattle.sg_target.specs.declared.operation.Operation.{Operation}
-use Rattle.sg_target.specs.declared.operation.Operation.TheVariants.{Compare, CompareAndWrite, OrWrite}
+use Rattle.sg_target.specs.declared.operation.Operation.TheVariants.{Compare, CompareAndWrite, Copy, OrWrite}
 use Rattle.sg_target.specs.declared.operation.Operation.TheVariants.{CompareEach, Verify}
 use Rattle.sg_target.specs.declared.operation.Operation.TheVariants.{ReturnModes, ChangeModes}
 use Rattle.sg_target.specs.declared.operation.Operation.TheVariants.{ReturnLuns, ReturnReport}
@@ -83,6 +83,7 @@ module _ (s : State) (x : Contents) (j : ℕ) where
   operation-alike (CompareEach extent block) r w same = absurd (r refl)
   operation-alike (CompareAndWrite exchange) r w same = absurd (w refl)
   operation-alike (OrWrite out) r w same = absurd (w refl)
+  operation-alike (Copy segment) r w same = absurd (w refl)
   operation-alike (Write out) r w same = absurd (w refl)
   operation-alike (Fill extent block) r w same = absurd (w refl)
   operation-alike (Unmap extents) r w same = absurd (w refl)

@@ -24,7 +24,7 @@ use Rattle.sg_target.specs.Step.{Answer, Step, executed, outcome, refused, step,
 use Rattle.sg_target.specs.Charge.{step_before_alert}
 use Rattle.sg_target.specs.declared.call.Call.{Call}
 use Rattle.sg_target.specs.declared.operation.Operation.{Operation}
-use Rattle.sg_target.specs.declared.operation.Operation.TheVariants.{Compare, CompareAndWrite, OrWrite}
+use Rattle.sg_target.specs.declared.operation.Operation.TheVariants.{Compare, CompareAndWrite, Copy, OrWrite}
 use Rattle.sg_target.specs.declared.operation.Operation.TheVariants.{CompareEach}
 use Rattle.sg_target.specs.declared.operation.Operation.TheVariants.{ReturnModes, ChangeModes}
 use Rattle.sg_target.specs.declared.operation.Operation.TheVariants.{Write, Fill}
@@ -150,6 +150,7 @@ module _ (s : State) (x : Contents) (i : ℕ) where
       (second-compared (comparing_each t extent block) refl _)
   operation-differs (CompareAndWrite exchange) = exchanged exchange
   operation-differs (OrWrite out) = stored _ _
+  operation-differs (Copy segment) = stored _ _
   operation-differs (Write out) = stored _ _
   operation-differs (Fill extent block) = stored _ _
   operation-differs (Anchor extents) = stored _ _

@@ -57,10 +57,11 @@ OnlyReadsReturnData =
     ≡ (outcome state initiator (effect_of state initiator operation)).answer
 
 -- The commands that may change blocks: each WRITE, WRITE AND VERIFY and WRITE SAME, COMPARE AND WRITE,
--- ORWRITE, WRITE ATOMIC, UNMAP, FORMAT UNIT and the erases of SANITIZE.
+-- ORWRITE, WRITE ATOMIC, EXTENDED COPY, UNMAP, FORMAT UNIT and the erases of SANITIZE.
 abbrev pub may_change_blocks : Result Command CdbFault → Bool
 may_change_blocks (Ok (command.CompareAndWrite c)) = true
 may_change_blocks (Ok (command.OrWrite16 c)) = true
+may_change_blocks (Ok (command.ExtendedCopy c)) = true
 may_change_blocks (Ok (command.WriteAtomic16 c)) = true
 may_change_blocks (Ok (command.Write6 c)) = true
 may_change_blocks (Ok (command.Write10 c)) = true

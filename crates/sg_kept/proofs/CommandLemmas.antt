@@ -45,6 +45,7 @@ alerted-change : (before : MappingResources) (i : ℕ) (after : State) (o : Oper
 alerted-change before i after (operation.Write out) = refl
 alerted-change before i after (operation.CompareAndWrite exchange) = refl
 alerted-change before i after (operation.OrWrite out) = refl
+alerted-change before i after (operation.Copy segment) = refl
 alerted-change before i after (operation.Fill extent block) = refl
 alerted-change before i after (operation.Unmap extents) = refl
 alerted-change before i after (operation.UnmapExtent extent) = refl

@@ -1,14 +1,15 @@
 -- The operation that a command has executed.
 use Rattle.std.proofs.Common.{◌≡◌, ℕ, List, Option, Some, None, Result, Ok, Err, refl, sym, subst, arith}
 use Rattle.std.specs.Prelude.{IfSome}
+use Rattle.sg_copy.specs.declared.copy_list.Segment.{Segment}
 use Rattle.sg_target.specs.Armed.{Armed, armed_step, attempt_of, marked_by, seen, step_of_checked}
-use Rattle.sg_target.specs.BlockCommands.{BlocksOutFields, or_writing}
+use Rattle.sg_target.specs.BlockCommands.{BlocksOutFields, copying, or_writing}
 use Rattle.sg_target.specs.Checks.{checked_cdb}
 use Rattle.sg_target.specs.Executed.{executed_if_good, executed_operation}
 use Rattle.sg_target.specs.State.{State}
 use Rattle.sg_target.specs.Step.{Step, refused}
 use Rattle.sg_target.specs.declared.operation.Operation.{Operation}
-use Rattle.sg_target.specs.declared.operation.Operation.TheVariants.{OrWrite}
+use Rattle.sg_target.specs.declared.operation.Operation.TheVariants.{Copy, OrWrite}
 use Rattle.sg_target.specs.declared.refusal.Reason.TheVariants.{UnitAttention as Attention}
 use Rattle.sg_target.specs.declared.refusal.Refusal.{Refusal}
 use Rattle.sg_target.specs.declared.refusal.Refusal.TheVariants.{CheckCondition}
@@ -36,9 +37,14 @@ module _ (state : State) (i : ℕ) where
   or-write-keeps : (out : BlocksOutFields) → Keeps (step_of_checked state i (Ok (OrWrite out)))
   or-write-keeps out = outcome-by state i Keeps (or_writing state out) refused-keeps (λ none. refl)
 
+  copy-keeps : (segment : Segment) → Keeps (step_of_checked state i (Ok (Copy segment)))
+  copy-keeps segment = outcome-by state i Keeps (copying state segment) refused-keeps (λ none. refl)
+
   readable : (o : Operation) → IsReady state o
       → IsReadable (step_of_checked state i (Ok o)).state.disk.capacity o
   readable (OrWrite out) ready = let same = or-write-keeps out in let there = ready.on_disk.0
+      in omega (arith, there, same)
+  readable (Copy segment) ready = let same = copy-keeps segment in let there = ready.on_disk.1.0
       in omega (arith, there, same)
   readable _ ready = tt
 
@@ -52,7 +58,7 @@ if-some : {A : Type 0} (P : A → Type 0) (o : Option A) → ((x : A) → o ≡ 
 if-some P None each = tt
 if-some P (Some x) each = each x refl
 
--- the blocks of an ORWRITE are on the disk that it has left
+-- the blocks that an ORWRITE or an EXTENDED COPY writes are on the disk that it has left
 pub executed-readable : (disk : Armed) (i : ℕ) (cdb data_out : List ℕ)
     → IfSome (executed_operation disk i cdb data_out)
     (IsReadable (armed_step disk i cdb data_out).after.state.disk.capacity)

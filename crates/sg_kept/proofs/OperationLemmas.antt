@@ -11,7 +11,7 @@ use Rattle.sg_changes.specs.KeptFields.{KeptFields}
 use Rattle.sg_changes.proofs.SnapshotLemmas.{length-blocks}
 use Rattle.sg_faults.specs.Faults.{Faults}
 use Rattle.sg_store.specs.Disk.{Contents, IsWellFormed, blocks, disk_filled, disk_written, written}
-use Rattle.sg_target.specs.BlockCommands.{ored, ored_block}
+use Rattle.sg_target.specs.BlockCommands.{copied, copied_block, destination_of, ored, ored_block}
 use Rattle.sg_target.specs.Demands.{extent}
 use Rattle.sg_target.specs.Effect.{Effect}
 use Rattle.sg_target.specs.Extents.{AreOnDisk}
@@ -128,6 +128,15 @@ module _ (state : State) (faults : Faults) where
       (length-blocks state.disk.capacity contents limits.blocks out.extent.lba out.extent.count)
       (written-replaced state.disk.capacity state.disk.contents out.extent.lba out.extent.count
       (ored_block state.disk.contents out) limits.blocks)
+      limits.used
+  made i (operation.Copy segment) whole there =
+      λ limits.
+      let contents = copied state.disk.contents segment in
+      writes-as before (destination_of segment) (blocks contents segment.destination segment.blocks) contents
+      there.1
+      (length-blocks state.disk.capacity contents limits.blocks segment.destination segment.blocks)
+      (written-replaced state.disk.capacity state.disk.contents segment.destination segment.blocks
+      (copied_block state.disk.contents segment) limits.blocks)
       limits.used
   made i (operation.Fill range block) whole there =
       λ limits. fills before range block there whole limits.used

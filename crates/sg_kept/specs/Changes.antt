@@ -9,12 +9,12 @@ use Rattle.sg_changes.specs.Change.Change.{Faults as FaultTable, Grow as Grown}
 use Rattle.sg_faults.specs.Faults.{Faults, is_armed}
 use Rattle.sg_store.specs.Disk.{blocks}
 use Rattle.sg_target.specs.Armed.{Armed}
-use Rattle.sg_target.specs.BlockCommands.{bytes_of}
+use Rattle.sg_target.specs.BlockCommands.{bytes_of, destination_of}
 use Rattle.sg_target.specs.State.{State}
 use Rattle.sg_target.specs.declared.happening.Happening.{Happening}
 use Rattle.sg_target.specs.declared.happening.Happening.TheVariants.{Grow, Arm, Disarm, DisarmAll}
 use Rattle.sg_target.specs.declared.operation.Operation.{Operation}
-use Rattle.sg_target.specs.declared.operation.Operation.TheVariants.{Write, CompareAndWrite, OrWrite}
+use Rattle.sg_target.specs.declared.operation.Operation.TheVariants.{Write, CompareAndWrite, Copy, OrWrite}
 use Rattle.sg_target.specs.declared.operation.Operation.TheVariants.{Fill, Unmap, UnmapExtent, UnmapAll}
 use Rattle.sg_target.specs.declared.operation.Operation.TheVariants.{Anchor, AnchorExtent, ChangeModes}
 use Rattle.sg_target.specs.declared.operation.Operation.TheVariants.{ChangeReservations}
@@ -31,14 +31,17 @@ persistent r =
 abbrev pub unmap : Extent → Change
 unmap extent = Unmapped extent.lba extent.count
 
--- The changes of an operation that has left this state. An ORWRITE changes its blocks to what they have
--- after it. The other operations change nothing that is kept, except that WRITE LONG arms a fault.
+-- The changes of an operation that has left this state. An ORWRITE and an EXTENDED COPY change the blocks
+-- that they write to what these have after it. The other operations change nothing that is kept, except that
+-- WRITE LONG arms a fault.
 abbrev pub changes_of : (after : State) → Operation → List Change
 changes_of after (Write out) = Written out.extent out.bytes ∷ []
 changes_of after (CompareAndWrite exchange) =
     Written exchange.extent (first_bytes (bytes_of exchange.extent) exchange.replacement) ∷ []
 changes_of after (OrWrite out) =
     Written out.extent (blocks after.disk.contents out.extent.lba out.extent.count) ∷ []
+changes_of after (Copy segment) =
+    Written (destination_of segment) (blocks after.disk.contents segment.destination segment.blocks) ∷ []
 changes_of after (Fill extent block) = Filled extent block ∷ []
 changes_of after (Unmap extents) = map unmap extents
 changes_of after (UnmapExtent extent) = unmap extent ∷ []

@@ -6,7 +6,7 @@ use Rattle.sg_changes.specs.Records.{is_possible, record_of}
 use Rattle.sg_journal.specs.BatchValue.{BatchValue}
 use Rattle.sg_journal.specs.declared.layout.TheConstants.{MAX_BATCH}
 use Rattle.sg_target.specs.declared.operation.Operation.{Operation}
-use Rattle.sg_target.specs.declared.operation.Operation.TheVariants.{OrWrite}
+use Rattle.sg_target.specs.declared.operation.Operation.TheVariants.{Copy, OrWrite}
 
 -- A batch has the records of these changes, too.
 pub record Adds (old new : BatchValue) (changes : List Change) : Type 0 where
@@ -29,7 +29,8 @@ HasRoom batch = length batch.records + longest_changes ≤ MAX_BATCH
 abbrev pub longest_write : ℕ
 longest_write = 1048576
 
--- The blocks of an ORWRITE are on the disk, so that they can be read back.
+-- The blocks that an ORWRITE or an EXTENDED COPY writes are on the disk, so that they can be read back.
 abbrev pub IsReadable : (capacity : ℕ) → Operation → Type 0
 IsReadable capacity (OrWrite out) = out.extent.lba + out.extent.count ≤ capacity
+IsReadable capacity (Copy segment) = segment.destination + segment.blocks ≤ capacity
 IsReadable capacity _ = Unit {0}

@@ -45,7 +45,7 @@ pub struct KeptDisk<S: Store, D: Device> {
     /// The call that finds the file long writes it afresh. If not, that is left to the disk's owner, who
     /// calls [`begin_compaction`](KeptDisk::begin_compaction) then.
     pub compacts: bool,
-    /// Room for the blocks of an ORWRITE.
+    /// Room for the blocks that an ORWRITE or an EXTENDED COPY writes.
     pub scratch: Vec<u8>,
     /// The number of batches that the file had when it was opened. It is 0 if the disk was made.
     pub found_batches: u64,

@@ -105,6 +105,7 @@ fn add_operation<S: Store>(
             blocks: exchange.replacement(),
         }),
         Operation::OrWrite(out) => add_blocks(batch, target, out.extent(), scratch),
+        Operation::Copy(blocks) => add_blocks(batch, target, blocks.destination(), scratch),
         Operation::Fill { extent, block } => {
             let mut bytes = [0; BLOCK_LENGTH];
             bytes.copy_from_slice(block.bytes());

@@ -1,12 +1,14 @@
 -- What a disk reports about itself: its logical units, its commands, its task management functions, its
--- target port group, its log pages and its defects. Only one log page depends on its blocks: it has the
--- resources of the pool.
+-- target port group, the limits of its copies, its log pages and its defects. Only one log page depends on
+-- its blocks: it has the resources of the pool.
 use Rattle.std.specs.Prelude.{ℕ, ◌+◌, ◌==◌, ◌&&◌, List, [], ◌∷◌, ◌++◌, length, map, filter, find}
 use Rattle.std.specs.Prelude.{Bool, true, false, if◌then◌else◌, Option, Some, None, Result, Ok, Err}
 use Rattle.std.specs.Prelude.{nat_lt}
 use Rattle.std.specs.List.{flat_map, list_any}
 use Rattle.std.specs.Option.{option_map_or}
+use Rattle.sg_copy.specs.CopyReports.{operating_parameters}
 use Rattle.sg_wire.specs.Fields.{Field, field, fields_bytes}
+use Rattle.sg_wire.specs.Profile.{maximum_transfer_length}
 use Rattle.sg_wire.specs.SupportedOperations.{longest_support_report, report_data as support_data}
 use Rattle.sg_wire.specs.TargetPort.{relative_target_port, target_port_group}
 use Rattle.sg_wire.specs.declared.profile.Profile.{Profile}
@@ -18,7 +20,7 @@ use Rattle.sg_pages.specs.declared.provisioning_pages.MappingResources.{MappingR
 use Rattle.sg_pages.specs.ProvisioningPages.{from_pointer, resource_parameters, used_code}
 use Rattle.sg_pages.specs.declared.reports.Report.{Report}
 use Rattle.sg_pages.specs.declared.reports.Report.TheVariants.{LogicalUnits, TaskManagementFunctions}
-use Rattle.sg_pages.specs.declared.reports.Report.TheVariants.{TargetPortGroups}
+use Rattle.sg_pages.specs.declared.reports.Report.TheVariants.{TargetPortGroups, CopyParameters}
 use Rattle.sg_pages.specs.declared.reports.Report.TheVariants.{Commands, Log}
 use Rattle.sg_pages.specs.declared.reports.Report.TheVariants.{DefectLists10, DefectLists12}
 
@@ -203,13 +205,15 @@ defect_lists_12 lists = field 1 0 ∷ field 1 lists ∷ field 2 0 ∷ field 4 0 
 
 -- ---- All reports
 
--- Each on a disk of a profile with a pool. The commands are in the table of their layouts.
+-- Each on a disk of a profile with a pool. The commands are in the table of their layouts. An EXTENDED COPY
+-- copies as many blocks as a WRITE writes at most.
 unfoldable pub report_data : Profile → MappingResources → Report → List ℕ
 report_data profile pool (LogicalUnits listed) = fields_bytes (lun_list (listed_luns listed))
 report_data profile pool (Commands report) = support_data profile report
 report_data profile pool (TaskManagementFunctions timeouts) = fields_bytes (task_management timeouts)
 report_data profile pool (TargetPortGroups extended_header) =
     fields_bytes (target_port_groups extended_header)
+report_data profile pool CopyParameters = operating_parameters maximum_transfer_length
 report_data profile pool (Log page pointer) = log_page_data profile pool pointer page
 report_data profile pool (DefectLists10 lists) = fields_bytes (defect_lists_10 lists)
 report_data profile pool (DefectLists12 lists) = fields_bytes (defect_lists_12 lists)

@@ -28,4 +28,4 @@ pub use physical_block::PhysicalBlock;
 pub use provisioning_pages::MappingResources;
 pub use reports::{LONGEST_REPORT, LogPage, Report};
 pub use sg_wire::{MAXIMUM_TRANSFER_LENGTH, MAXIMUM_WRITE_SAME_LENGTH, PageControl};
-pub use vital_product_data::{LONGEST_VPD_PAGE, VpdPage, vpd, write_vpd_page};
+pub use vital_product_data::{LONGEST_VPD_PAGE, VpdPage, unit_designation, vpd, write_vpd_page};

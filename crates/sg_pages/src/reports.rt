@@ -6,7 +6,8 @@ ghost use Rattle.sg_pages.specs.Reports.{extended_header_asked, last_parameter, 
 ghost use Rattle.sg_pages.specs.Reports.{log_page_with, longest_report, report_data};
 
 use super::provisioning_pages::{MappingResources, USED, write_provisioning_page};
-use sg_wire::{Cut, LONGEST_SUPPORT_REPORT, Profile, SupportReport};
+use sg_copy::write_operating_parameters;
+use sg_wire::{Cut, LONGEST_SUPPORT_REPORT, MAXIMUM_TRANSFER_LENGTH, Profile, SupportReport};
 
 /// The length of the longest report, in bytes.
 pub const LONGEST_REPORT: usize = LONGEST_SUPPORT_REPORT;
@@ -97,6 +98,8 @@ pub enum Report {
     TaskManagementFunctions(bool),
     /// The groups of REPORT TARGET PORT GROUPS, and whether the extended header is asked for (SPC-4, 6.37).
     TargetPortGroups(bool),
+    /// The limits of copies, as RECEIVE COPY OPERATING PARAMETERS returns them (SPC-4, 6.23).
+    CopyParameters,
     /// A page of LOG SENSE, and the code of the first parameter that is asked for (SPC-4, 6.8).
     Log(LogPage, u16),
     /// The lists of READ DEFECT DATA(10), by their byte of the CDB (SBC-3, 5.17).
@@ -150,6 +153,9 @@ impl Report {
             ]),
             Report::TargetPortGroups(false) => {
                 cut.put(&[0, 0, 0, 0x0C, 0, 0x01, 0, 1, 0, 0, 0, 1, 0, 0, 0, 1]);
+            }
+            Report::CopyParameters => {
+                write_operating_parameters(MAXIMUM_TRANSFER_LENGTH as u16, cut);
             }
             Report::Log(page, pointer) => page.write(profile, pool, pointer, cut),
             Report::DefectLists10(lists) => cut.put(&[0, lists, 0, 0]),

@@ -2,7 +2,9 @@
 use Rattle.std.proofs.Common.{◌≡◌, ◌≤◌, ◌<◌, ℕ, ◌+◌, ◌*◌, List, [], ◌∷◌, length, take, drop, map}
 use Rattle.std.proofs.Common.{Bool, true, false, cond, Option, Some, None, Result, Ok, Err, refl}
 use Rattle.std.proofs.Common.{◌==◌, ◌∙◌, arith, eqb-true, length-take, length-drop}
+use Rattle.std.specs.Option.{option_map_or}
 use Rattle.std.specs.Prelude.{max, min, nat_lt, ok_or}
+use Rattle.sg_copy.specs.declared.copy_list.Segment.{Segment}
 use Rattle.sg_wire.specs.Profile.{rules_of}
 use Rattle.sg_wire.specs.FirstBytes.{first_bytes}
 use Rattle.sg_target.specs.PrimaryCommands.{inquiry_page}
@@ -21,7 +23,7 @@ use Rattle.sg_store.specs.Laws.{DisksStayWellFormed}
 use Rattle.sg_wire.specs.declared.command.verify.ByteCheck.{ByteCheck}
 use Rattle.sg_wire.specs.declared.command.verify.ByteCheck.TheVariants as check
 use Rattle.sg_target.specs.BlockCommands.{BlocksOutFields, blocks_out, bytes_of, exchange_out}
-use Rattle.sg_target.specs.BlockCommands.{ored_block, past_capacity}
+use Rattle.sg_target.specs.BlockCommands.{copied_block, ored_block, past_capacity}
 use Rattle.sg_target.proofs.MovedLemmas.{long_enough, moved-whole}
 use Rattle.sg_target.proofs.OrWriteLemmas.{length-block, length-or}
 use Rattle.sg_pages.specs.BlockDescriptor.{logical_block_length}
@@ -34,6 +36,7 @@ use Rattle.sg_target.specs.Checks.{requested, short_data_out, unsupported_value,
 use Rattle.sg_target.specs.Config.{ConfigFields}
 use Rattle.sg_target.specs.DataOut.{blocks_need, moved, need}
 use Rattle.sg_target.specs.Demands.{Demands, bad_atomic, bad_comparison, bad_same}
+use Rattle.sg_target.specs.CopyRequest.{copy_asked, list_asked}
 use Rattle.sg_target.specs.Demands.{demands, extent, list_refusal}
 use Rattle.sg_target.specs.Demands.{exchange_need, takes, takes_blocks, verify, verify_only, write}
 use Rattle.sg_target.specs.Demands.{too_long, same_length, unmap_extent, unmap_extents}
@@ -67,6 +70,10 @@ when : {A : Type 0} (found : Result A Refusal) (becomes : A → Operation)
     → ((value : A) → IsSound (becomes value)) → Sound (when_sound found becomes)
 when (Ok value) becomes h = h value
 when (Err refusal) becomes h = tt
+
+copy-sound : (segment : Option Segment) → IsSound (option_map_or operation.Copy segment operation.Nothing)
+copy-sound (Some segment) = tt
+copy-sound None = tt
 
 unless : (refused : Option Refusal) (asked : Result Operation Refusal) → (refused ≡ None → Sound asked)
     → Sound (unless_refused refused asked)
@@ -224,6 +231,10 @@ command-sound config (command.Verify16 c) data_out =
 command-sound config (command.FormatUnit c) data_out =
     requested-sound (demands config (command.FormatUnit c) data_out) data_out
     (format-sound (list_refusal c data_out) config.blocks)
+command-sound config (command.ExtendedCopy c) data_out =
+    requested-sound (demands config (command.ExtendedCopy c) data_out) data_out
+    (when (list_asked config (first_bytes c.list_length data_out)) copy_asked
+    (λ list. copy-sound list.segment))
 command-sound config (command.LogSense c) data_out =
     requested-sound (demands config (command.LogSense c) data_out) data_out
     (when
@@ -392,6 +403,10 @@ operation-keeps disks state i (operation.OrWrite out) h ready =
     (λ k below. length-or (block state.disk.contents (out.extent.lba + k)) (block_at out.bytes k)
     ∙ both-whole (length-block state.disk.capacity state.disk.contents (out.extent.lba + k) h)
     (block-length out.bytes out.extent.count k ready.sound below))
+operation-keeps disks state i (operation.Copy segment) h ready =
+    disks.mapping state.disk.capacity state.disk.contents segment.destination segment.blocks
+    (λ index. Data (copied_block state.disk.contents segment index)) h ready.on_disk.1.0
+    (λ k below. length-block state.disk.capacity state.disk.contents (segment.source + k) h)
 operation-keeps disks state i (operation.Fill extent block) h ready =
     disks.mapping state.disk.capacity state.disk.contents extent.lba extent.count
     (λ index. Data block) h ready.on_disk.0 (λ k below. ready.sound)

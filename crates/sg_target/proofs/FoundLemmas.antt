@@ -71,6 +71,7 @@ module _ (state : State) (i : ℕ) where
   operation-keeps (operation.CompareEach extent block) = difference-keeps _
   operation-keeps (operation.CompareAndWrite exchange) = exchange-keeps _ _ (no-space-keeps _)
   operation-keeps (operation.OrWrite out) = no-space-keeps _
+  operation-keeps (operation.Copy segment) = no-space-keeps _
   operation-keeps (operation.Fill extent block) = no-space-keeps _
   operation-keeps (operation.Anchor extents) = no-space-keeps _
   operation-keeps (operation.AnchorExtent extent) = no-space-keeps _

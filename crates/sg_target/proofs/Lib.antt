@@ -18,9 +18,12 @@ mod InTurnLemmas
 mod EachExtentLemmas
 pub mod MovedLemmas
 pub mod OrWriteLemmas
+pub mod CopyLemmas
+pub mod CopyingLemmas
 pub mod CommandLemmas
 mod NamedBlocksLemmas
 mod OrWriteLawLemmas
+mod CopyLawLemmas
 mod WrittenBlocksLemmas
 mod EmptyingLemmas
 mod JoiningLemmas

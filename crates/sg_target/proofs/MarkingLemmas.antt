@@ -1,7 +1,9 @@
 -- Only WRITE LONG marks a block as bad.
 use Rattle.std.proofs.Common.{◌≡◌, ℕ, List, Bool, true, false, Option, Some, None, Result, Ok, Err}
 use Rattle.std.proofs.Common.{refl, sym, ap, ◌∙◌, not, ◌&&◌, ◌==◌, cond, if◌then◌else◌}
+use Rattle.std.specs.Option.{option_map_or}
 use Rattle.std.specs.Prelude.{is_some, ok_or}
+use Rattle.sg_copy.specs.declared.copy_list.Segment.{Segment}
 use Rattle.sg_wire.specs.CdbDecoding.{command_in}
 use Rattle.sg_wire.specs.FirstBytes.{first_bytes}
 use Rattle.sg_wire.specs.Profile.{rules_of}
@@ -21,6 +23,7 @@ use Rattle.sg_target.specs.Armed.{Attempt, fault_by, marked_by, with_room}
 use Rattle.sg_target.specs.Checks.{checked_cdb}
 use Rattle.sg_target.specs.Config.{ConfigFields}
 use Rattle.sg_target.specs.Demands.{demands, extent, takes, too_long, unmap_extent, unmap_extents}
+use Rattle.sg_target.specs.CopyRequest.{copy_asked, list_asked}
 use Rattle.sg_target.specs.Demands.{list_refusal, verify, verify_only}
 use Rattle.sg_target.specs.FaultLaws.{is_write_long}
 use Rattle.sg_target.specs.PrimaryCommands.{inquiry_page}
@@ -30,7 +33,8 @@ use Rattle.sg_target.specs.Refusal.{or_refused, unless_refused, when_sound}
 use Rattle.sg_target.specs.ReservationCommands.{fields_out}
 use Rattle.sg_target.specs.State.{State, config_of, profile_of}
 use Rattle.sg_target.specs.declared.operation.Operation.{Operation}
-use Rattle.sg_target.specs.declared.operation.Operation.TheVariants.{ChangeReservations, CompareEach, Fill}
+use Rattle.sg_target.specs.declared.operation.Operation.TheVariants.{ChangeReservations, CompareEach, Copy}
+use Rattle.sg_target.specs.declared.operation.Operation.TheVariants.{Fill, Nothing}
 use Rattle.sg_target.specs.declared.operation.Operation.TheVariants.{ReturnInquiry, ReturnLuns}
 use Rattle.sg_target.specs.declared.operation.Operation.TheVariants.{ReturnReport, UnmapAll}
 use Rattle.sg_target.specs.declared.refusal.Reason.TheVariants.{InsufficientResources, InvalidFieldInCdb}
@@ -79,6 +83,10 @@ verify-unmarked config check.DataOut extent byte data_out = refl
 verify-unmarked config check.OneBlock extent byte data_out =
     each-unmarked config extent byte (block_out data_out) (extent.count == 0)
 
+copy-unmarked : (segment : Option Segment) → fault_by (option_map_or Copy segment Nothing) ≡ None
+copy-unmarked (Some segment) = refl
+copy-unmarked None = refl
+
 format-unmarked : (refused : Option Refusal) (blocks : ℕ)
     → marked_by (unless_refused refused (Ok (UnmapAll blocks))) ≡ None
 format-unmarked None blocks = refl
@@ -98,6 +106,9 @@ unmarked config (command.Verify12 c) data_out other =
     verify-unmarked config c.byte_check (extent c.extent.lba c.extent.count) 6 data_out
 unmarked config (command.Verify16 c) data_out other =
     verify-unmarked config c.byte_check (extent c.extent.lba c.extent.count) 10 data_out
+unmarked config (command.ExtendedCopy c) data_out other =
+    sound-unmarked (list_asked config (first_bytes c.list_length data_out)) copy_asked
+    (λ list. copy-unmarked list.segment)
 unmarked config (command.LogSense c) data_out other =
     sound-unmarked
     (or_refused (λ byte. CheckCondition (InvalidFieldInCdb byte))

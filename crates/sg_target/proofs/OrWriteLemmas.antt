@@ -1,4 +1,4 @@
--- ORWRITE block by block.
+-- ORWRITE block by block, and what EXTENDED COPY has in common with it.
 use Rattle.std.proofs.Common.{◌≡◌, ◌↔◌, ◌≤◌, ◌<◌, ℕ, ◌+◌, ◌-◌, zero, suc, List, [], ◌∷◌, ◌++◌, length}
 use Rattle.std.proofs.Common.{get_or, min, bit_or, zip, true, false, cond, Option, Some, None}
 use Rattle.std.proofs.Common.{Result, Ok, Err, IsErr, OnOk, is_ok, refl, sym, ap, ap₂, subst, ◌∙◌, arith}
@@ -9,7 +9,8 @@ use Rattle.std.proofs.lemmas.Slice.Zip.{length-zip}
 use Rattle.std.specs.Cmp.{nat_cmp_total}
 use Rattle.std.specs.FinMap.{get, len, same_map, nat_cmp-IsAntisymmetric}
 use Rattle.std.specs.List.{flat_map, range_with_len}
-use Rattle.std.specs.Prelude.{is_none}
+use Rattle.std.specs.Prelude.{if◌then◌else◌, is_none}
+use Rattle.sg_wire.specs.declared.extent.Extent.{Extent}
 use Rattle.sg_store.specs.Disk.{Contents, Disk, IsOverfull, IsWellFormed, Mapping, block, block_at, blocks}
 use Rattle.sg_store.specs.Disk.{data_in, disk_replaced, lies_in, max_pool, need, remapped, replaced}
 use Rattle.sg_store.specs.Disk.{zero_block}
@@ -22,8 +23,9 @@ use Rattle.sg_target.specs.Anchoring.{CostsOnOk}
 use Rattle.sg_target.specs.BlockCommands.{BlocksOutFields, or_bytes, ored_block}
 use Rattle.sg_target.specs.Charge.{CostBounds, IsCounted, IsWithinPrice, least_over}
 use Rattle.sg_target.specs.Demands.{extent}
-use Rattle.sg_target.specs.OrWriting.{CountsBlock, block_filled, disk_ored}
-use Rattle.sg_target.specs.Ranges.{Range, block_ranges, counted_range, or_write_ranges, range}
+use Rattle.sg_target.specs.Effect.{no_space}
+use Rattle.sg_target.specs.BlockByBlock.{CountsBlock, block_filled}
+use Rattle.sg_target.specs.Ranges.{Range, block_ranges, counted_range, range}
 use Rattle.sg_target.proofs.ChargingLemmas.{counted-more}
 use Rattle.sg_target.proofs.Space.{space-unless}
 
@@ -157,32 +159,35 @@ module _ (bounds : CostBounds) where
   ChargesOne disk lba before after =
       Charged disk.pool (bounds.price disk.contents lba 1) (bounds.least disk.contents lba 1) before after
 
-  -- a block is read, and then written
-  pub twice : (disk between : Disk) (lba : ℕ) (over : List Range) (before first middle last : Meter)
-      → between ≡ disk → ChargesOne disk lba first middle → ChargesOne between lba middle last
+  -- a block is read, and then one is written
+  pub twice : (disk between : Disk) (source lba : ℕ) (over : List Range) (before first middle last : Meter)
+      → between ≡ disk → ChargesOne disk source first middle → ChargesOne between lba middle last
       → IsCounted bounds disk.pool over before first
       → IsCounted bounds disk.pool
-      (over ++ range disk.contents (extent lba 1) ∷ range disk.contents (extent lba 1) ∷ []) before last
-  twice disk between lba over before first middle last same read write counted =
+      (over ++ range disk.contents (extent source 1) ∷ range disk.contents (extent lba 1) ∷ []) before last
+  twice disk between source lba over before first middle last same read write counted =
+      let there = range disk.contents (extent source 1) in
       let here = range disk.contents (extent lba 1) in
       let written = subst (λ (d : Disk). ChargesOne d lba middle last) same write in
-      let once = counted-more bounds disk.pool over here before first middle counted read.cost
+      let once = counted-more bounds disk.pool over there before first middle counted read.cost
       read.price read.least in
       subst (λ (xs : List Range). IsCounted bounds disk.pool xs before last)
-      (append_assoc over (here ∷ []) (here ∷ []))
-      (counted-more bounds disk.pool (over ++ here ∷ []) here before middle last once written.cost
+      (append_assoc over (there ∷ []) (here ∷ []))
+      (counted-more bounds disk.pool (over ++ there ∷ []) here before middle last once written.cost
       written.price written.least)
 
-  pub counts : (disk between : Disk) (lba : ℕ) (first middle last : Meter)
-      → between ≡ disk → disk.pool ≤ max_pool → bounds.price disk.contents lba 1 ≤ 3
-      → ChargesOne disk lba first middle → ChargesOne between lba middle last
+  pub counts : (disk between : Disk) (source lba : ℕ) (first middle last : Meter)
+      → between ≡ disk → disk.pool ≤ max_pool → bounds.price disk.contents source 1 ≤ 3
+      → bounds.price disk.contents lba 1 ≤ 3
+      → ChargesOne disk source first middle → ChargesOne between lba middle last
       → CountsBlock first last
-  counts disk between lba first middle last same few price read write =
+  counts disk between source lba first middle last same few price_read price_written read write =
       let written = subst (λ (d : Disk). ChargesOne d lba middle last) same write in
       record {
         visits = omega (
           arith,
-          price,
+          price_read,
+          price_written,
           read.cost.visits,
           read.price,
           written.cost.visits,
@@ -190,6 +195,57 @@ module _ (bounds : CostBounds) where
         );
         probes = omega (arith, read.cost.probes, written.cost.probes);
         links = omega (arith, few, read.cost.links, written.cost.links);
+      }
+
+  -- before the first call nothing is counted
+  pub nothing-counted : (pool : ℕ) (m : Meter) → m.counts ≡ no_counts → IsCounted bounds pool [] m m
+  nothing-counted pool m e =
+      let visits = ap (λ (k : Counts). k.visits) e in
+      let probes = ap (λ (k : Counts). k.probes) e in
+      let links = ap (λ (k : Counts). k.links) e in
+      record {
+        charge = record {
+          visits = omega (arith, visits);
+          probes = omega (arith, probes);
+          links = omega (arith, links);
+          visited = omega (arith, visits);
+          restarts = refl;
+        };
+        least = omega arith;
+      }
+
+  -- with room, the blocks are counted, and then read and written in turn
+  pub counted-first : (before mid after : Disk) (blocks : Extent) (each : Contents → List Range)
+      (lba count : ℕ) (first between last : Meter)
+      → first.counts ≡ no_counts → lba ≡ blocks.lba → count ≡ blocks.count → mid ≡ before
+      → Charged before.pool (bounds.price before.contents lba count)
+      (bounds.least before.contents lba count) first between
+      → ((m : Meter) (over : List Range) → IsCounted bounds mid.pool over m between
+      → IsCounted bounds mid.pool (over ++ each mid.contents) m last)
+      → (IsOverfull after → ⊥)
+      → CostsOnOk {T = Unit {0}} {E = Space} (Ok tt) bounds before.pool
+      (counted_range before.contents blocks
+      ∷ (if is_none (no_space after) then each before.contents else [])) first last
+  counted-first before mid after blocks each lba count first between last none at many same need turn room =
+      let here = counted_range before.contents blocks in
+      let charged = subst (λ (n : ℕ). Charged before.pool (bounds.price before.contents blocks.lba n)
+      (bounds.least before.contents blocks.lba n) first between) many
+      (subst (λ (a : ℕ). Charged before.pool (bounds.price before.contents a count)
+      (bounds.least before.contents a count) first between) at need) in
+      let once = counted-more bounds before.pool [] here first first between
+      (nothing-counted before.pool first none)
+      charged.cost charged.price charged.least in
+      let more = subst (λ (d : Disk). (m : Meter) (over : List Range)
+      → IsCounted bounds d.pool over m between
+      → IsCounted bounds d.pool (over ++ each d.contents) m last) same turn in
+      let all = more first (here ∷ []) once in
+      let gone_over = ap (λ found. here ∷ cond (is_none found) (each before.contents) [])
+      (sym (space-unless after room)) in
+      record {
+        charge = subst (λ (xs : List Range). IsWithinPrice bounds before.pool xs first last) gone_over
+            all.charge;
+        least = subst (λ (xs : List Range). least_over bounds.least xs ≤ last.counts.visits) gone_over
+            all.least;
       }
 
   module _ (before : Disk) (out : BlocksOutFields) where
@@ -214,56 +270,6 @@ module _ (bounds : CostBounds) where
         (append_assoc over (each i) (block_ranges before.contents out i)
         ∙ ap (λ (xs : List Range). over ++ xs) (sym (each-more (block_ranges before.contents out) i)))
         there
-
-    -- before the first call nothing is counted
-    nothing : (m : Meter) → m.counts ≡ no_counts → IsCounted bounds before.pool [] m m
-    nothing m e =
-        let visits = ap (λ (k : Counts). k.visits) e in
-        let probes = ap (λ (k : Counts). k.probes) e in
-        let links = ap (λ (k : Counts). k.links) e in
-        record {
-          charge = record {
-            visits = omega (arith, visits);
-            probes = omega (arith, probes);
-            links = omega (arith, links);
-            visited = omega (arith, visits);
-            restarts = refl;
-          };
-          least = omega arith;
-        }
-
-    -- with room, the blocks are counted, and then read and written in turn
-    pub all-charged : (lba count : ℕ) (mid : Disk) (first between last : Meter)
-        → first.counts ≡ no_counts → lba ≡ out.extent.lba → count ≡ out.extent.count → mid ≡ before
-        → Charged before.pool (bounds.price before.contents lba count)
-        (bounds.least before.contents lba count) first between
-        → ((m : Meter) (over : List Range) → IsCounted bounds mid.pool over m between
-        → IsCounted bounds mid.pool
-        (over ++ flat_map (block_ranges mid.contents out) (range_with_len 0 out.extent.count)) m last)
-        → (IsOverfull (disk_ored before out) → ⊥)
-        → CostsOnOk {T = Unit {0}} {E = Space} (Ok tt) bounds before.pool (or_write_ranges before out)
-        first last
-    all-charged lba count mid first between last none at many same need turn room =
-        let here = counted_range before.contents out.extent in
-        let charged = subst (λ (n : ℕ). Charged before.pool (bounds.price before.contents out.extent.lba n)
-        (bounds.least before.contents out.extent.lba n) first between) many
-        (subst (λ (a : ℕ). Charged before.pool (bounds.price before.contents a count)
-        (bounds.least before.contents a count) first between) at need) in
-        let once = counted-more bounds before.pool [] here first first between (nothing first none)
-        charged.cost charged.price charged.least in
-        let more = subst (λ (d : Disk). (m : Meter) (over : List Range)
-        → IsCounted bounds d.pool over m between → IsCounted bounds d.pool
-        (over ++ flat_map (block_ranges d.contents out) (range_with_len 0 out.extent.count)) m last)
-        same turn in
-        let all = more first (here ∷ []) once in
-        let gone_over = ap (λ found. here ∷ cond (is_none found) (each out.extent.count) [])
-        (sym (space-unless (disk_ored before out) room)) in
-        record {
-          charge = subst (λ (xs : List Range). IsWithinPrice bounds before.pool xs first last) gone_over
-              all.charge;
-          least = subst (λ (xs : List Range). least_over bounds.least xs ≤ last.counts.visits) gone_over
-              all.least;
-        }
 
 -- ---- blocks of a disk have their length
 

@@ -129,6 +129,7 @@ module _ (law : RemappingTakesWhatIsNeeded) (addresses : UnmapsEachAddress)
   operation-keeps state i (operation.CompareAndWrite exchange) h =
       λ none. fits _ (exchange-none _ _ none)
   operation-keeps state i (operation.OrWrite out) h = fits _
+  operation-keeps state i (operation.Copy segment) h = fits _
   operation-keeps state i (operation.Fill extent block) h = fits _
   operation-keeps state i (operation.Anchor extents) h = fits _
   operation-keeps state i (operation.AnchorExtent extent) h = fits _

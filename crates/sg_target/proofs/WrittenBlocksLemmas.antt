@@ -1,7 +1,10 @@
 -- The blocks that commands write.
 use Rattle.std.proofs.Common.{◌≡◌, ℕ, ◌==◌, Bool, true, false, cond, List, [], ◌∷◌}
 use Rattle.std.proofs.Common.{Option, Some, None, Result, Ok, Err, refl, sym, ap, ◌∙◌, subst}
+use Rattle.std.specs.Option.{option_map_or}
 use Rattle.std.specs.Prelude.{◌||◌, if◌then◌else◌, ok_or}
+use Rattle.sg_copy.specs.declared.copy_list.CopyList.{CopyList}
+use Rattle.sg_copy.specs.declared.copy_list.Segment.{Segment}
 use Rattle.sg_wire.specs.FirstBytes.{first_bytes}
 use Rattle.sg_wire.specs.Profile.{rules_of}
 use Rattle.sg_wire.specs.SupportedOperations.{requested_report}
@@ -16,11 +19,12 @@ use Rattle.sg_store.specs.LbaStatus.{status_in}
 use Rattle.sg_pages.specs.BlockDescriptor.{logical_block_length}
 use Rattle.sg_pages.specs.Reports.{extended_header_asked, lists_unit, log_page_with}
 use Rattle.sg_pages.specs.declared.reports.Report.TheVariants as report
-use Rattle.sg_target.specs.BlockCommands.{ored_block}
+use Rattle.sg_target.specs.BlockCommands.{copied_block, destination_of, ored_block}
 use Rattle.sg_target.specs.CommandLaws.{CommandsWriteOnlyTheirBlocks, IsUntouched, blocks_written}
-use Rattle.sg_target.specs.CommandLaws.{sound_extents}
+use Rattle.sg_target.specs.CommandLaws.{segment_asked, sound_extents}
 use Rattle.sg_target.specs.Config.{ConfigFields}
 use Rattle.sg_target.specs.Demands.{demands, extent, extents_out, list_refusal, takes, too_long}
+use Rattle.sg_target.specs.CopyRequest.{copy_asked, list_asked}
 use Rattle.sg_target.specs.Demands.{unmap_extent, unmap_extents, verify, verify_only}
 use Rattle.sg_target.specs.Effect.{Effect, returning_up_to, with_contents}
 use Rattle.sg_target.specs.FaultLaws.{CommandsOverwriteTheirBlocks, overwritten, reads_first}
@@ -46,6 +50,7 @@ use Rattle.sg_target.proofs.OrWriteLawLemmas.{replaced-at}
 
 -- the blocks that an operation writes
 abbrev written_by : Operation → List Extent
+written_by (operation.Copy segment) = destination_of segment ∷ []
 written_by o = cond (medium_use o).writes (medium_use o).extents []
 
 -- an operation, if a command asks for one, writes these blocks, and overwrites them or none
@@ -93,6 +98,18 @@ format-writes : (refused : Option Refusal) (blocks : ℕ)
 format-writes None blocks = (refl, refl)
 format-writes (Some refusal) blocks = tt
 
+segment-writes : (segment : Option Segment)
+    → WritesThese (Ok (option_map_or operation.Copy segment operation.Nothing)) true
+    (option_map_or (λ segment. destination_of segment ∷ []) segment [])
+segment-writes (Some segment) = (refl, refl)
+segment-writes None = (refl, refl)
+
+copy-writes : (found : Result CopyList Refusal)
+    → WritesThese (when_sound found copy_asked) true
+    (option_map_or (λ segment. destination_of segment ∷ []) (segment_asked found) [])
+copy-writes (Ok list) = segment-writes list.segment
+copy-writes (Err refusal) = tt
+
 writes-these : (config : ConfigFields) (c : Command) (data_out : List ℕ)
     → WritesThese (demands config c data_out).operation (reads_first (Ok c))
     (blocks_written config (Ok c) data_out)
@@ -107,6 +124,8 @@ writes-these config (command.Verify12 c) data_out =
     verify-none config c.byte_check (extent c.extent.lba c.extent.count) 6 data_out
 writes-these config (command.Verify16 c) data_out =
     verify-none config c.byte_check (extent c.extent.lba c.extent.count) 10 data_out
+writes-these config (command.ExtendedCopy c) data_out =
+    copy-writes (list_asked config (first_bytes c.list_length data_out))
 writes-these config (command.LogSense c) data_out =
     sound-none
     (or_refused (λ byte. CheckCondition (InvalidFieldInCdb byte))
@@ -209,6 +228,8 @@ module _ (law : RemappingTakesWhatIsNeeded) (unmapped : UnmapsEachExtent) (ancho
   by-operation (operation.Write out) h = replaced-apart out.extent (block_at out.bytes) h
   by-operation (operation.OrWrite out) h =
       replaced-apart out.extent (ored_block state.disk.contents out) h
+  by-operation (operation.Copy segment) h =
+      replaced-apart (destination_of segment) (copied_block state.disk.contents segment) h
   by-operation (operation.CompareAndWrite exchange) h =
       replaced-apart exchange.extent (block_at exchange.replacement) h
   by-operation (operation.Fill e block) h = replaced-apart e (λ index. block) h

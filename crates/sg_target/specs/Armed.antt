@@ -50,7 +50,8 @@ medium_of (Err refusal) = uses_no_block
 abbrev pub accessed : MediumUse → List Extent
 accessed used = if used.reads || used.writes then used.extents else []
 
--- It writes its blocks and does not read them first, as COMPARE AND WRITE and ORWRITE do.
+-- It writes its blocks and does not read them first, as COMPARE AND WRITE and ORWRITE do. EXTENDED COPY reads
+-- other blocks first.
 abbrev pub only_writes : MediumUse → Bool
 only_writes used = used.writes && not used.reads
 

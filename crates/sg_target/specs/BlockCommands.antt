@@ -2,6 +2,7 @@
 use Rattle.std.specs.Prelude.{ℕ, ◌+◌, ◌*◌, ◌/◌, ◌%◌, min, max, List, [], ◌∷◌, length, drop, map}
 use Rattle.std.specs.Prelude.{zip, bit_or, nat_lt, Option, Some, None, if◌then◌else◌}
 use Rattle.std.specs.Option.{option_map}
+use Rattle.sg_copy.specs.declared.copy_list.Segment.{Segment}
 use Rattle.sg_wire.specs.FirstBytes.{first_bytes}
 use Rattle.sg_wire.specs.declared.extent.Extent.{Extent}
 use Rattle.sg_store.specs.Comparison.{first_difference, repeated}
@@ -69,6 +70,26 @@ ored contents out =
 
 abbrev pub or_writing : State → BlocksOutFields → Effect
 or_writing state out = storing state (ored state.disk.contents out)
+
+-- The blocks that an EXTENDED COPY reads, and those that it writes.
+abbrev pub source_of : Segment → Extent
+source_of segment = record { lba = segment.source; count = segment.blocks }
+
+abbrev pub destination_of : Segment → Extent
+destination_of segment = record { lba = segment.destination; count = segment.blocks }
+
+-- EXTENDED COPY replaces each block of its destination by what the block of its source had before the command
+-- (SPC-4, 6.5). A block that is not mapped is copied as zeros.
+-- Choice (SPC-4, 6.5): blocks that overlap, or that are not mapped, may be copied otherwise.
+abbrev pub copied_block : Contents → Segment → (index : ℕ) → List ℕ
+copied_block contents segment index = block contents (segment.source + index)
+
+abbrev pub copied : Contents → Segment → Contents
+copied contents segment =
+    replaced contents segment.destination segment.blocks (copied_block contents segment)
+
+abbrev pub copying : State → Segment → Effect
+copying state segment = storing state (copied state.disk.contents segment)
 
 -- ---- Comparing
 

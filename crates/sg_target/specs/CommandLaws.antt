@@ -3,8 +3,11 @@ use Rattle.std.specs.FinMap.{len}
 use Rattle.std.specs.Int.{bit_at}
 use Rattle.std.specs.Prelude.{◌≡◌, ◌≢◌, ◌≤◌, ℕ, ◌+◌, ◌-◌, ◌==◌, ◌||◌, Bool, true, false}
 use Rattle.std.specs.Prelude.{if◌then◌else◌}
+use Rattle.std.specs.Option.{option_map_or}
 use Rattle.std.specs.Prelude.{List, [], ◌∷◌, length, slice_index_or}
 use Rattle.std.specs.Prelude.{Option, Some, None, Result, Ok, Err}
+use Rattle.sg_copy.specs.declared.copy_list.CopyList.{CopyList}
+use Rattle.sg_copy.specs.declared.copy_list.Segment.{Segment}
 use Rattle.sg_wire.specs.FirstBytes.{first_bytes}
 use Rattle.sg_wire.specs.CdbDecoding.{command_of}
 use Rattle.sg_wire.specs.UnmapList.{unmap_list}
@@ -22,8 +25,10 @@ use Rattle.sg_wire.specs.declared.lba_status.ProvisioningStatus.TheVariants.{Map
 use Rattle.sg_wire.specs.declared.lba_status.ProvisioningStatus.TheVariants.{Anchored}
 use Rattle.sg_target.specs.Alerts.{alerted}
 use Rattle.sg_target.specs.Checks.{checked_effect}
+use Rattle.sg_target.specs.BlockCommands.{destination_of}
 use Rattle.sg_target.specs.Config.{ConfigFields}
 use Rattle.sg_target.specs.DataOut.{moved}
+use Rattle.sg_target.specs.CopyRequest.{list_asked}
 use Rattle.sg_target.specs.Demands.{extent, extents_out}
 use Rattle.sg_target.specs.Effect.{Effect, with_contents}
 use Rattle.sg_target.specs.Laws.{lies_in_any}
@@ -249,6 +254,29 @@ FormatsEmptyTheDisk =
     → empties_disk (command_of cdb) ≡ true → EndsWithGood state initiator cdb data_out
     → IsEmptied initiator state (step state initiator cdb data_out).state
 
+-- ---- EXTENDED COPY (SPC-4, 6.5)
+
+-- The segment of a list, if the list is sound and has one.
+abbrev pub segment_asked : Result CopyList Refusal → Option Segment
+segment_asked (Ok list) = list.segment
+segment_asked (Err refusal) = None
+
+abbrev pub segment_to_copy : ConfigFields → Result Command CdbFault → (data_out : List ℕ) → Option Segment
+segment_to_copy config (Ok (command.ExtendedCopy c)) data_out =
+    segment_asked (list_asked config (first_bytes c.list_length data_out))
+segment_to_copy config _ data_out = None
+
+-- Each block of the destination has what the block of the source had before the command, and is mapped.
+-- Nothing more has changed, unless the command has crossed a threshold.
+abbrev pub CopiesCopyTheirBlocks : Type 0
+CopiesCopyTheirBlocks =
+    (state : State) (initiator : ℕ) (cdb data_out : List ℕ) (segment : Segment)
+    → segment_to_copy (config_of state) (command_of cdb) data_out ≡ Some segment
+    → EndsWithGood state initiator cdb data_out
+    → Changes initiator state (step state initiator cdb data_out).state
+    (lies_in segment.destination segment.blocks) Mapped
+    (λ address. block state.disk.contents (segment.source + (address - segment.destination)))
+
 -- ---- All commands
 
 -- The extents of a list, if it is sound.
@@ -261,6 +289,9 @@ sound_extents (Err refusal) = []
 -- the data. `moved` says what becomes of a WRITE and an ORWRITE with too little data-out.
 abbrev pub blocks_written : ConfigFields → Result Command CdbFault → (data_out : List ℕ) → List Extent
 blocks_written config (Ok (command.CompareAndWrite c)) data_out = extent c.lba c.count ∷ []
+blocks_written config (Ok (command.ExtendedCopy c)) data_out =
+    option_map_or (λ segment. destination_of segment ∷ [])
+    (segment_to_copy config (Ok (command.ExtendedCopy c)) data_out) []
 blocks_written config (Ok (command.FormatUnit c)) data_out = extent 0 config.blocks ∷ []
 blocks_written config (Ok (command.OrWrite16 c)) data_out =
     moved config (extent c.lba c.count) data_out ∷ []

@@ -8,6 +8,7 @@ use Rattle.sg_wire.specs.declared.command.CdbFault.{CdbFault}
 use Rattle.sg_wire.specs.declared.command.Command.{Command}
 use Rattle.sg_wire.specs.declared.command.Command.TheVariants as command
 use Rattle.sg_wire.specs.Profile.{rules_of}
+use Rattle.sg_wire.specs.declared.command.copy.ExtendedCopy.{ExtendedCopy}
 use Rattle.sg_wire.specs.declared.command.block.WriteAtomic16.{WriteAtomic16}
 use Rattle.sg_wire.specs.declared.command.block.WriteLong10.{WriteLong10}
 use Rattle.sg_wire.specs.declared.command.diagnostic.LogSense.{LogSense}
@@ -27,8 +28,7 @@ use Rattle.sg_wire.specs.declared.profile.Profile.{Profile}
 use Rattle.sg_wire.specs.declared.command.reservation.PersistentReserveOut.{PersistentReserveOut}
 use Rattle.sg_wire.specs.declared.command.verify.CompareAndWrite.{CompareAndWrite}
 use Rattle.sg_wire.specs.declared.command.verify.ByteCheck.{ByteCheck}
-use Rattle.sg_wire.specs.declared.command.verify.ByteCheck.TheVariants.{Nothing, DataOut}
-use Rattle.sg_wire.specs.declared.command.verify.ByteCheck.TheVariants.{Reserved, OneBlock}
+use Rattle.sg_wire.specs.declared.command.verify.ByteCheck.TheVariants.{DataOut, Nothing, OneBlock, Reserved}
 use Rattle.sg_wire.specs.FirstBytes.{first_bytes}
 use Rattle.sg_wire.specs.declared.extent.Extent.{Extent}
 use Rattle.sg_target.specs.BlockCommands.{BlocksOutFields, blocks_out, bytes_of, exchange_out}
@@ -37,6 +37,7 @@ use Rattle.sg_pages.specs.Reports.{extended_header_asked, lists_unit, log_page_w
 use Rattle.sg_pages.specs.declared.reports.Report.{Report}
 use Rattle.sg_pages.specs.declared.reports.Report.TheVariants as report
 use Rattle.sg_target.specs.Config.{ConfigFields, limits_for}
+use Rattle.sg_target.specs.CopyRequest.{copy_asked, list_asked}
 use Rattle.sg_target.specs.DataOut.{DataOutNeed, blocks_need, moved, need}
 use Rattle.sg_target.specs.FormatList.{header_length, header_refusal}
 use Rattle.sg_target.specs.ModeCommands.{bad_page_format}
@@ -129,6 +130,12 @@ log_sense c =
 abbrev pub bad_self_test : SendDiagnostic → Option ℕ
 bad_self_test c =
     if c.code == 0 then (if c.list_length == 0 then None else Some 3) else Some 1
+
+-- EXTENDED COPY takes its parameter list, and copies the blocks of the segment descriptor if there is one.
+abbrev pub extended_copy : ConfigFields → ExtendedCopy → (data_out : List ℕ) → Demands
+extended_copy config c data_out =
+    takes config c.list_length None
+    (when_sound (list_asked config (first_bytes c.list_length data_out)) copy_asked)
 
 abbrev pub mode_select : ConfigFields → CdbWidth → (pf sp : Bool) (list_length : ℕ)
     (data_out : List ℕ) → Demands
@@ -406,6 +413,9 @@ demands config (command.ReportSupportedTaskManagementFunctions c) data_out =
 demands config (command.ReportTargetPortGroups c) data_out = report_port_groups c
 demands config (command.SendDiagnostic c) data_out =
     takes_no_data (bad_self_test c) (Ok operation.Nothing)
+demands config (command.ExtendedCopy c) data_out = extended_copy config c data_out
+demands config (command.ReceiveCopyOperatingParameters c) data_out =
+    reports None report.CopyParameters c.allocation_length
 demands config (command.CompareAndWrite c) data_out = compare_and_write c data_out
 demands config (command.FormatUnit c) data_out = format_unit config c data_out
 demands config (command.OrWrite16 c) data_out =
@@ -415,12 +425,9 @@ demands config (command.PreFetch10 c) data_out =
 demands config (command.PreFetch16 c) data_out =
     asks (operation.PreFetch (reached config c.lba c.count))
 demands config (command.Read6 short) data_out = read (extent short.0 short.1) None
-demands config (command.Read10 c) data_out =
-    read (extent c.lba c.count) (too_long config c.count 7)
-demands config (command.Read12 c) data_out =
-    read (extent c.lba c.count) (too_long config c.count 6)
-demands config (command.Read16 c) data_out =
-    read (extent c.lba c.count) (too_long config c.count 10)
+demands config (command.Read10 c) data_out = read (extent c.lba c.count) (too_long config c.count 7)
+demands config (command.Read12 c) data_out = read (extent c.lba c.count) (too_long config c.count 6)
+demands config (command.Read16 c) data_out = read (extent c.lba c.count) (too_long config c.count 10)
 demands config (command.Write6 short) data_out = write config (extent short.0 short.1) None data_out
 demands config (command.Write10 c) data_out =
     write config (extent c.lba c.count) (too_long config c.count 7) data_out

@@ -178,10 +178,11 @@ overwritten (Anchor extents) = extents
 overwritten (AnchorExtent extent) = extent ∷ []
 overwritten _ = []
 
--- COMPARE AND WRITE and ORWRITE read their blocks first.
+-- COMPARE AND WRITE and ORWRITE read their blocks first, and EXTENDED COPY reads its source.
 abbrev pub reads_first : Result Command CdbFault → Bool
 reads_first (Ok (command.CompareAndWrite c)) = true
 reads_first (Ok (command.OrWrite16 c)) = true
+reads_first (Ok (command.ExtendedCopy c)) = true
 reads_first _ = false
 
 -- So each other command that writes blocks overwrites them, and no command overwrites other blocks.

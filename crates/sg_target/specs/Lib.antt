@@ -1,10 +1,12 @@
 -- Modules that public contracts cite. Read them in this order.
 pub mod Config
+pub mod CopyRequest
 pub mod State
 pub mod NewState
 pub mod Effect
 pub mod Refusal
 pub mod PrimaryCommands
+pub mod BlockByBlock
 pub mod BlockCommands
 pub mod ProvisioningCommands
 pub mod ModeCommands
@@ -40,5 +42,4 @@ pub mod Extents
 pub mod AccessedBlocks
 pub mod Joining
 pub mod Anchoring
-pub mod OrWriting
 pub mod MadeReplies

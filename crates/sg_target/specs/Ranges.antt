@@ -1,13 +1,16 @@
 -- The ranges of blocks that a command goes over. They say what it costs, and not what it means.
 use Rattle.std.specs.List.{flat_map, range_with_len}
-use Rattle.std.specs.Prelude.{ℕ, ◌+◌, List, [], ◌∷◌, ◌++◌, Bool, false, true, map, Result, Ok, Err}
+use Rattle.std.specs.Prelude.{ℕ, ◌+◌, ◌-◌, nat_le, List, [], ◌∷◌, ◌++◌, Bool, false, true, map}
+use Rattle.std.specs.Prelude.{Result, Ok, Err}
 use Rattle.std.specs.Prelude.{if◌then◌else◌, is_none}
+use Rattle.sg_copy.specs.declared.copy_list.Segment.{Segment}
 use Rattle.sg_wire.specs.declared.extent.Extent.{Extent}
 use Rattle.sg_store.specs.Comparison.{first_difference}
 use Rattle.sg_store.specs.Disk.{Contents, Disk, anchored, replaced, unmapped}
 use Rattle.sg_store.specs.LbaStatus.{covered, lba_status}
 use Rattle.sg_target.specs.Armed.{Armed, attempt_of}
-use Rattle.sg_target.specs.BlockCommands.{BlocksOutFields, ExchangeFields, blocks_at, ored, ored_block}
+use Rattle.sg_target.specs.BlockCommands.{BlocksOutFields, ExchangeFields, blocks_at, copied, copied_block}
+use Rattle.sg_target.specs.BlockCommands.{destination_of, ored, ored_block}
 use Rattle.sg_target.specs.Demands.{extent}
 use Rattle.sg_target.specs.Effect.{no_space}
 use Rattle.sg_target.specs.ProvisioningCommands.{Change, changed_in_turn}
@@ -15,7 +18,7 @@ use Rattle.sg_target.specs.State.{State}
 use Rattle.sg_target.specs.declared.operation.Operation.{Operation}
 use Rattle.sg_target.specs.declared.operation.Operation.TheVariants.{Anchor, AnchorExtent, Fill, Read}
 use Rattle.sg_target.specs.declared.operation.Operation.TheVariants.{Compare, CompareAndWrite}
-use Rattle.sg_target.specs.declared.operation.Operation.TheVariants.{CompareEach, OrWrite}
+use Rattle.sg_target.specs.declared.operation.Operation.TheVariants.{CompareEach, Copy, OrWrite}
 use Rattle.sg_target.specs.declared.operation.Operation.TheVariants.{ReturnLbaStatus, Unmap}
 use Rattle.sg_target.specs.declared.operation.Operation.TheVariants.{UnmapAll, UnmapExtent, Write}
 use Rattle.sg_target.specs.declared.refusal.Refusal.{Refusal}
@@ -83,6 +86,39 @@ or_write_ranges disk out =
     let each = flat_map (block_ranges disk.contents out) (range_with_len 0 out.extent.count) in
     counted_range disk.contents out.extent ∷ (if is_none (no_space after) then each else [])
 
+-- EXTENDED COPY copies its first block first, or its last one if the destination is above the source. So it
+-- reads each block before it overwrites it. `done` blocks have been copied before.
+abbrev pub copies_forwards : Segment → Bool
+copies_forwards segment = nat_le segment.destination segment.source
+
+abbrev pub next_copied : Segment → (done : ℕ) → ℕ
+next_copied segment done = if copies_forwards segment then done else segment.blocks - 1 - done
+
+abbrev pub first_done : Segment → (done : ℕ) → ℕ
+first_done segment done = if copies_forwards segment then 0 else segment.blocks - done
+
+abbrev pub copied_so_far : Contents → Segment → (done : ℕ) → Contents
+copied_so_far contents segment done =
+    let first = first_done segment done in
+    replaced contents (segment.destination + first) done
+    (λ index. copied_block contents segment (first + index))
+
+-- Each step reads a block, and then writes it.
+abbrev pub step_ranges : Contents → Segment → (done : ℕ) → List Range
+step_ranges contents segment done =
+    let index = next_copied segment done in
+    let so_far = copied_so_far contents segment done in
+    range so_far (extent (segment.source + index) 1)
+    ∷ range so_far (extent (segment.destination + index) 1) ∷ []
+
+-- It first counts the blocks of the pool that its destination needs. It copies if the pool has room for them.
+abbrev pub copy_ranges : Disk → Segment → List Range
+copy_ranges disk segment =
+    let after = record disk { contents = copied disk.contents segment } in
+    let each = flat_map (step_ranges disk.contents segment) (range_with_len 0 segment.blocks) in
+    counted_range disk.contents (destination_of segment)
+    ∷ (if is_none (no_space after) then each else [])
+
 -- The ranges of an operation, in order. An operation that is not named here goes over none.
 abbrev pub ranges_of : State → Operation → List Range
 ranges_of state (Read extent) = range state.disk.contents extent ∷ []
@@ -91,6 +127,7 @@ ranges_of state (Compare out) = range state.disk.contents out.extent ∷ []
 ranges_of state (CompareEach extent block) = range state.disk.contents extent ∷ []
 ranges_of state (CompareAndWrite exchange) = exchange_ranges state exchange
 ranges_of state (OrWrite out) = or_write_ranges state.disk out
+ranges_of state (Copy segment) = copy_ranges state.disk segment
 ranges_of state (Fill extent block) = range state.disk.contents extent ∷ []
 ranges_of state (Unmap extents) = ranges_in_turn unmapped state.disk.contents extents
 ranges_of state (UnmapExtent extent) = ranges_in_turn unmapped state.disk.contents (extent ∷ [])

@@ -1,6 +1,7 @@
 -- Why a command is refused, and the sense data that reports it.
 use Rattle.std.specs.Prelude.{ℕ, List, [], ◌∷◌, Option, Some, None, Result, Ok, Err, Bool, true, false}
 use Rattle.std.specs.Result.{result_map_both}
+use Rattle.sg_copy.specs.CopyFaults.{copy_sense}
 use Rattle.sg_wire.specs.SenseData.{SenseFields}
 use Rattle.sg_wire.specs.SenseKey.{no_sense, not_ready, illegal_request, unit_attention, data_protect}
 use Rattle.sg_wire.specs.SenseKey.{aborted_command, miscompare}
@@ -23,7 +24,7 @@ use Rattle.sg_target.specs.declared.refusal.Reason.TheVariants.{InvalidRelease, 
 use Rattle.sg_target.specs.declared.refusal.Reason.TheVariants.{SpaceAllocationFailed, Fault}
 use Rattle.sg_target.specs.declared.refusal.Reason.TheVariants.{NotReady}
 use Rattle.sg_target.specs.declared.refusal.Reason.TheVariants.{SoftwareWriteProtected, WriteProtected}
-use Rattle.sg_target.specs.declared.refusal.Reason.TheVariants.{InvalidInformationUnit, Miscompare}
+use Rattle.sg_target.specs.declared.refusal.Reason.TheVariants.{Copy, InvalidInformationUnit, Miscompare}
 use Rattle.sg_target.specs.declared.refusal.Refusal.{Refusal}
 use Rattle.sg_target.specs.declared.refusal.Refusal.TheVariants.{CheckCondition}
 
@@ -61,6 +62,7 @@ sense_of WriteProtected = plain_sense data_protect 0x27 0x00
 sense_of SoftwareWriteProtected = plain_sense data_protect 0x27 0x02
 sense_of SpaceAllocationFailed = plain_sense data_protect 0x27 0x07
 sense_of (Miscompare offset) = record (plain_sense miscompare 0x1D 0x00) { information = Some offset }
+sense_of (Copy fault) = copy_sense fault
 sense_of (Fault code first_bad) = record (fault_sense code) { information = first_bad }
 
 -- The sense data of REQUEST SENSE: the oldest unit attention. Without one, it says that the unit is not

@@ -2,7 +2,8 @@
 use Rattle.std.specs.Prelude.{ℕ, List, [], ◌∷◌, Bool, true, false, nat_lt, Result, Ok}
 use Rattle.std.specs.List.{list_any}
 use Rattle.sg_wire.specs.declared.extent.Extent.{Extent}
-use Rattle.sg_target.specs.BlockCommands.{comparing, comparing_each, exchanging, or_writing, reading}
+use Rattle.sg_target.specs.BlockCommands.{comparing, comparing_each, copying, destination_of, exchanging}
+use Rattle.sg_target.specs.BlockCommands.{or_writing, reading, source_of}
 use Rattle.sg_target.specs.BlockCommands.{writing}
 use Rattle.sg_target.specs.Demands.{extent}
 use Rattle.sg_pages.specs.CapacityData.{capacity_10, capacity_16}
@@ -24,7 +25,7 @@ use Rattle.sg_target.specs.declared.operation.Operation.TheVariants.{ReturnCapac
 use Rattle.sg_target.specs.declared.operation.Operation.TheVariants.{Synchronize, Fill, Unmap}
 use Rattle.sg_target.specs.declared.operation.Operation.TheVariants.{MarkBad, PreFetch}
 use Rattle.sg_target.specs.declared.operation.Operation.TheVariants.{Verify, Compare, CompareEach}
-use Rattle.sg_target.specs.declared.operation.Operation.TheVariants.{CompareAndWrite, OrWrite}
+use Rattle.sg_target.specs.declared.operation.Operation.TheVariants.{CompareAndWrite, Copy, OrWrite}
 use Rattle.sg_target.specs.declared.operation.Operation.TheVariants.{ReturnLuns, ReturnReport}
 use Rattle.sg_target.specs.declared.operation.Operation.TheVariants.{UnmapExtent, ReturnLbaStatus}
 use Rattle.sg_target.specs.declared.operation.Operation.TheVariants.{UnmapAll}
@@ -64,7 +65,7 @@ reads_from extents = record (only_names extents) { reads = true }
 abbrev pub writes_to : List Extent → MediumUse
 writes_to extents = record (only_names extents) { writes = true }
 
--- COMPARE AND WRITE and ORWRITE do both.
+-- COMPARE AND WRITE, ORWRITE and EXTENDED COPY do both.
 abbrev pub exchanges : List Extent → MediumUse
 exchanges extents = record (reads_from extents) { writes = true }
 
@@ -92,6 +93,7 @@ medium_use (Compare out) = reads_from (out.extent ∷ [])
 medium_use (CompareEach extent block) = reads_from (extent ∷ [])
 medium_use (CompareAndWrite exchange) = exchanges (exchange.extent ∷ [])
 medium_use (OrWrite out) = exchanges (out.extent ∷ [])
+medium_use (Copy segment) = exchanges (source_of segment ∷ destination_of segment ∷ [])
 medium_use (PreFetch extent) = only_names (extent ∷ [])
 medium_use (Synchronize extent) = only_names (extent ∷ [])
 medium_use (Fill extent block) = writes_to (extent ∷ [])
@@ -136,6 +138,7 @@ effect_of state i (Compare out) = Ok (comparing state out)
 effect_of state i (CompareEach extent block) = Ok (comparing_each state extent block)
 effect_of state i (CompareAndWrite exchange) = Ok (exchanging state exchange)
 effect_of state i (OrWrite out) = Ok (or_writing state out)
+effect_of state i (Copy segment) = Ok (copying state segment)
 effect_of state i (PreFetch extent) = Ok (no_effect state)
 effect_of state i (Synchronize extent) = Ok (no_effect state)
 effect_of state i (Fill extent block) = Ok (filling state extent block)

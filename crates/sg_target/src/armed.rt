@@ -90,6 +90,7 @@ impl<'a> Operation<'a> {
             Operation::Write(blocks) | Operation::Compare(blocks) | Operation::OrWrite(blocks) =>
                 one_extent(blocks.extent),
             Operation::CompareAndWrite(exchange) => one_extent(exchange.extent),
+            Operation::Copy(blocks) => two_extents(blocks.source(), blocks.destination()),
             Operation::Verify(extent)
             | Operation::CompareEach { extent, .. }
             | Operation::Fill { extent, .. }
@@ -136,6 +137,15 @@ fn one_extent(extent: Extent) -> AccessedBlocks
 {
     let mut list = UnmapList::new();
     list.push(extent);
+    AccessedBlocks::Extents(list)
+}
+
+fn two_extents(first: Extent, second: Extent) -> AccessedBlocks
+    ensures { extents_in result ≡ first ∷ second ∷ [] }
+{
+    let mut list = UnmapList::new();
+    list.push(first);
+    list.push(second);
     AccessedBlocks::Extents(list)
 }
 
@@ -194,7 +204,7 @@ fn seen<'a>(
     ensures { result ≡ seen initiator cdb.now checked.now }
 {
     let writes = match checked {
-        Ok(Operation::CompareAndWrite(_) | Operation::OrWrite(_)) => false,
+        Ok(Operation::CompareAndWrite(_) | Operation::OrWrite(_) | Operation::Copy(_)) => false,
         Ok(operation) => operation.medium_use(capacity).writes,
         Err(_) => false,
     };

@@ -66,6 +66,7 @@ fn needed_bytes(command: &Command) -> u64
         Command::ModeSelect10(fields) => u64::from(fields.list_length),
         Command::PersistentReserveOut(fields) => u64::from(fields.list_length),
         Command::Unmap(fields) => u64::from(fields.list_length),
+        Command::ExtendedCopy(fields) => u64::from(fields.list_length),
         Command::FormatUnit(fields) => list_bytes(fields),
         Command::CompareAndWrite(fields) => {
             2 * byte_length(blocks_from(fields.lba, u32::from(fields.count)))

@@ -2,7 +2,7 @@
 //! whose laws it follows from.
 ghost use Rattle.sg_target.specs.AlertLaws.{CrossingsAreReported};
 ghost use Rattle.sg_target.specs.CommandLaws.{CommandsWriteOnlyTheirBlocks, FormatsEmptyTheDisk};
-ghost use Rattle.sg_target.specs.CommandLaws.{OrWritesSetTheBitsOfTheirData};
+ghost use Rattle.sg_target.specs.CommandLaws.{CopiesCopyTheirBlocks, OrWritesSetTheBitsOfTheirData};
 ghost use Rattle.sg_target.specs.CommandLaws.{ReadsReturnTheirBlocks, UnmapsFollowTheirLists};
 ghost use Rattle.sg_target.specs.CommandLaws.{WriteSamesLeaveTheirBlock, WritesLeaveTheirData};
 ghost use Rattle.sg_target.specs.CommandLaws.{WritesNameBlocksOfTheDisk};
@@ -158,6 +158,14 @@ pub fn writes_over_used_addresses_have_space()
 /// ORWRITE has crossed a threshold. With too little data-out they are the blocks that data-out has in full.
 pub fn or_writes_set_the_bits_of_their_data()
     ensures { OrWritesSetTheBitsOfTheirData }
+{
+    sg_store::laws::remapping_takes_what_is_needed();
+}
+
+/// After an EXTENDED COPY that ends with GOOD each block of its destination has what the block of its source
+/// had before. The blocks are mapped, and nothing more has changed, unless the copy has crossed a threshold.
+pub fn copies_copy_their_blocks()
+    ensures { CopiesCopyTheirBlocks }
 {
     sg_store::laws::remapping_takes_what_is_needed();
 }

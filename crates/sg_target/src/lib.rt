@@ -9,6 +9,7 @@ mod block;
 mod call;
 mod checks;
 mod config;
+mod copying;
 mod data_in;
 mod data_out;
 mod device_server;
@@ -40,6 +41,7 @@ mod write_long;
 
 pub use call::Call;
 pub use config::{Config, ConfigFault};
+pub use copying::CopiedBlocks;
 pub use device_server::DeviceServer;
 pub use event::Event;
 pub use executed::Executed;

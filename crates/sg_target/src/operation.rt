@@ -1,6 +1,6 @@
 // The operation that a command asks for, and its execution.
 ghost use Rattle.std.specs.Prelude.{◌≡◌, ◌≤◌, ◌∷◌, [], length, true, IfNone};
-ghost use Rattle.sg_wire.specs.Layout.{is_block_command};
+ghost use Rattle.sg_wire.specs.BlockCommand.{is_block_command};
 ghost use Rattle.sg_target.specs.Checks.{out_of_range, requested};
 ghost use Rattle.sg_target.specs.Demands.{demands};
 ghost use Rattle.sg_target.specs.Charge.{TakesStep, cost_bounds, step_before_alert};
@@ -17,8 +17,9 @@ use crate::block::{
     synchronize,
 };
 use crate::config::Config;
+use crate::copying::{CopiedBlocks, check_extended_copy};
 use crate::data_in::DataIn;
-use crate::extent::{all_past_capacity, one_block, past_capacity};
+use crate::extent::{all_past_capacity, first_past_capacity, one_block, past_capacity};
 use crate::format::{check_erase, check_exit_failure_mode, check_format_unit};
 use crate::mode::{
     ModeList, RequestedModes, check_mode_select_6, check_mode_select_10, check_mode_sense_6,
@@ -33,8 +34,9 @@ use crate::provisioning::{
 use crate::refusal::Refusal;
 use crate::reply::Reply;
 use crate::report::{
-    check_log_sense, check_operation_codes, check_read_defect_data_10, check_read_defect_data_12,
-    check_report_luns, check_send_diagnostic, check_target_port_groups, check_task_management,
+    check_log_sense, check_operating_parameters, check_operation_codes, check_read_defect_data_10,
+    check_read_defect_data_12, check_report_luns, check_send_diagnostic, check_target_port_groups,
+    check_task_management,
 };
 use crate::reservation::{check_reserve_in, check_reserve_out};
 use crate::start_stop::check_start_stop_unit;
@@ -121,6 +123,8 @@ pub enum Operation<'a> {
     CompareAndWrite(Exchange<'a>),
     /// Sets bits of blocks: ORWRITE.
     OrWrite(BlocksOut<'a>),
+    /// Copies blocks to others: EXTENDED COPY.
+    Copy(CopiedBlocks),
     /// Asks for blocks to be read into a cache, which the disk lacks: PRE-FETCH.
     PreFetch(Extent),
     /// Asks for blocks to be written through, which they are.
@@ -206,6 +210,10 @@ impl<'a> Operation<'a> {
             Operation::Write(blocks) | Operation::OrWrite(blocks) => {
                 (past_capacity(blocks.extent, capacity), true)
             }
+            Operation::Copy(blocks) => {
+                let extents = [blocks.source(), blocks.destination()];
+                (first_past_capacity(&extents, capacity), true)
+            }
             Operation::Fill { extent, .. }
             | Operation::UnmapExtent(extent)
             | Operation::AnchorExtent(extent) => (past_capacity(*extent, capacity), true),
@@ -255,6 +263,7 @@ impl<'a> Operation<'a> {
         match self {
             Operation::Write(blocks) | Operation::OrWrite(blocks) => blocks.extent.count > 0,
             Operation::CompareAndWrite(exchange) => exchange.extent.count > 0,
+            Operation::Copy(blocks) => blocks.source().count > 0,
             Operation::Fill { extent, .. }
             | Operation::UnmapExtent(extent)
             | Operation::AnchorExtent(extent) => extent.count > 0,
@@ -289,6 +298,10 @@ pub(crate) fn operation_of<'a>(
         Command::ReportSupportedTaskManagementFunctions(fields) => check_task_management(fields),
         Command::ReportTargetPortGroups(fields) => check_target_port_groups(fields),
         Command::SendDiagnostic(fields) => check_send_diagnostic(fields),
+        Command::ExtendedCopy(fields) => check_extended_copy(config, fields, data_out),
+        Command::ReceiveCopyOperatingParameters(fields) => {
+            Ok(check_operating_parameters(fields))
+        }
         Command::PersistentReserveIn(fields) => Ok(check_reserve_in(fields)),
         Command::PersistentReserveOut(fields) => check_reserve_out(config, fields, data_out),
         // Here, too, so that READ(10) does not pay for the other block commands.
@@ -385,6 +398,7 @@ impl<S: Store> Target<S> {
             }
             Operation::CompareAndWrite(blocks) => self.compare_and_write(initiator, blocks, buf),
             Operation::OrWrite(blocks) => self.or_write(initiator, blocks, buf),
+            Operation::Copy(blocks) => self.copy(initiator, blocks, buf),
             Operation::Fill { extent, block } => self.fill(initiator, *extent, block, buf),
             Operation::Unmap(extents) => self.unmap_listed(extents, buf),
             Operation::UnmapExtent(extent) => self.unmap(&[*extent], buf),

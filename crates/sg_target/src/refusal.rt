@@ -1,4 +1,5 @@
 // The refusals of commands, and the one place that makes their sense data.
+use sg_copy::CopyFault;
 use sg_faults::SenseCode;
 use sg_units::UnitAttention;
 use sg_wire::{CdbFault, Pointer, Sense};
@@ -63,6 +64,8 @@ pub enum Reason {
     Miscompare {
         offset: u64,
     },
+    /// An EXTENDED COPY asks for what the disk does not do.
+    Copy(CopyFault),
     /// An armed fault, with the first bad block that the command names, if it lies on blocks.
     Fault {
         code: SenseCode,
@@ -102,6 +105,7 @@ impl Reason {
             Reason::SoftwareWriteProtected => plain(Sense::DATA_PROTECT, 0x27, 0x02),
             Reason::SpaceAllocationFailed => plain(Sense::DATA_PROTECT, 0x27, 0x07),
             Reason::Miscompare { offset } => with_information(Sense::MISCOMPARE, 0x1D, offset),
+            Reason::Copy(fault) => fault.sense(),
             Reason::Fault { code, first_bad } => Sense {
                 key: code.key.code(),
                 asc: code.asc,

@@ -1,5 +1,6 @@
 // What the disk reports about itself: REPORT LUNS, REPORT SUPPORTED OPERATION CODES, REPORT SUPPORTED TASK
-// MANAGEMENT FUNCTIONS, REPORT TARGET PORT GROUPS, LOG SENSE and READ DEFECT DATA (SPC-4, 6; SBC-3, 5).
+// MANAGEMENT FUNCTIONS, REPORT TARGET PORT GROUPS, RECEIVE COPY OPERATING PARAMETERS, LOG SENSE and READ
+// DEFECT DATA (SPC-4, 6; SBC-3, 5).
 // SEND DIAGNOSTIC has nothing to do but its checks.
 ghost use Rattle.std.specs.Prelude.{◌≡◌, ◌≤◌, Err, Ok, [], length, min};
 ghost use Rattle.sg_pages.specs.Reports.{longest_report};
@@ -21,9 +22,9 @@ use sg_pages::{LogPage, Report};
 use sg_store::Store;
 use sg_units::UnitAttention;
 use sg_wire::{
-    Initiator, LogSense, ReadDefectData10, ReadDefectData12, ReportLuns,
-    ReportSupportedOperationCodes, ReportSupportedTaskManagementFunctions, ReportTargetPortGroups,
-    SendDiagnostic, SupportReport, ThreeBits,
+    Initiator, LogSense, ReadDefectData10, ReadDefectData12, ReceiveCopyOperatingParameters,
+    ReportLuns, ReportSupportedOperationCodes, ReportSupportedTaskManagementFunctions,
+    ReportTargetPortGroups, SendDiagnostic, SupportReport, ThreeBits,
 };
 
 /// Refuses a field of the CDB.
@@ -121,6 +122,19 @@ pub(crate) fn check_target_port_groups(
             allocation_length: fields.allocation_length,
         }),
         None => invalid_field(1),
+    }
+}
+
+// ---- RECEIVE COPY OPERATING PARAMETERS
+
+pub(crate) fn check_operating_parameters(
+    fields: ReceiveCopyOperatingParameters,
+) -> Operation<'static>
+    ensures { result ≡ Operation.ReturnReport Report.CopyParameters fields.allocation_length }
+{
+    Operation::ReturnReport {
+        report: Report::CopyParameters,
+        allocation_length: fields.allocation_length,
     }
 }
 

@@ -12,6 +12,17 @@ is_its action code h = eq-eqb action code h
 pub is_no : (action code : ℕ) → action ≢ code → (action == code) ≡ false
 is_no action code h = grind (arith, nat_tests)
 
+-- the only command of an operation code with a service action, and none
+module _ (cdb : List ℕ) (only : Layout) where
+  abbrev found_of_one : Option Layout
+  found_of_one = find (has_action_of cdb) (only ∷ [])
+
+  pub one-of-one : has_action_of cdb only ≡ true → found_of_one ≡ Some only
+  one-of-one e = ap (λ b. cond b (Some only) None) e
+
+  pub none-of-one : has_action_of cdb only ≡ false → found_of_one ≡ None
+  none-of-one e = ap (λ b. cond b (Some only) None) e
+
 -- the first of two commands with the service action, and none of them
 module _ (cdb : List ℕ) (first second : Layout) where
   abbrev found_of_two : Option Layout

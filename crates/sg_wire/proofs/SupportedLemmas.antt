@@ -180,11 +180,11 @@ in-length profile entries =
       length-map entries entry_layout,
     )
 
-pub product : (t : Bool) (n count : ℕ) → n ≡ descriptor_length t → count ≤ 60 → n * count ≤ 1200
+pub product : (t : Bool) (n count : ℕ) → n ≡ descriptor_length t → count ≤ 62 → n * count ≤ 1240
 product true n count e h = rw e (omega arith)
 product false n count e h = rw e (omega arith)
 
-bounded : (t : Bool) (n count : ℕ) → n ≡ 4 + descriptor_length t * count → count ≤ 60
+bounded : (t : Bool) (n count : ℕ) → n ≡ 4 + descriptor_length t * count → count ≤ 62
     → n ≤ longest_support_report
 bounded true n count e h = omega (arith, e)
 bounded false n count e h = omega (arith, e)
@@ -204,7 +204,7 @@ module _ (timeouts : Bool) where
       ∙ ap (λ ls. big_bytes 4 (length (descriptors ls)) ++ descriptors ls) (all-in profile entries h)
 
   pub all-length : (profile : Profile) (entries : List Entry) → AreEntries entries
-      → length entries ≡ 60 → length (all_commands profile timeouts) ≤ longest_support_report
+      → length entries ≡ 62 → length (all_commands profile timeouts) ≤ longest_support_report
   all-length profile entries h count =
       bounded timeouts _ _ (sym (ap length (all-put profile entries h))
       ∙ length-append (big_bytes 4 (descriptor_length timeouts * length (layouts_in profile entries)))

@@ -1,5 +1,5 @@
 -- The code's table and the definition's table agree on each CDB.
-use Rattle.std.proofs.Common.{◌≡◌, ◌≢◌, ◌<◌, ◌≤◌, ℕ, ◌==◌, List, [], ◌∷◌, length, get_or, map, Bool}
+use Rattle.std.proofs.Common.{◌≡◌, ◌≢◌, ◌<◌, ◌≤◌, ℕ, List, [], ◌∷◌, length, get_or, map, Bool}
 use Rattle.std.proofs.Common.{true, false, Option, Some, None, Ok, Err, Result, cond, refl, sym, subst}
 use Rattle.std.proofs.Common.{ap, ◌∙◌, arith}
 use Rattle.std.proofs.lemmas.Bool.Decides.{nat_tests}
@@ -32,8 +32,10 @@ use Rattle.sg_wire.specs.declared.command.table.Name.TheVariants as name
 use Rattle.sg_wire.specs.declared.command.table.Row.{Row}
 use Rattle.sg_wire.specs.declared.profile.Profile.{Profile}
 use Rattle.sg_wire.specs.declared.profile.Profile.TheVariants.{Base, Extended}
-use Rattle.sg_wire.proofs.ActionLemmas.{first-of-three, first-of-two, is_its, is_no, none-of-three}
-use Rattle.sg_wire.proofs.ActionLemmas.{none-of-two, second-of-three, second-of-two, third-of-three}
+use Rattle.sg_wire.proofs.ActionLemmas.{is_no, none-of-one, none-of-three, none-of-two}
+use Rattle.sg_wire.proofs.ActionRowLemmas.{capacity-found, status-found, codes-found, functions-found}
+use Rattle.sg_wire.proofs.ActionRowLemmas.{port_groups-found, copy-found, parameters-found, block_erase-found}
+use Rattle.sg_wire.proofs.ActionRowLemmas.{cryptographic_erase-found, exit_failure_mode-found}
 use Rattle.sg_wire.proofs.FieldLemmas.{same-found}
 use Rattle.sg_wire.proofs.ReservationLemmas.{out_row}
 use Rattle.sg_wire.proofs.ProfileLemmas.{blocked-rows, first_opcode, has_row, is_whole, none-in, none-of-them}
@@ -92,60 +94,6 @@ pub at_most_16 : (named : Name) → length (masks (layout_of named)) ≤ 16
 at_most_16 name.TestUnitReady = omega arith
 at_most_16 named = omega arith
 
--- ---- commands of one operation code
-
--- the row of a CDB by its service action
-abbrev IsFoundBy : List ℕ → Name → Type 0
-IsFoundBy cdb named =
-    find (has_action_of cdb) (rows_in Extended (layout_of named).opcode) ≡ Some (layout_of named)
-
-capacity-found : (cdb : List ℕ) → service_action cdb ≡ 0x10 → IsFoundBy cdb name.ReadCapacity16
-capacity-found cdb h =
-    first-of-two cdb (layout_of name.ReadCapacity16) (layout_of name.GetLbaStatus) (is_its _ 0x10 h)
-
-status-found : (cdb : List ℕ) → service_action cdb ≡ 0x12 → IsFoundBy cdb name.GetLbaStatus
-status-found cdb h =
-    second-of-two cdb (layout_of name.ReadCapacity16) (layout_of name.GetLbaStatus)
-    (ap (λ n. n == 0x10) h) (is_its _ 0x12 h)
-
-codes-found : (cdb : List ℕ) → service_action cdb ≡ 0x0C
-    → IsFoundBy cdb name.ReportSupportedOperationCodes
-codes-found cdb h =
-    first-of-three cdb (layout_of name.ReportSupportedOperationCodes)
-    (layout_of name.ReportSupportedTaskManagementFunctions) (layout_of name.ReportTargetPortGroups)
-    (is_its _ 0x0C h)
-
-functions-found : (cdb : List ℕ) → service_action cdb ≡ 0x0D
-    → IsFoundBy cdb name.ReportSupportedTaskManagementFunctions
-functions-found cdb h =
-    second-of-three cdb (layout_of name.ReportSupportedOperationCodes)
-    (layout_of name.ReportSupportedTaskManagementFunctions) (layout_of name.ReportTargetPortGroups)
-    (ap (λ n. n == 0x0C) h) (is_its _ 0x0D h)
-
-port_groups-found : (cdb : List ℕ) → service_action cdb ≡ 0x0A → IsFoundBy cdb name.ReportTargetPortGroups
-port_groups-found cdb h =
-    third-of-three cdb (layout_of name.ReportSupportedOperationCodes)
-    (layout_of name.ReportSupportedTaskManagementFunctions) (layout_of name.ReportTargetPortGroups)
-    (ap (λ n. n == 0x0C) h) (ap (λ n. n == 0x0D) h) (is_its _ 0x0A h)
-
-block_erase-found : (cdb : List ℕ) → service_action cdb ≡ 0x02 → IsFoundBy cdb name.SanitizeBlockErase
-block_erase-found cdb h =
-    first-of-three cdb (layout_of name.SanitizeBlockErase) (layout_of name.SanitizeCryptographicErase)
-    (layout_of name.SanitizeExitFailureMode) (is_its _ 0x02 h)
-
-cryptographic_erase-found : (cdb : List ℕ) → service_action cdb ≡ 0x03
-    → IsFoundBy cdb name.SanitizeCryptographicErase
-cryptographic_erase-found cdb h =
-    second-of-three cdb (layout_of name.SanitizeBlockErase) (layout_of name.SanitizeCryptographicErase)
-    (layout_of name.SanitizeExitFailureMode) (ap (λ n. n == 0x02) h) (is_its _ 0x03 h)
-
-exit_failure_mode-found : (cdb : List ℕ) → service_action cdb ≡ 0x1F
-    → IsFoundBy cdb name.SanitizeExitFailureMode
-exit_failure_mode-found cdb h =
-    third-of-three cdb (layout_of name.SanitizeBlockErase) (layout_of name.SanitizeCryptographicErase)
-    (layout_of name.SanitizeExitFailureMode) (ap (λ n. n == 0x02) h) (ap (λ n. n == 0x03) h)
-    (is_its _ 0x1F h)
-
 -- the command by the row that is found
 module _ (profile : Profile) (cdb : List ℕ) where
   abbrev unless_short_by : (opcode : ℕ) → Option Layout → Result Command CdbFault
@@ -171,6 +119,9 @@ module _ (profile : Profile) (cdb : List ℕ) where
   decodes-whole name.ReportSupportedTaskManagementFunctions whole h =
       ap (unless_short_by 0xA3) (functions-found cdb h)
   decodes-whole name.ReportTargetPortGroups whole h = ap (unless_short_by 0xA3) (port_groups-found cdb h)
+  decodes-whole name.ExtendedCopy whole h = ap (unless_short_by 0x83) (copy-found cdb h)
+  decodes-whole name.ReceiveCopyOperatingParameters whole h =
+      ap (unless_short_by 0x84) (parameters-found cdb h)
   decodes-whole name.SanitizeBlockErase whole h = ap (unless_short_by 0x48) (block_erase-found cdb h)
   decodes-whole name.SanitizeCryptographicErase whole h =
       ap (unless_short_by 0x48) (cryptographic_erase-found cdb h)
@@ -240,6 +191,10 @@ agrees name.ReportSupportedTaskManagementFunctions rest whole h =
     (ap (λ found. Some (class_or_always (0xA3 ∷ rest) found)) (functions-found (0xA3 ∷ rest) h), refl)
 agrees name.ReportTargetPortGroups rest whole h =
     (ap (λ found. Some (class_or_always (0xA3 ∷ rest) found)) (port_groups-found (0xA3 ∷ rest) h), refl)
+agrees name.ExtendedCopy rest whole h =
+    (ap (λ found. Some (class_or_always (0x83 ∷ rest) found)) (copy-found (0x83 ∷ rest) h), refl)
+agrees name.ReceiveCopyOperatingParameters rest whole h =
+    (ap (λ found. Some (class_or_always (0x84 ∷ rest) found)) (parameters-found (0x84 ∷ rest) h), refl)
 agrees name.SanitizeBlockErase rest whole h =
     (ap (λ found. Some (class_or_always (0x48 ∷ rest) found)) (block_erase-found (0x48 ∷ rest) h), refl)
 agrees name.SanitizeCryptographicErase rest whole h = (
@@ -267,6 +222,15 @@ other_maintenance cdb h k m =
     (layout_of name.ReportSupportedTaskManagementFunctions) (layout_of name.ReportTargetPortGroups)
     (is_no _ 0x0C h) (is_no _ 0x0D k) (is_no _ 0x0A m)
 
+pub other_copy : (cdb : List ℕ) → service_action cdb ≢ 0x00 → IsNamedByNone Extended cdb 0x83
+unfolding IsNamedByNone
+other_copy cdb h = none-of-one cdb (layout_of name.ExtendedCopy) (is_no _ 0x00 h)
+
+pub other_results : (cdb : List ℕ) → service_action cdb ≢ 0x03 → IsNamedByNone Extended cdb 0x84
+unfolding IsNamedByNone
+other_results cdb h =
+    none-of-one cdb (layout_of name.ReceiveCopyOperatingParameters) (is_no _ 0x03 h)
+
 pub other_sanitize : (cdb : List ℕ) → service_action cdb ≢ 0x02 → service_action cdb ≢ 0x03
     → service_action cdb ≢ 0x1F → IsNamedByNone Extended cdb 0x48
 unfolding IsNamedByNone
@@ -275,23 +239,34 @@ other_sanitize cdb h k m =
     (layout_of name.SanitizeExitFailureMode) (is_no _ 0x02 h) (is_no _ 0x03 k) (is_no _ 0x1F m)
 
 -- a CDB with an operation code has a byte
-pub has_byte : (cdb : List ℕ) → get_or cdb 0 0 ≡ 0x9E → 1 ≤ length cdb
-has_byte [] h = absurd (omega (arith, h))
-has_byte (opcode ∷ rest) h = omega arith
+some-byte : (code : ℕ) (cdb : List ℕ) → 1 ≤ code → get_or cdb 0 0 ≡ code → 1 ≤ length cdb
+some-byte code [] some h = absurd (omega (arith, some, h))
+some-byte code (opcode ∷ rest) some h = omega arith
 
-pub has_byte_in : (cdb : List ℕ) → get_or cdb 0 0 ≡ 0xA3 → 1 ≤ length cdb
-has_byte_in [] h = absurd (omega (arith, h))
-has_byte_in (opcode ∷ rest) h = omega arith
+pub byte_of_in_16 : (cdb : List ℕ) → get_or cdb 0 0 ≡ 0x9E → 1 ≤ length cdb
+byte_of_in_16 cdb h = some-byte 0x9E cdb (omega arith) h
 
-pub has_byte_of_sanitize : (cdb : List ℕ) → get_or cdb 0 0 ≡ 0x48 → 1 ≤ length cdb
-has_byte_of_sanitize [] h = absurd (omega (arith, h))
-has_byte_of_sanitize (opcode ∷ rest) h = omega arith
+pub byte_of_maintenance : (cdb : List ℕ) → get_or cdb 0 0 ≡ 0xA3 → 1 ≤ length cdb
+byte_of_maintenance cdb h = some-byte 0xA3 cdb (omega arith) h
 
-pub ruleset without_action_in_16 = (other_16, has_byte)
+pub byte_of_copy : (cdb : List ℕ) → get_or cdb 0 0 ≡ 0x83 → 1 ≤ length cdb
+byte_of_copy cdb h = some-byte 0x83 cdb (omega arith) h
 
-pub ruleset without_maintenance_action = (other_maintenance, has_byte_in)
+pub byte_of_results : (cdb : List ℕ) → get_or cdb 0 0 ≡ 0x84 → 1 ≤ length cdb
+byte_of_results cdb h = some-byte 0x84 cdb (omega arith) h
 
-pub ruleset without_sanitize_action = (other_sanitize, has_byte_of_sanitize)
+pub byte_of_sanitize : (cdb : List ℕ) → get_or cdb 0 0 ≡ 0x48 → 1 ≤ length cdb
+byte_of_sanitize cdb h = some-byte 0x48 cdb (omega arith) h
+
+pub ruleset without_action_in_16 = (other_16, byte_of_in_16)
+
+pub ruleset without_maintenance_action = (other_maintenance, byte_of_maintenance)
+
+pub ruleset without_copy_action = (other_copy, byte_of_copy)
+
+pub ruleset without_results_action = (other_results, byte_of_results)
+
+pub ruleset without_sanitize_action = (other_sanitize, byte_of_sanitize)
 
 module _ (cdb : List ℕ) (opcode : ℕ) where
   none-class : (rows : List Layout) → find (has_action_of cdb) rows ≡ None

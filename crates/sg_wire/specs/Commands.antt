@@ -96,6 +96,13 @@ abbrev pub send_diagnostic : (code : ℕ) (self_test : Bool) (list_length : ℕ)
 send_diagnostic code self_test n =
     command.SendDiagnostic (record { code = code; self_test = self_test; list_length = n })
 
+abbrev pub extended_copy : (list_length : ℕ) → Command
+extended_copy n = command.ExtendedCopy (record { list_length = n })
+
+abbrev pub receive_copy_operating_parameters : (allocation_length : ℕ) → Command
+receive_copy_operating_parameters n =
+    command.ReceiveCopyOperatingParameters (record { allocation_length = n })
+
 -- ---- Block commands (SBC-3, 5)
 
 abbrev pub start_stop_unit : (power_condition_modifier power_condition : ℕ) (loej start : Bool) → Command

@@ -13,6 +13,8 @@ use Rattle.sg_wire.specs.declared.command.block.Extent16.{Extent16}
 use Rattle.sg_wire.specs.declared.command.block.ReadCapacity16.{ReadCapacity16}
 use Rattle.sg_wire.specs.declared.command.block.WriteAtomic16.{WriteAtomic16}
 use Rattle.sg_wire.specs.declared.command.block.WriteLong10.{WriteLong10}
+use Rattle.sg_wire.specs.declared.command.copy.ExtendedCopy.{ExtendedCopy}
+use Rattle.sg_wire.specs.declared.command.copy.ReceiveCopyOperatingParameters.{ReceiveCopyOperatingParameters}
 use Rattle.sg_wire.specs.declared.command.diagnostic.LogSense.{LogSense}
 use Rattle.sg_wire.specs.declared.command.diagnostic.ReadDefectData10.{ReadDefectData10}
 use Rattle.sg_wire.specs.declared.command.diagnostic.ReadDefectData12.{ReadDefectData12}
@@ -249,6 +251,14 @@ abbrev send_diagnostic : SendDiagnostic → List Field
 send_diagnostic c =
     field (bits 1 7 5) c.code ∷ field (bit 1 2) c.self_test ∷ field (bytes 3 4) c.list_length ∷ []
 
+-- PARAMETER LIST LENGTH.
+abbrev extended_copy : ExtendedCopy → List Field
+extended_copy c = field (bytes 10 13) c.list_length ∷ []
+
+-- ALLOCATION LENGTH.
+abbrev receive_copy_parameters : ReceiveCopyOperatingParameters → List Field
+receive_copy_parameters c = field (bytes 10 13) c.allocation_length ∷ []
+
 -- PAGE CODE, SUBPAGE CODE, PARAMETER POINTER and ALLOCATION LENGTH.
 abbrev log_sense : LogSense → List Field
 log_sense c =
@@ -337,6 +347,11 @@ layout (command.ReportTargetPortGroups c) =
     extended 0xA3 (named 0x0A) Always blocked (report_port_groups c) no_bits make.report_port_groups
 layout (command.SendDiagnostic c) =
     extended 0x1D none Writes blocked (send_diagnostic c) diagnostic_bits make.send_diagnostic
+layout (command.ExtendedCopy c) =
+    extended 0x83 (named 0x00) Writes blocked (extended_copy c) no_bits make.extended_copy
+layout (command.ReceiveCopyOperatingParameters c) =
+    extended 0x84 (named 0x03) Writes blocked (receive_copy_parameters c) no_bits
+    make.receive_copy_operating_parameters
 layout (command.CompareAndWrite c) =
     extended 0x89 none Writes blocked (compare_and_write c) (cache_bits 14) make.compare_and_write
 layout (command.FormatUnit c) =
@@ -420,6 +435,8 @@ each_command =
     ∷ make.report_task_management false 0
     ∷ make.report_port_groups 0 0
     ∷ make.send_diagnostic 0 false 0
+    ∷ make.extended_copy 0
+    ∷ make.receive_copy_operating_parameters 0
     ∷ make.compare_and_write 0 0
     ∷ make.format_unit false false
     ∷ command.OrWrite16 make.no_blocks_16
@@ -467,22 +484,3 @@ abbrev pub length_of : ℕ → ℕ
 length_of opcode =
     let group = opcode / 32 in
     if group == 0 then 6 else (if group == 4 then 16 else (if group == 5 then 12 else 10))
-
--- The commands of SBC-3 (and READ(6) and WRITE(6) of SBC-2). Those of SPC-4 are primary commands.
-abbrev pub is_block_command : Command → Bool
-is_block_command command.TestUnitReady = false
-is_block_command (command.RequestSense c) = false
-is_block_command (command.Inquiry c) = false
-is_block_command (command.ModeSelect6 c) = false
-is_block_command (command.ModeSelect10 c) = false
-is_block_command (command.ModeSense6 c) = false
-is_block_command (command.ModeSense10 c) = false
-is_block_command (command.LogSense c) = false
-is_block_command (command.ReportLuns c) = false
-is_block_command (command.ReportSupportedOperationCodes c) = false
-is_block_command (command.ReportSupportedTaskManagementFunctions c) = false
-is_block_command (command.ReportTargetPortGroups c) = false
-is_block_command (command.SendDiagnostic c) = false
-is_block_command (command.PersistentReserveIn c) = false
-is_block_command (command.PersistentReserveOut c) = false
-is_block_command command = true

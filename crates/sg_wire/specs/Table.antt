@@ -7,7 +7,8 @@ use Rattle.sg_wire.specs.CdbDecoding.{class_by_row, command_by_row, command_by_r
 use Rattle.sg_wire.specs.CdbDecoding.{first_bad, has_action_of, make_from, masks, rows_in}
 use Rattle.sg_wire.specs.CdbDecoding.{service_action, unless_bad}
 use Rattle.sg_wire.specs.Commands as make
-use Rattle.sg_wire.specs.Layout.{Layout, ServiceAction, is_block_command, layout, length_of, table}
+use Rattle.sg_wire.specs.BlockCommand.{is_block_command}
+use Rattle.sg_wire.specs.Layout.{Layout, ServiceAction, layout, length_of, table}
 use Rattle.sg_wire.specs.Layout.ServiceAction.{none, named as one_action}
 use Rattle.sg_wire.specs.Profile.{is_in}
 use Rattle.sg_wire.specs.SupportedOperations.{usage}
@@ -48,6 +49,8 @@ command_named name.ReportSupportedOperationCodes = make.report_operation_codes f
 command_named name.ReportSupportedTaskManagementFunctions = make.report_task_management false 0
 command_named name.ReportTargetPortGroups = make.report_port_groups 0 0
 command_named name.SendDiagnostic = make.send_diagnostic 0 false 0
+command_named name.ExtendedCopy = make.extended_copy 0
+command_named name.ReceiveCopyOperatingParameters = make.receive_copy_operating_parameters 0
 command_named name.CompareAndWrite = make.compare_and_write 0 0
 command_named name.FormatUnit = make.format_unit false false
 command_named name.OrWrite16 = command.OrWrite16 make.no_blocks_16

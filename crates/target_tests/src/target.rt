@@ -4,6 +4,7 @@ ghost use Rattle.std.specs.Prelude.{◌≡◌, IfOk, vec_len};
 ghost use Rattle.sg_target.specs.declared.target.TheConstants.{BUFFER_LENGTH};
 
 mod configuration;
+mod copying;
 mod data_in;
 mod log;
 mod physical_blocks;

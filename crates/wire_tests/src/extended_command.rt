@@ -1,10 +1,11 @@
 // CDBs of the extended profile as SPC-4 and SBC-3 lay them out, with their ignored bits.
 use crate::command::operation_code;
 use sg_wire::{
-    ByteCheck, CdbFault, Command, Extent10, Extent12, Extent16, FourBits, LogSense, PageCode,
-    Profile, ReadDefectData10, ReadDefectData12, ReportLuns, ReportSupportedOperationCodes,
-    ReportSupportedTaskManagementFunctions, ReportTargetPortGroups, SendDiagnostic, StartStopUnit,
-    ThreeBits, Verify10, Verify12, Verify16, WriteAtomic16,
+    ByteCheck, CdbFault, Command, ExtendedCopy, Extent10, Extent12, Extent16, FourBits, LogSense,
+    PageCode, Profile, ReadDefectData10, ReadDefectData12, ReceiveCopyOperatingParameters,
+    ReportLuns, ReportSupportedOperationCodes, ReportSupportedTaskManagementFunctions,
+    ReportTargetPortGroups, SendDiagnostic, StartStopUnit, ThreeBits, Verify10, Verify12, Verify16,
+    WriteAtomic16,
 };
 use std::test::Fail;
 
@@ -348,6 +349,26 @@ fn a_report_of_target_port_groups_is_read_and_written(rt: HostRuntime) -> Result
     let cdb = [0xA3, 0xEA, 0, 0, 0, 0, 0xFF, 0xFF, 0xFF, 0xFF, 0, 0];
     assert!(rt; is_read_and_written(&cdb, largest));
     Ok(())
+}
+
+#[test]
+fn commands_of_copies_are_read_and_written(rt: HostRuntime) {
+    for (number, [a, b, c, d]) in [
+        (0, [0, 0, 0, 0]),
+        (0x0102_0304, [1, 2, 3, 4]),
+        (0xFFFF_FFFF, [0xFF, 0xFF, 0xFF, 0xFF]),
+    ] {
+        let copy = Command::ExtendedCopy(ExtendedCopy {
+            list_length: number,
+        });
+        let parameters = Command::ReceiveCopyOperatingParameters(ReceiveCopyOperatingParameters {
+            allocation_length: number,
+        });
+        let cdb = [0x83, 0x00, 0, 0, 0, 0, 0, 0, 0, 0, a, b, c, d, 0, 0];
+        assert!(rt; is_read_and_written(&cdb, copy), "length {number}");
+        let cdb = [0x84, 0x03, 0, 0, 0, 0, 0, 0, 0, 0, a, b, c, d, 0, 0];
+        assert!(rt; is_read_and_written(&cdb, parameters), "length {number}");
+    }
 }
 
 #[test]

@@ -126,8 +126,110 @@ fn faults_of_extended_commands_are_found(rt: HostRuntime) {
     }
 }
 
+/// The same for EXTENDED COPY and RECEIVE COPY RESULTS. The disk does not have EXTENDED COPY(LID4),
+/// service action 01h of the first. It does not have RECEIVE COPY FAILURE DETAILS(LID1), service
+/// action 04h of the second, either.
+const COPY_FAULTS: [(&[u8], CdbFault); 23] = [
+    (
+        &[0x83, 0x20, 0, 0, 0, 0, 0, 0, 0, 0, 0, 0, 0, 0, 0, 0],
+        CdbFault::Field(1),
+    ),
+    (
+        &[0x83, 0x40, 0, 0, 0, 0, 0, 0, 0, 0, 0, 0, 0, 0, 0, 0],
+        CdbFault::Field(1),
+    ),
+    (
+        &[0x83, 0x80, 0, 0, 0, 0, 0, 0, 0, 0, 0, 0, 0, 0, 0, 0],
+        CdbFault::Field(1),
+    ),
+    (
+        &[0x83, 0, 0x80, 0, 0, 0, 0, 0, 0, 0, 0, 0, 0, 0, 0, 0],
+        CdbFault::Field(2),
+    ),
+    (
+        &[0x83, 0, 0, 0, 0, 0, 0, 0, 0, 0x01, 0, 0, 0, 0, 0, 0],
+        CdbFault::Field(9),
+    ),
+    (
+        &[0x83, 0, 0, 0, 0, 0, 0, 0, 0, 0, 0, 0, 0, 0, 0x80, 0],
+        CdbFault::Field(14),
+    ),
+    (
+        &[0x83, 0, 0, 0, 0, 0, 0, 0, 0, 0, 0, 0, 0, 0, 0, 0x01],
+        CdbFault::Field(15),
+    ),
+    (
+        &[0x83, 0, 0, 0, 0, 0, 0, 0, 0, 0, 0, 0, 0, 0, 0],
+        CdbFault::Short(15),
+    ),
+    (&[0x83], CdbFault::Short(1)),
+    (
+        &[0x83, 0x01, 0, 0, 0, 0, 0, 0, 0, 0, 0, 0, 0, 0, 0, 0],
+        CdbFault::Field(1),
+    ),
+    (
+        &[0x83, 0x1F, 0, 0, 0, 0, 0, 0, 0, 0, 0, 0, 0, 0, 0, 0],
+        CdbFault::Field(1),
+    ),
+    (&[0x83, 0x01], CdbFault::Short(2)),
+    (
+        &[0x84, 0x23, 0, 0, 0, 0, 0, 0, 0, 0, 0, 0, 0, 0, 0, 0],
+        CdbFault::Field(1),
+    ),
+    (
+        &[0x84, 0x43, 0, 0, 0, 0, 0, 0, 0, 0, 0, 0, 0, 0, 0, 0],
+        CdbFault::Field(1),
+    ),
+    (
+        &[0x84, 0x83, 0, 0, 0, 0, 0, 0, 0, 0, 0, 0, 0, 0, 0, 0],
+        CdbFault::Field(1),
+    ),
+    (
+        &[0x84, 0x03, 0x01, 0, 0, 0, 0, 0, 0, 0, 0, 0, 0, 0, 0, 0],
+        CdbFault::Field(2),
+    ),
+    (
+        &[0x84, 0x03, 0, 0, 0, 0, 0, 0, 0, 0x80, 0, 0, 0, 0, 0, 0],
+        CdbFault::Field(9),
+    ),
+    (
+        &[0x84, 0x03, 0, 0, 0, 0, 0, 0, 0, 0, 0, 0, 0, 0, 0x01, 0],
+        CdbFault::Field(14),
+    ),
+    (
+        &[0x84, 0x03, 0, 0, 0, 0, 0, 0, 0, 0, 0, 0, 0, 0, 0, 0x80],
+        CdbFault::Field(15),
+    ),
+    (
+        &[0x84, 0x03, 0, 0, 0, 0, 0, 0, 0, 0, 0, 0, 0, 0, 0],
+        CdbFault::Short(15),
+    ),
+    (&[0x84], CdbFault::Short(1)),
+    (
+        &[0x84, 0x00, 0, 0, 0, 0, 0, 0, 0, 0, 0, 0, 0, 0, 0, 0],
+        CdbFault::Field(1),
+    ),
+    (
+        &[0x84, 0x04, 0, 0, 0, 0, 0, 0, 0, 0, 0, 0, 0, 0, 0, 0],
+        CdbFault::Field(1),
+    ),
+];
+
+#[test]
+fn faults_of_commands_of_copies_are_found(rt: HostRuntime) {
+    for (cdb, fault) in &COPY_FAULTS {
+        let code = operation_code(cdb);
+        // A base disk has no such operation code.
+        let is_extended = Command::read(cdb) == Err(CdbFault::Opcode);
+        assert!(rt;
+            read(cdb) == Err(*fault) && is_extended,
+            "operation code {code}"
+        );
+    }
+}
+
 /// The class on an extended disk, and whether a pending unit attention blocks the command.
-const COLUMNS: [(&[u8], Class, bool); 32] = [
+const COLUMNS: [(&[u8], Class, bool); 35] = [
     (&[0xA0], Class::Always, false),
     // Only a START STOP UNIT that starts the unit, with no POWER CONDITION, is always allowed.
     (&[0x1B, 0, 0, 0, 0x01, 0], Class::Always, true),
@@ -155,6 +257,10 @@ const COLUMNS: [(&[u8], Class, bool); 32] = [
     (&[0x2F], Class::Reads, true),
     (&[0xAF], Class::Reads, true),
     (&[0x8F], Class::Reads, true),
+    (&[0x83], Class::Writes, true),
+    (&[0x84, 0x03], Class::Writes, true),
+    // A service action that no command has is refused, whatever is reserved.
+    (&[0x84], Class::Always, true),
     (&[0x89], Class::Writes, true),
     (&[0x8B], Class::Writes, true),
     (&[0x9C], Class::Writes, true),

@@ -53,6 +53,17 @@ const VERIFY_16: &[u8] = &[
     0xFF, 0xFF, 0x00, 0x00,
 ];
 
+// EXTENDED COPY(LID1) and RECEIVE COPY OPERATING PARAMETERS show their service actions and lengths.
+const EXTENDED_COPY: &[u8] = &[
+    0x00, 0x03, 0x00, 0x10, 0x83, 0x00, 0x00, 0x00, 0x00, 0x00, 0x00, 0x00, 0x00, 0x00, 0xFF, 0xFF,
+    0xFF, 0xFF, 0x00, 0x00,
+];
+
+const COPY_PARAMETERS: &[u8] = &[
+    0x00, 0x03, 0x00, 0x10, 0x84, 0x03, 0x00, 0x00, 0x00, 0x00, 0x00, 0x00, 0x00, 0x00, 0xFF, 0xFF,
+    0xFF, 0xFF, 0x00, 0x00,
+];
+
 // COMPARE AND WRITE has three reserved bytes before NUMBER OF LOGICAL BLOCKS.
 const COMPARE_AND_WRITE: &[u8] = &[
     0x00, 0x03, 0x00, 0x10, 0x89, 0x18, 0xFF, 0xFF, 0xFF, 0xFF, 0xFF, 0xFF, 0xFF, 0xFF, 0x00, 0x00,
@@ -79,7 +90,7 @@ const REGISTER_AND_IGNORE: &[u8] = &[
 
 /// REPORTING OPTIONS, REQUESTED OPERATION CODE and REQUESTED SERVICE ACTION, and the data-in on a
 /// disk of the extended profile. The data-in is None if the disk refuses the options.
-const ROWS: [(u8, u8, u16, Option<&[u8]>); 25] = [
+const ROWS: [(u8, u8, u16, Option<&[u8]>); 31] = [
     (0b001, 0x28, 0x0000, Some(READ_10)),
     (0b001, 0x28, 0x0012, Some(READ_10)),
     (0b001, 0x91, 0x0000, Some(SYNCHRONIZE_CACHE_16)),
@@ -92,8 +103,13 @@ const ROWS: [(u8, u8, u16, Option<&[u8]>); 25] = [
     (0b001, 0x89, 0x0000, Some(COMPARE_AND_WRITE)),
     (0b001, 0xC1, 0x0000, Some(NOT_SUPPORTED)),
     (0b001, 0x9E, 0x0012, None),
+    (0b001, 0x83, 0x0000, None),
     (0b010, 0x9E, 0x0012, Some(GET_LBA_STATUS)),
     (0b010, 0xA3, 0x000A, Some(TARGET_PORT_GROUPS)),
+    (0b010, 0x83, 0x0000, Some(EXTENDED_COPY)),
+    (0b010, 0x83, 0x0001, Some(NOT_SUPPORTED)),
+    (0b010, 0x84, 0x0003, Some(COPY_PARAMETERS)),
+    (0b010, 0x84, 0x0004, Some(NOT_SUPPORTED)),
     (0b010, 0x5F, 0x0001, Some(RESERVE)),
     (0b010, 0x5F, 0x0000, Some(REGISTER)),
     (0b010, 0x5F, 0x0006, Some(REGISTER_AND_IGNORE)),
@@ -101,6 +117,7 @@ const ROWS: [(u8, u8, u16, Option<&[u8]>); 25] = [
     (0b010, 0x9E, 0x0112, Some(NOT_SUPPORTED)),
     (0b010, 0x28, 0x0000, None),
     (0b011, 0x9E, 0x0012, Some(GET_LBA_STATUS)),
+    (0b011, 0x83, 0x0000, Some(EXTENDED_COPY)),
     (0b011, 0x28, 0x0000, Some(READ_10)),
     (0b011, 0x89, 0x0000, Some(COMPARE_AND_WRITE)),
     (0b011, 0x28, 0x0001, Some(NOT_SUPPORTED)),
@@ -171,12 +188,16 @@ fn the_base_commands_are_reported(rt: HostRuntime) {
 
 #[test]
 fn the_extended_commands_are_reported_with_timeouts(rt: HostRuntime) {
-    let mut buf = [0xEE; 1220];
-    let mut cut = Cut::new(&mut buf, 1220);
+    let mut buf = [0xEE; 1260];
+    let mut cut = Cut::new(&mut buf, 1260);
     let report = SupportReport::AllCommands { timeouts: true };
     report.write(Profile::Extended, &mut cut);
     let written = cut.written();
-    // 60 commands of 20 bytes
-    assert!(rt; written == 1204 && buf[..4] == [0x00, 0x00, 0x04, 0xB0]);
+    // 62 commands of 20 bytes. EXTENDED COPY comes after SEND DIAGNOSTIC, the thirteenth. SERVACTV
+    // and CTDP are bits 0 and 1 of byte 5.
+    assert!(rt; written == 1244 && buf[..4] == [0x00, 0x00, 0x04, 0xD8]);
     assert!(rt; buf[4..14] == [0x00, 0x00, 0x00, 0x00, 0x00, 0x02, 0x00, 0x06, 0x00, 0x0A]);
+    assert!(rt; buf[244..252] == [0x1D, 0x00, 0x00, 0x00, 0x00, 0x02, 0x00, 0x06]);
+    assert!(rt; buf[264..272] == [0x83, 0x00, 0x00, 0x00, 0x00, 0x03, 0x00, 0x10]);
+    assert!(rt; buf[284..292] == [0x84, 0x00, 0x00, 0x03, 0x00, 0x03, 0x00, 0x10]);
 }

@@ -62,7 +62,7 @@ def at_their_largest() -> Iterator[Tuple[str, bytes]]:
 
 
 def action_of(cdb: bytes) -> int:
-    return cdb[1] & 0x1F if cdb[0] in (0x48, 0x5E, 0x5F, 0x9E, 0xA3) else 0
+    return cdb[1] & 0x1F if cdb[0] in (0x48, 0x5E, 0x5F, 0x83, 0x84, 0x9E, 0xA3) else 0
 
 
 @pytest.fixture

@@ -4,8 +4,8 @@ from layouts import layout_of
 from reservations import UNREG, transport_id
 from rows_of import row
 from rows_of.lines import (
-    fill, get_lba_status, mode_page, mode_select_6, raw, request_sense, test_unit_ready, with_byte,
-    write_10)
+    fill, get_lba_status, list_of_copy, mode_page, mode_select_6, raw, request_sense, test_unit_ready,
+    with_byte, write_10)
 from rows_of.persistent_reserve_out import list_of_move, move
 from rows_of.tour import A, B, reserve_out
 
@@ -90,7 +90,12 @@ EXTENDED_COMMANDS = [
     ("b71800000000000000080000", None),              # READ DEFECT DATA(12)
 ]
 
+# It copies the block of the disk onto itself.
+COPY_LIST = list_of_copy(0, 0, 1)
+
 EXTENDED_COMMANDS_OF_16_BYTES = [
+    ("830000000000000000000000004c0000", COPY_LIST),  # EXTENDED COPY(LID1)
+    ("84030000000000000000000000040000", None),      # RECEIVE COPY OPERATING PARAMETERS
     ("89000000000000000000000000010000", 2 * BYTES),  # COMPARE AND WRITE
     ("8b000000000000000000000000010000", BYTES),     # ORWRITE(16)
     ("8e020000000000000000000000010000", BYTES),     # WRITE AND VERIFY(16)

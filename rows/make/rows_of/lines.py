@@ -1,7 +1,9 @@
 """Lines of scripts, by the commands that they send."""
 
-from device import INITIATORS
+from copying import copy_list, cscd_descriptor, segment_descriptor
+from device import INITIATORS, Device
 from modes import DEFAULT, PAGES_OF, PROVISIONING, page_header
+from pages import extended_name
 
 MODE_PAGES = tuple(code for code, _ in PAGES_OF["base"])
 
@@ -113,3 +115,9 @@ def unmap(data_out, length=None, anchor=0):
     length = len(data_out) if length is None else length
     cdb = bytes([0x42, anchor, 0, 0, 0, 0, 0]) + length.to_bytes(2, "big") + b"\0"
     return raw(0, cdb, data_out)
+
+
+def list_of_copy(source, destination, count):
+    """The parameter list of EXTENDED COPY with one CSCD descriptor, of an extended disk (SPC-4, 6.5)"""
+    cscd = cscd_descriptor(extended_name(Device(1, 1, "extended")))
+    return copy_list([cscd], [segment_descriptor(source, destination, count)])

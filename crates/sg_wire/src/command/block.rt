@@ -6,7 +6,7 @@ ghost use Rattle.sg_wire.specs.CdbEncoding.{cdb_of};
 ghost use Rattle.sg_wire.specs.CdbFields.{number_at, value_at};
 ghost use Rattle.sg_wire.specs.CdbFields.Place.{short_extent};
 ghost use Rattle.sg_wire.specs.FieldRoom.{fits_cdb, have_room};
-ghost use Rattle.sg_wire.specs.Layout.{is_block_command};
+ghost use Rattle.sg_wire.specs.BlockCommand.{is_block_command};
 ghost use Rattle.sg_wire.specs.Layout.{extent_10, extent_12, extent_16, extent_6};
 ghost use Rattle.sg_wire.specs.Table.{IsDecoded, IsRefused, IsRow, command_by, command_of_name};
 ghost use Rattle.sg_wire.specs.Table.{layout_of, names_block_command};

@@ -6,16 +6,17 @@ ghost use Rattle.sg_wire.specs.Table.{AreEntries, IsRow, action_option, entry_la
 ghost use Rattle.sg_wire.specs.Table.{is_row, names_block_command};
 
 use super::rows::{
-    COMPARE_AND_WRITE, FORMAT_UNIT, GET_LBA_STATUS, INQUIRY, LOG_SENSE, MODE_SELECT_6,
-    MODE_SELECT_10, MODE_SENSE_6, MODE_SENSE_10, ORWRITE_16, PERSISTENT_RESERVE_IN,
+    COMPARE_AND_WRITE, EXTENDED_COPY, FORMAT_UNIT, GET_LBA_STATUS, INQUIRY, LOG_SENSE,
+    MODE_SELECT_6, MODE_SELECT_10, MODE_SENSE_6, MODE_SENSE_10, ORWRITE_16, PERSISTENT_RESERVE_IN,
     PERSISTENT_RESERVE_OUT, PRE_FETCH_10, PRE_FETCH_16, READ_6, READ_10, READ_12, READ_16,
-    READ_CAPACITY_10, READ_CAPACITY_16, READ_DEFECT_DATA_10, READ_DEFECT_DATA_12, REPORT_LUNS,
-    REPORT_SUPPORTED_OPERATION_CODES, REPORT_SUPPORTED_TASK_MANAGEMENT_FUNCTIONS,
-    REPORT_TARGET_PORT_GROUPS, REQUEST_SENSE, SANITIZE_BLOCK_ERASE, SANITIZE_CRYPTOGRAPHIC_ERASE,
-    SANITIZE_EXIT_FAILURE_MODE, SEND_DIAGNOSTIC, START_STOP_UNIT, SYNCHRONIZE_CACHE_10,
-    SYNCHRONIZE_CACHE_16, TEST_UNIT_READY, UNMAP, USAGE_WITH_TYPE, VERIFY_10, VERIFY_12, VERIFY_16,
-    WRITE_6, WRITE_10, WRITE_12, WRITE_16, WRITE_AND_VERIFY_10, WRITE_AND_VERIFY_12,
-    WRITE_AND_VERIFY_16, WRITE_ATOMIC_16, WRITE_LONG_10, WRITE_SAME_10, WRITE_SAME_16,
+    READ_CAPACITY_10, READ_CAPACITY_16, READ_DEFECT_DATA_10, READ_DEFECT_DATA_12,
+    RECEIVE_COPY_OPERATING_PARAMETERS, REPORT_LUNS, REPORT_SUPPORTED_OPERATION_CODES,
+    REPORT_SUPPORTED_TASK_MANAGEMENT_FUNCTIONS, REPORT_TARGET_PORT_GROUPS, REQUEST_SENSE,
+    SANITIZE_BLOCK_ERASE, SANITIZE_CRYPTOGRAPHIC_ERASE, SANITIZE_EXIT_FAILURE_MODE,
+    SEND_DIAGNOSTIC, START_STOP_UNIT, SYNCHRONIZE_CACHE_10, SYNCHRONIZE_CACHE_16, TEST_UNIT_READY,
+    UNMAP, USAGE_WITH_TYPE, VERIFY_10, VERIFY_12, VERIFY_16, WRITE_6, WRITE_10, WRITE_12, WRITE_16,
+    WRITE_AND_VERIFY_10, WRITE_AND_VERIFY_12, WRITE_AND_VERIFY_16, WRITE_ATOMIC_16, WRITE_LONG_10,
+    WRITE_SAME_10, WRITE_SAME_16,
 };
 use super::table::{Name, Row};
 use super::{InAction, OutAction};
@@ -31,7 +32,7 @@ pub(super) enum Entry {
 }
 
 /// All commands, in the table's order.
-static ENTRIES: [Entry; 60] = [
+static ENTRIES: [Entry; 62] = [
     Entry::Named(Name::TestUnitReady),
     Entry::Named(Name::RequestSense),
     Entry::Named(Name::Inquiry),
@@ -45,6 +46,8 @@ static ENTRIES: [Entry; 60] = [
     Entry::Named(Name::ReportSupportedTaskManagementFunctions),
     Entry::Named(Name::ReportTargetPortGroups),
     Entry::Named(Name::SendDiagnostic),
+    Entry::Named(Name::ExtendedCopy),
+    Entry::Named(Name::ReceiveCopyOperatingParameters),
     Entry::Named(Name::CompareAndWrite),
     Entry::Named(Name::FormatUnit),
     Entry::Named(Name::OrWrite16),
@@ -99,7 +102,7 @@ impl Entry {
     #[tactic(auto, unfolding(crate::specs::Table::AreEntries, crate::specs::Table::layouts_of))]
     pub(super) fn each() -> &'static [Entry]
         ensures entries { AreEntries result.now }
-        ensures count { length result.now ≡ 60 }
+        ensures count { length result.now ≡ 62 }
     {
         &ENTRIES
     }
@@ -200,6 +203,8 @@ fn row_named(name: Name) -> &'static Row
         Name::ReportSupportedTaskManagementFunctions => &REPORT_SUPPORTED_TASK_MANAGEMENT_FUNCTIONS,
         Name::ReportTargetPortGroups => &REPORT_TARGET_PORT_GROUPS,
         Name::SendDiagnostic => &SEND_DIAGNOSTIC,
+        Name::ExtendedCopy => &EXTENDED_COPY,
+        Name::ReceiveCopyOperatingParameters => &RECEIVE_COPY_OPERATING_PARAMETERS,
         _ => block_row_named(name),
     }
 }

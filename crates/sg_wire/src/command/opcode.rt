@@ -54,6 +54,10 @@ pub(super) const PERSISTENT_RESERVE_IN: u8 = 0x5E;
 
 pub(super) const PERSISTENT_RESERVE_OUT: u8 = 0x5F;
 
+pub(super) const EXTENDED_COPY: u8 = 0x83;
+
+pub(super) const RECEIVE_COPY_RESULTS: u8 = 0x84;
+
 pub(super) const READ_16: u8 = 0x88;
 
 pub(super) const COMPARE_AND_WRITE: u8 = 0x89;

@@ -6,16 +6,17 @@ ghost use Rattle.sg_wire.specs.Table.{IsDecoded, IsFound, IsRefused, IsRow};
 
 use super::masks::check_masks;
 use super::rows::{
-    COMPARE_AND_WRITE, FORMAT_UNIT, GET_LBA_STATUS, INQUIRY, LOG_SENSE, MODE_SELECT_6,
-    MODE_SELECT_10, MODE_SENSE_6, MODE_SENSE_10, ORWRITE_16, PERSISTENT_RESERVE_IN,
+    COMPARE_AND_WRITE, EXTENDED_COPY, FORMAT_UNIT, GET_LBA_STATUS, INQUIRY, LOG_SENSE,
+    MODE_SELECT_6, MODE_SELECT_10, MODE_SENSE_6, MODE_SENSE_10, ORWRITE_16, PERSISTENT_RESERVE_IN,
     PERSISTENT_RESERVE_OUT, PRE_FETCH_10, PRE_FETCH_16, READ_6, READ_10, READ_12, READ_16,
-    READ_CAPACITY_10, READ_CAPACITY_16, READ_DEFECT_DATA_10, READ_DEFECT_DATA_12, REPORT_LUNS,
-    REPORT_SUPPORTED_OPERATION_CODES, REPORT_SUPPORTED_TASK_MANAGEMENT_FUNCTIONS,
-    REPORT_TARGET_PORT_GROUPS, REQUEST_SENSE, SANITIZE_BLOCK_ERASE, SANITIZE_CRYPTOGRAPHIC_ERASE,
-    SANITIZE_EXIT_FAILURE_MODE, SEND_DIAGNOSTIC, START_STOP_UNIT, SYNCHRONIZE_CACHE_10,
-    SYNCHRONIZE_CACHE_16, TEST_UNIT_READY, UNMAP, VERIFY_10, VERIFY_12, VERIFY_16, WRITE_6,
-    WRITE_10, WRITE_12, WRITE_16, WRITE_AND_VERIFY_10, WRITE_AND_VERIFY_12, WRITE_AND_VERIFY_16,
-    WRITE_ATOMIC_16, WRITE_LONG_10, WRITE_SAME_10, WRITE_SAME_16,
+    READ_CAPACITY_10, READ_CAPACITY_16, READ_DEFECT_DATA_10, READ_DEFECT_DATA_12,
+    RECEIVE_COPY_OPERATING_PARAMETERS, REPORT_LUNS, REPORT_SUPPORTED_OPERATION_CODES,
+    REPORT_SUPPORTED_TASK_MANAGEMENT_FUNCTIONS, REPORT_TARGET_PORT_GROUPS, REQUEST_SENSE,
+    SANITIZE_BLOCK_ERASE, SANITIZE_CRYPTOGRAPHIC_ERASE, SANITIZE_EXIT_FAILURE_MODE,
+    SEND_DIAGNOSTIC, START_STOP_UNIT, SYNCHRONIZE_CACHE_10, SYNCHRONIZE_CACHE_16, TEST_UNIT_READY,
+    UNMAP, VERIFY_10, VERIFY_12, VERIFY_16, WRITE_6, WRITE_10, WRITE_12, WRITE_16,
+    WRITE_AND_VERIFY_10, WRITE_AND_VERIFY_12, WRITE_AND_VERIFY_16, WRITE_ATOMIC_16, WRITE_LONG_10,
+    WRITE_SAME_10, WRITE_SAME_16,
 };
 use super::{CdbFault, Class, opcode};
 use crate::bytes::MAX_CDB_LENGTH;
@@ -39,6 +40,8 @@ pub(super) enum Name {
     ReportSupportedTaskManagementFunctions,
     ReportTargetPortGroups,
     SendDiagnostic,
+    ExtendedCopy,
+    ReceiveCopyOperatingParameters,
     CompareAndWrite,
     FormatUnit,
     OrWrite16,
@@ -257,6 +260,8 @@ fn row_of_16(code: u8, cdb: &[u8]) -> Found
     ensures { IsFound Profile.Extended cdb.now result }
 {
     match code {
+        opcode::EXTENDED_COPY => with_extended_copy(cdb),
+        opcode::RECEIVE_COPY_RESULTS => with_receive_copy_results(cdb),
         opcode::READ_16 => Found::Row(&READ_16),
         opcode::COMPARE_AND_WRITE => Found::Row(&COMPARE_AND_WRITE),
         opcode::WRITE_16 => Found::Row(&WRITE_16),
@@ -282,6 +287,32 @@ fn with_service_action_in(cdb: &[u8]) -> Found
         action if action == READ_CAPACITY_16.service_action => Found::Row(&READ_CAPACITY_16),
         action if action == GET_LBA_STATUS.service_action => Found::Row(&GET_LBA_STATUS),
         _ => Found::NoServiceAction(&READ_CAPACITY_16),
+    }
+}
+
+/// The row of EXTENDED COPY, whose service action names the command (SPC-4, 6.5).
+#[tactic(auto, using(crate::proofs::TableLemmas::without_copy_action))]
+fn with_extended_copy(cdb: &[u8]) -> Found
+    requires { slice_index cdb.now 0 ≡ 0x83 }
+    ensures { IsFound Profile.Extended cdb.now result }
+{
+    match Some(service_action(cdb)) {
+        action if action == EXTENDED_COPY.service_action => Found::Row(&EXTENDED_COPY),
+        _ => Found::NoServiceAction(&EXTENDED_COPY),
+    }
+}
+
+/// The row of RECEIVE COPY RESULTS, whose service action names the command (SPC-4, 6.23).
+#[tactic(auto, using(crate::proofs::TableLemmas::without_results_action))]
+fn with_receive_copy_results(cdb: &[u8]) -> Found
+    requires { slice_index cdb.now 0 ≡ 0x84 }
+    ensures { IsFound Profile.Extended cdb.now result }
+{
+    match Some(service_action(cdb)) {
+        action if action == RECEIVE_COPY_OPERATING_PARAMETERS.service_action => {
+            Found::Row(&RECEIVE_COPY_OPERATING_PARAMETERS)
+        }
+        _ => Found::NoServiceAction(&RECEIVE_COPY_OPERATING_PARAMETERS),
     }
 }
 

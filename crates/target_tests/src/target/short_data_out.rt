@@ -45,7 +45,7 @@ const BAD_NUMBER: Option<[u8; 18]> = Some([
 ]);
 
 /// Each command that names two blocks has one block of data-out or less.
-const TAKEN: [Row; 25] = [
+const TAKEN: [Row; 26] = [
     // WRITE (10), (6), (12) and (16), and READ (10) of its first block and of the second.
     (&[0x2A, 0, 0, 0, 0, 3, 0, 0, 2, 0], &A, None, &[], 1_024),
     (&[0x28, 0, 0, 0, 0, 3, 0, 0, 1, 0], &[], None, &A, 0),
@@ -132,7 +132,7 @@ const TAKEN: [Row; 25] = [
         0,
     ),
     (&[0x28, 0, 0, 0, 0, 8, 0, 0, 1, 0], &[], None, &ZERO, 0),
-    // WRITE ATOMIC, VERIFY with BYTCHK 11b and COMPARE AND WRITE are refused.
+    // WRITE ATOMIC, VERIFY with BYTCHK 11b, COMPARE AND WRITE and EXTENDED COPY are refused.
     (
         &[0x9C, 0, 0, 0, 0, 0, 0, 0, 0, 3, 0, 0, 0, 2, 0, 0],
         &ONES,
@@ -153,6 +153,13 @@ const TAKEN: [Row; 25] = [
         BAD_NUMBER,
         &[],
         1_024,
+    ),
+    (
+        &[0x83, 0, 0, 0, 0, 0, 0, 0, 0, 0, 0, 0, 0, 16, 0, 0],
+        &[0; 15],
+        TOO_SHORT,
+        &[],
+        16,
     ),
 ];
 

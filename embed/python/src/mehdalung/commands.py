@@ -124,6 +124,20 @@ def send_diagnostic(*, self_test_code: int = 0, selftest: bool = False,
                ("devoffl", devoffl, 1, 1, 1), ("unitoffl", unitoffl, 1, 0, 1))
 
 
+def extended_copy_lid1(*, parameter_list_length: int = 0) -> bytes:
+    """EXTENDED COPY(LID1), operation code 83h, service action 00h (SPC-4, 6.5). Only an extended
+    disk has it."""
+    return cdb(16, 0x83, ("service_action", 0x00, 1, 0, 5),
+               ("parameter_list_length", parameter_list_length, 13, 0, 32))
+
+
+def receive_copy_operating_parameters(*, allocation_length: int = 0xFFFFFFFF) -> bytes:
+    """RECEIVE COPY OPERATING PARAMETERS, operation code 84h, service action 03h (SPC-4, 6.23). Only
+    an extended disk has it."""
+    return cdb(16, 0x84, ("service_action", 0x03, 1, 0, 5),
+               ("allocation_length", allocation_length, 13, 0, 32))
+
+
 def compare_and_write(lba: int = 0, blocks: int = 1, *, dpo: bool = False, fua: bool = False,
                       fua_nv: bool = False, group_number: int = 0) -> bytes:
     """COMPARE AND WRITE, operation code 89h (SBC-3, 5.2). Only an extended disk has it."""

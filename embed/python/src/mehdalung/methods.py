@@ -115,6 +115,21 @@ class Commands:
                                        devoffl=devoffl, unitoffl=unitoffl)
         return self.send(cdb)
 
+    def extended_copy_lid1(self, data_out: bytes = b"", *,
+                           parameter_list_length: Optional[int] = None) -> "Reply":
+        """EXTENDED COPY(LID1), operation code 83h, service action 00h (SPC-4, 6.5). Only an
+        extended disk has it."""
+        if parameter_list_length is None:
+            parameter_list_length = len(data_out)
+        cdb = commands.extended_copy_lid1(parameter_list_length=parameter_list_length)
+        return self.send(cdb, data_out)
+
+    def receive_copy_operating_parameters(self, *, allocation_length: int = 0xFFFFFFFF) -> "Reply":
+        """RECEIVE COPY OPERATING PARAMETERS, operation code 84h, service action 03h (SPC-4, 6.23).
+        Only an extended disk has it."""
+        cdb = commands.receive_copy_operating_parameters(allocation_length=allocation_length)
+        return self.send(cdb)
+
     def compare_and_write(self, lba: int, data_out: bytes, *, blocks: Optional[int] = None,
                           dpo: bool = False, fua: bool = False, fua_nv: bool = False,
                           group_number: int = 0) -> "Reply":

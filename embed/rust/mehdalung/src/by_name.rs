@@ -120,6 +120,23 @@ impl<'a> Initiator<'a> {
         self.send(&cdb, &[])
     }
 
+    /// Executes EXTENDED COPY(LID1) by [`commands::extended_copy_lid1`]. PARAMETER LIST LENGTH is
+    /// the length of data-out.
+    pub fn extended_copy_lid1(self, data_out: &[u8]) -> Result<Reply<'a>, Error> {
+        let cdb = commands::extended_copy_lid1(length_of(data_out));
+        self.send(&cdb, data_out)
+    }
+
+    /// Executes RECEIVE COPY OPERATING PARAMETERS by
+    /// [`commands::receive_copy_operating_parameters`].
+    pub fn receive_copy_operating_parameters(
+        self,
+        allocation_length: u32,
+    ) -> Result<Reply<'a>, Error> {
+        let cdb = commands::receive_copy_operating_parameters(allocation_length);
+        self.send(&cdb, &[])
+    }
+
     /// Executes COMPARE AND WRITE by [`commands::compare_and_write`].
     pub fn compare_and_write(
         self,

@@ -358,6 +358,22 @@ pub const fn send_diagnostic(
         .end()
 }
 
+/// EXTENDED COPY(LID1), operation code 83h, service action 00h (SPC-4, 6.5). Only an extended disk
+/// has it.
+///
+/// - `parameter_list_length`: PARAMETER LIST LENGTH, bytes 10 to 13
+pub const fn extended_copy_lid1(parameter_list_length: u32) -> [u8; 16] {
+    Cdb::of(0x83).bits(1, 4, 0, 0x00).number(10, 13, parameter_list_length as u64).end()
+}
+
+/// RECEIVE COPY OPERATING PARAMETERS, operation code 84h, service action 03h (SPC-4, 6.23). Only an
+/// extended disk has it.
+///
+/// - `allocation_length`: ALLOCATION LENGTH, bytes 10 to 13
+pub const fn receive_copy_operating_parameters(allocation_length: u32) -> [u8; 16] {
+    Cdb::of(0x84).bits(1, 4, 0, 0x03).number(10, 13, allocation_length as u64).end()
+}
+
 /// The fields of COMPARE AND WRITE, operation code 89h (SBC-3, 5.2). Only an extended disk has it.
 #[derive(Clone, Copy, Debug, Default, PartialEq, Eq)]
 pub struct CompareAndWrite {

@@ -1,10 +1,9 @@
 use Rattle.std.proofs.Common.{◌≡◌, ◌∙◌, ap, sym}
 use Rattle.sg_wire.specs.Cut.{answer_of}
 use Rattle.sg_wire.specs.CutAnswer.{put}
-use Rattle.sg_wire.specs.declared.profile.Profile.TheVariants.{Base, Extended}
-use Rattle.sg_pages.specs.VitalProductData.{locally_assigned, registered_extended}
+use Rattle.sg_wire.specs.declared.profile.Profile.TheVariants.{Base}
+use Rattle.sg_pages.specs.VitalProductData.{locally_assigned}
 use Rattle.sg_pages.proofs.PageLemmas.{descriptor-put, length-locally_assigned}
-use Rattle.sg_pages.proofs.PageLemmas.{length-registered_extended}
 use Rattle.sg_pages.proofs.vital_product_data.write_naa_descriptor.Goals as goal
 
 pub returns-in-Base : goal.returns-in-Base
@@ -15,13 +14,3 @@ returns-in-Base c =
     rw profile (
     descriptor-put c.parts_are_put_in_turn.ensures _ _ _ _ _ _ _ (sym (length-locally_assigned i.local))
     c.put.ensures (c.put-in-Base.ensures ∙ ap (put (answer_of c.put.new.self)) number))
-
-pub returns-in-Extended : goal.returns-in-Extended
-returns-in-Extended c =
-    let i = c.args.identity.now in
-    let number = c.registered_extended.ensures ∙ ap registered_extended c.local-in-Extended.ensures.value in
-    let profile : i.profile ≡ Extended = sym c.profile.ensures ∙ c.in-Extended.is in
-    rw profile (
-    descriptor-put c.parts_are_put_in_turn.ensures _ _ _ _ _ _ _
-    (sym (length-registered_extended i.local)) c.put-in-Extended.ensures
-    (c.put-in-Extended-2.ensures ∙ ap (put (answer_of c.put-in-Extended.new.self)) number))

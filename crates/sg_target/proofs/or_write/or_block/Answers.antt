@@ -4,7 +4,7 @@ use Rattle.sg_store.specs.Disk.{Disk, need}
 use Rattle.sg_store.specs.Disk.Mapping.{Data}
 use Rattle.sg_target.specs.BlockCommands.{or_bytes}
 use Rattle.sg_target.specs.Charge.{cost_bounds}
-use Rattle.sg_target.specs.OrWriting.{block_filled}
+use Rattle.sg_target.specs.BlockByBlock.{block_filled}
 use Rattle.sg_target.proofs.OrWriteLemmas.{charged-ok, counts, from-ok, no-error, one-block, twice}
 use Rattle.sg_target.proofs.or_write.or_block.Goals as goal
 
@@ -35,7 +35,7 @@ returns-clause-disk g c =
 pub returns-clause-counted : goal.returns-clause-counted
 returns-clause-counted g c =
     λ before over h. twice (cost_bounds g.S.Store.price g.S.Store.least)
-    (g.S.Store.disk c.args.store.now) (g.S.Store.disk c.read.new.self) c.args.lba over before _ _ _
+    (g.S.Store.disk c.args.store.now) (g.S.Store.disk c.read.new.self) c.args.lba c.args.lba over before _ _ _
     c.read.ensures.disk c.read.ensures.costs
     (charged-ok c.fill-written.result _ _ _ _ _ (sym c.is_ok.ensures.value ∙ c.if-prove.false)
     c.fill-written.ensures.costs) h
@@ -43,8 +43,9 @@ returns-clause-counted g c =
 pub returns-clause-counts : goal.returns-clause-counts
 returns-clause-counts g c =
     counts (cost_bounds g.S.Store.price g.S.Store.least)
-    (g.S.Store.disk c.args.store.now) (g.S.Store.disk c.read.new.self) c.args.lba _ _ _
+    (g.S.Store.disk c.args.store.now) (g.S.Store.disk c.read.new.self) c.args.lba c.args.lba _ _ _
     c.read.ensures.disk c.requires.size.pool
+    (g.met.S.Store.price_within (g.S.Store.disk c.args.store.now).contents c.args.lba 1)
     (g.met.S.Store.price_within (g.S.Store.disk c.args.store.now).contents c.args.lba 1)
     c.read.ensures.costs
     (charged-ok c.fill-written.result _ _ _ _ _ (sym c.is_ok.ensures.value ∙ c.if-prove.false)

@@ -1,8 +1,11 @@
 use Rattle.std.proofs.Common.{◌≡◌, ap, arith}
+use Rattle.std.specs.List.{flat_map, range_with_len}
 use Rattle.sg_store.specs.Disk.Mapping.{Data}
 use Rattle.sg_target.specs.BlockCommands.{BlocksOutFields, ored_block}
 use Rattle.sg_target.specs.Charge.{cost_bounds}
-use Rattle.sg_target.proofs.OrWriteLemmas.{all-charged}
+use Rattle.sg_target.specs.BlockByBlock.{disk_ored}
+use Rattle.sg_target.specs.Ranges.{block_ranges}
+use Rattle.sg_target.proofs.OrWriteLemmas.{counted-first}
 use Rattle.sg_target.proofs.or_write.or_blocks.Goals as goal
 
 pub returns-clause-costs : goal.returns-clause-costs
@@ -16,8 +19,10 @@ returns-clause-costs g c =
     omega (arith, c.from.ensures, ap (λ (b : BlocksOutFields). b.extent.count) c.blocks-2.view_is) in
     let taken = c.remapping_takes_what_is_needed.ensures.taken disk.contents out.extent.lba
     out.extent.count (λ index. Data (ored_block disk.contents out index)) in
-    all-charged (cost_bounds g.S.Store.price g.S.Store.least) disk out
-    c.blocks-2.inside.extent.lba c.from.result (g.S.Store.disk c.need-needed.new.self)
+    counted-first (cost_bounds g.S.Store.price g.S.Store.least) disk
+    (g.S.Store.disk c.need-needed.new.self) (disk_ored disk out) out.extent
+    (λ m. flat_map (block_ranges m out) (range_with_len 0 out.extent.count))
+    c.blocks-2.inside.extent.lba c.from.result
     (g.S.Store.meter c.args.store.now) (g.S.Store.meter c.need-needed.new.self)
     (g.S.Store.meter c.or_in_turn.new.store) c.requires.nothing_counted first many left
     c.need-needed.ensures.costs c.or_in_turn.ensures.counted

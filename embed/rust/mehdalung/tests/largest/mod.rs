@@ -51,6 +51,8 @@ pub fn cdbs() -> Vec<Vec<u8>> {
         report_supported_task_management_functions(true, u32::MAX).to_vec(),
         report_target_port_groups(0x7, u32::MAX).to_vec(),
         send_diagnostic(0x7, true, u16::MAX).to_vec(),
+        extended_copy_lid1(u32::MAX).to_vec(),
+        receive_copy_operating_parameters(u32::MAX).to_vec(),
         CompareAndWrite { lba: u64::MAX, blocks: u8::MAX, dpo: true, fua: true }.cdb().to_vec(),
         format_unit(true, true).to_vec(),
         Orwrite16 { lba: u64::MAX, blocks: u32::MAX, dpo: true, fua: true }.cdb().to_vec(),

@@ -19,7 +19,7 @@ overflow_cast-count c =
 
 pub overflow_mul-descriptor_length : goal.overflow_mul-descriptor_length
 overflow_mul-descriptor_length c =
-    let few : c.count_in-count.result ≤ 60 =
+    let few : c.count_in-count.result ≤ 62 =
     omega (
       arith,
       c.count_in-count.ensures,

@@ -1,4 +1,4 @@
-// The status of copies that have ended, until somebody asks for it.
+// Copies that have ended, until somebody asks how.
 use crate::copy_list::Segment;
 use sg_wire::Initiator;
 use std::marker::Model;
@@ -14,61 +14,61 @@ pub struct EndedCopy {
 
 /// For each initiator the last copy that it may ask about (SPC-4, 6.25).
 #[derive(Drop)]
-pub struct HeldCopies {
+pub struct EndedCopies {
     copies: [Option<EndedCopy>; Initiator::COUNT],
 }
 
-impl Model for HeldCopies {
+impl Model for EndedCopies {
     ghost use Rattle.std.specs.Prelude.{List, Option};
-    ghost use Rattle.sg_copy.specs.declared.held.EndedCopy.{EndedCopy};
+    ghost use Rattle.sg_copy.specs.declared.ended_copies.EndedCopy.{EndedCopy};
 
     ghost Value = { List (Option EndedCopy) };
 
-    ghost view = { λ h. h.copies };
+    ghost view = { λ c. c.copies };
 
     ghost inverse = { λ m. record { copies = m } };
 }
 
 ghost use Rattle.std.specs.Prelude.{◌≡◌, ◌==◌, length};
 ghost use Rattle.sg_wire.specs.Initiator.{initiator_count};
-ghost use Rattle.sg_copy.specs.HeldCopies.{held_copy, holding, nothing_held, without_copies};
+ghost use Rattle.sg_copy.specs.EndedCopies.{copy_under, with_copy, no_copies, without_copy};
 
-impl HeldCopies {
-    /// Nothing is held, as after power on.
-    pub fn new() -> HeldCopies
-        ensures { result ≡ nothing_held }
+impl EndedCopies {
+    /// No copy has ended since power on.
+    pub fn new() -> EndedCopies
+        ensures { result ≡ no_copies }
     {
-        HeldCopies {
+        EndedCopies {
             copies: [None; Initiator::COUNT],
         }
     }
 
-    /// Holds a copy of an initiator, in place of the one before it.
-    pub fn hold(&mut self, initiator: Initiator, copy: EndedCopy)
-        ensures { self.new ≡ holding self.old initiator copy }
+    /// Keeps a copy of an initiator, in place of the one before it.
+    pub fn keep(&mut self, initiator: Initiator, copy: EndedCopy)
+        ensures { self.new ≡ with_copy self.old initiator copy }
     {
         self.copies[usize::from(initiator.number())] = Some(copy);
     }
 
-    /// The copy of an initiator under a LIST IDENTIFIER, if it is held.
-    pub fn held(&self, initiator: Initiator, list_identifier: u8) -> Option<EndedCopy>
-        ensures { result ≡ held_copy self.now initiator list_identifier }
+    /// The last copy of an initiator, if it has a LIST IDENTIFIER.
+    pub fn under(&self, initiator: Initiator, list_identifier: u8) -> Option<EndedCopy>
+        ensures { result ≡ copy_under self.now initiator list_identifier }
     {
         let copy = self.copies[usize::from(initiator.number())]?;
         (copy.list_identifier == list_identifier).then_some(copy)
     }
 
-    /// Discards what is held for an initiator: its status was reported, or its I_T nexus is lost.
+    /// Discards the last copy of an initiator: its status was reported, or its I_T nexus is lost.
     pub fn discard(&mut self, initiator: Initiator)
-        ensures { self.new ≡ without_copies self.old initiator }
+        ensures { self.new ≡ without_copy self.old initiator }
     {
         self.copies[usize::from(initiator.number())] = None;
     }
 
-    /// Discards all, as a reset does.
+    /// Discards all copies, as a reset does.
     pub fn clear(&mut self)
-        ensures { self.new ≡ nothing_held }
+        ensures { self.new ≡ no_copies }
     {
-        *self = HeldCopies::new();
+        *self = EndedCopies::new();
     }
 }

@@ -1,13 +1,18 @@
--- ORWRITE block by block, as the store counts it.
+-- ORWRITE and EXTENDED COPY block by block, as the store counts them.
 use Rattle.std.specs.Prelude.{ℕ, ◌+◌, ◌*◌, ◌^◌, ◌≤◌, List}
+use Rattle.sg_copy.specs.declared.copy_list.Segment.{Segment}
 use Rattle.sg_store.specs.Disk.{Disk, disk_filled, max_pool}
 use Rattle.sg_store.specs.Meter.{Meter, probe_bound}
 use Rattle.sg_store.specs.declared.store.Counts.{Counts}
-use Rattle.sg_target.specs.BlockCommands.{BlocksOutFields, ored}
+use Rattle.sg_target.specs.BlockCommands.{BlocksOutFields, copied, ored}
 
 -- The disk after an ORWRITE.
 abbrev pub disk_ored : Disk → BlocksOutFields → Disk
 disk_ored disk out = record disk { contents = ored disk.contents out }
+
+-- The disk after an EXTENDED COPY.
+abbrev pub disk_copied : Disk → Segment → Disk
+disk_copied disk segment = record disk { contents = copied disk.contents segment }
 
 -- The disk with one block replaced.
 abbrev pub block_filled : Disk → (lba : ℕ) → (block : List ℕ) → Disk
@@ -19,7 +24,7 @@ pub record AreEarly (counts : Counts) : Type 0 where
   pub probes : counts.probes ≤ 2 ^ 61
   pub links : counts.links ≤ 2 ^ 61
 
--- Two calls over one block count no more than this.
+-- A call that reads a block and one that writes a block count no more than this.
 pub record CountsBlock (before after : Meter) : Type 0 where
   pub visits : after.counts.visits ≤ before.counts.visits + 6
   pub probes : after.counts.probes ≤ before.counts.probes + 2 * probe_bound
