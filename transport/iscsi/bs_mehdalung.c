@@ -21,10 +21,10 @@
 #include "kept_ports.h"
 #include "numbers.h"
 #include "preempting.h"
+#include "trace.h"
 #include "waiting.h"
 
-/* The length of the longest CDB of a command of the disk. */
-enum { TRACED_CDB = 16 };
+_Static_assert((int)NO_NUMBER == (int)NO_INITIATOR, "a port without a number is no initiator");
 
 static uint8_t data_in[MDL_BUFFER_LENGTH];
 
@@ -81,24 +81,15 @@ static void execute_without_disk(struct scsi_cmd *cmd, mdl_reply *reply)
     give_data_in(cmd, bytes, reply);
 }
 
-/* A line for a command and its reply, in the log of tgtd while its debug messages are on. The CDB
- * is written as in a script of sgrun. */
+/* A line for a command and its reply, in the log of tgtd while its debug messages are on. */
 static void trace(struct scsi_cmd *cmd, int initiator, const mdl_reply *reply)
 {
-    int length = get_scsi_cdb_size(cmd), at;
-    char who[32] = "no initiator", cdb[2 * TRACED_CDB + 1], text[64] = "no reply";
-    mdl_sense sense;
+    const struct traced traced = { initiator, cmd->scb, (size_t)get_scsi_cdb_size(cmd),
+                                   scsi_get_out_length(cmd) };
+    char line[TRACE_LENGTH + 1];
 
-    if (initiator != NO_NUMBER)
-        snprintf(who, sizeof who, "initiator %d", initiator);
-    for (at = 0; at < length && at < TRACED_CDB; at++)
-        sprintf(cdb + 2 * at, "%02x", cmd->scb[at]);
-    if (mdl_read_sense(reply->sense, reply->sense_length, &sense))
-        memset(&sense, 0, sizeof sense);
-    if (reply->status != MDL_NO_REPLY)
-        snprintf(text, sizeof text, "status %02x, sense %x/%02x/%02x, data-in %zu", reply->status,
-                 sense.key, sense.asc, sense.ascq, reply->data_in_length);
-    dprintf("TRACE %s, %s, data-out %u: %s\n", who, cdb, scsi_get_out_length(cmd), text);
+    write_trace(line, &traced, reply);
+    dprintf("TRACE %s\n", line);
 }
 
 /* Executes a command, and notes its initiator's session. PREEMPT AND ABORT ends the held commands

@@ -1,14 +1,17 @@
 /* Not proved. See requests.h. */
 #include "requests.h"
 
+#include <endian.h>
 #include <stddef.h>
 #include <stdio.h>
 #include <string.h>
 
+#include "address.h"
 #include "control.h"
 #include "events.h"
 #include "held.h"
 #include "preempting.h"
+#include "trace.h"
 
 /* No queue keeps the others waiting for longer than this many requests take. */
 enum { MOST_IN_A_ROUND = 64 };
@@ -76,6 +79,39 @@ void end_waiting(struct unit *unit)
     }
 }
 
+/* The length of a CDB, by the group of its operation code (SPC-4, 4.2.5.1). Groups that
+ * have no length there have 10 bytes here. */
+static size_t length_of_cdb(const uint8_t *cdb)
+{
+    static const uint8_t lengths[] = { 6, 10, 10, TRACED_CDB, 16, 12, 10, 10 };
+
+    return lengths[cdb[0] >> 5];
+}
+
+/* Adds a line for a command to the trace. A response of virtio other than OK comes before the reply. */
+static void trace(FILE *file, const struct port *port, const struct virtio_scsi_cmd_req *request,
+                  size_t data_out_length, enum fate fate, const struct answer *answer)
+{
+    const struct virtio_scsi_cmd_resp *response = &answer->response;
+    const struct traced traced = { (int)port->initiator, request->cdb, length_of_cdb(request->cdb),
+                                   data_out_length };
+    mdl_reply reply = { .status = MDL_NO_REPLY };
+    char line[TRACE_LENGTH + 1];
+
+    if (read_address(request->lun) != ADDRESS_DISK)
+        return;
+    if (fate != FATE_HELD) {
+        reply.status = response->status;
+        reply.sense_length = (uint8_t)le32toh(response->sense_len);
+        memcpy(reply.sense, response->sense, reply.sense_length);
+        reply.data_in_length = answer->length - sizeof *response;
+    }
+    write_trace(line, &traced, &reply);
+    if (fate != FATE_HELD && response->response != VIRTIO_SCSI_S_OK)
+        fprintf(file, "response %u, ", response->response);
+    fprintf(file, "%s\n", line);
+}
+
 static void wait_for_flush(struct unit *unit, struct port *port, struct queue *queue, uint16_t head,
                            const struct answer *answer)
 {
@@ -101,6 +137,8 @@ static enum fate execute(struct unit *unit, const struct port *port, const struc
         before = registered_mask(&unit->disk);
     }
     fate = execute_command(&unit->disk, port->initiator, chain, answer);
+    if (unit->trace)
+        trace(unit->trace, port, &request, chain->out_length - sizeof request, fate, answer);
     if (preempts)
         end_held_of(unit, before & ~registered_mask(&unit->disk), VIRTIO_SCSI_S_ABORTED);
     return fate;

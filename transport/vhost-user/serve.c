@@ -1,10 +1,12 @@
 /* Not proved. Serves a disk to guests of qemu, by vhost-user-scsi.
  *
  *     serve [--disk FILE] [--blocks N] [--pool N] [--profile NAME] [--seed N] [--vendor TEXT]
- *           [--product TEXT] [--revision TEXT] [--serial TEXT] [--local N] [--socket PATH] SOCKET ..
+ *           [--product TEXT] [--revision TEXT] [--serial TEXT] [--local N] [--socket PATH]
+ *           [--trace PATH] SOCKET ..
  *
  * Each SOCKET is an initiator of the disk, from 0 on, and serves one guest at a time. An extended disk has at
- * most 64 of them, and a base disk 8. PATH is a socket for `happen`, `power` and `join` of transport/sgio.
+ * most 64 of them, and a base disk 8. PATH of --socket is a socket for `happen`, `power` and `join` of
+ * transport/sgio. The file PATH of --trace gets a line for each command of a guest, and keeps what it has.
  * The disk is in memory, or FILE keeps it. Blocks and pool have to be given, unless FILE has a disk. A new
  * disk has the extended profile, unless NAME is another one. The program prints a line for each socket when
  * it listens, and ends with status 0 on SIGTERM, SIGINT or SIGHUP. A disk in memory is gone then, and one in
@@ -38,15 +40,17 @@ static int fail(const char *what, const char *why)
     return 1;
 }
 
-/* Moves the sockets out of the words, which are pairs of an option and a value then. It counts them all, but
- * only MDL_MOST_INITIATORS have a port. Returns null, or what is wrong. */
-static const char *take_sockets(int *count, char **words, struct unit *unit)
+/* Moves the sockets and the option --trace out of the words, which are pairs of another option and a value
+ * then. It counts all sockets, but only MDL_MOST_INITIATORS have a port. Returns null, or what is wrong. */
+static const char *take_sockets(int *count, char **words, struct unit *unit, const char **trace)
 {
     struct port *port;
     int at, kept = 1;
 
     for (at = 1; at < *count; at++)
-        if (strncmp(words[at], "--", 2) == 0) {
+        if (strcmp(words[at], "--trace") == 0 && at + 1 < *count)
+            *trace = words[++at];
+        else if (strncmp(words[at], "--", 2) == 0) {
             words[kept++] = words[at];
             if (at + 1 < *count)
                 words[kept++] = words[++at];
@@ -69,6 +73,15 @@ static int has_initiators(const struct unit *unit, uint32_t initiators)
     snprintf(text, sizeof text, "the disk has no more than %" PRIu32 " initiators", initiators);
     fail("SOCKET", text);
     return 0;
+}
+
+/* Opens the file of the trace. Each of its lines is there as soon as the command is answered. */
+static int open_trace(struct unit *unit, const char *path)
+{
+    unit->trace = path ? fopen(path, "ae") : NULL;
+    if (unit->trace)
+        setvbuf(unit->trace, NULL, _IOLBF, 0);
+    return !path || unit->trace;
 }
 
 /* The initiators of the disk that the options ask for. A file may have a disk that has fewer. */
@@ -220,7 +233,7 @@ int main(int count, char **words)
     static struct unit unit;
     struct options options;
     char reason[REASON_LENGTH];
-    const char *word = "SOCKET", *fault = take_sockets(&count, words, &unit);
+    const char *trace = NULL, *word = "SOCKET", *fault = take_sockets(&count, words, &unit, &trace);
     uint32_t initiators = 0;
     int status;
 
@@ -230,6 +243,8 @@ int main(int count, char **words)
         return fail(word, fault);
     if (!has_initiators(&unit, asked_initiators(&options)))
         return 1;
+    if (!open_trace(&unit, trace))
+        return fail(trace, strerror(errno));
     if (!make_disk(&options, &unit.disk, reason))
         return fail("the disk", reason);
     mdl_initiators(&unit.disk, &initiators);

@@ -3,6 +3,8 @@
 #ifndef UNIT_H
 #define UNIT_H
 
+#include <stdio.h>
+
 #include "chain.h"
 #include "command.h"
 #include "mehdalung.h"
@@ -63,6 +65,7 @@ struct unit {
     struct held *held;
     struct waiting waiting[MOST_WAITING];
     unsigned waiting_count;
+    FILE *trace; /* gets a line for each command of a guest; or null */
 };
 
 #endif
