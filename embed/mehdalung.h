@@ -418,9 +418,9 @@ typedef struct mdl_fault {
                                  pass. With 0 none passes until the fault is taken away. */
     uint8_t has_code;         /* 1 if it meets only commands with an operation code, 0 if all */
     uint8_t code;             /* this operation code, if `has_code` is 1 */
-    uint8_t healed_by_writes; /* 1 if a command that writes all of its blocks heals them, 0 if none
-                                 does; 0 without blocks. The fault does not meet such a command, and
-                                 is gone when the command has ended with MDL_GOOD. */
+    uint8_t healed_by_writes; /* 1 if a command that overwrites all of its blocks heals them, 0 if none
+                                 does; 0 without blocks. If the command reads none of them, the fault
+                                 does not meet it. If it ends with MDL_GOOD, the fault is gone. */
     uint8_t key;              /* the sense key that it reports, 0 to 15 but 12 */
     uint8_t asc;              /* the additional sense code that it reports */
     uint8_t ascq;             /* the additional sense code qualifier that it reports */

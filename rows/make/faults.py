@@ -38,22 +38,28 @@ class Fault:
         return self
 
     def heals(self, seen):
-        return self.healed and seen.writes and any(
+        return self.healed and any(
             address <= self.blocks[0] and sum(self.blocks) <= address + count
-            for address, count in seen.extents)
+            for address, count in seen.overwritten)
 
-    def first_bad(self, seen):
-        """The first bad block that it reads or writes, in the first extent that has one."""
-        for address, count in seen.extents:
+    def first_in(self, extents):
+        """The first bad block of some extents, in the first of them that has one."""
+        for address, count in extents:
             first = max(address, self.blocks[0])
             if first < min(address + count, sum(self.blocks)):
                 return first
         return None
 
+    def first_bad(self, seen):
+        """The first bad block that it reads, or else the first that it overwrites."""
+        return self.first_in(seen.read + seen.overwritten)
+
     def meets(self, seen):
         if self.code is not None and self.code != seen.code:
             return False
-        return not self.blocks or (self.first_bad(seen) is not None and not self.heals(seen))
+        if not self.blocks or self.first_in(seen.read) is not None:
+            return True
+        return self.first_in(seen.overwritten) is not None and not self.heals(seen)
 
     def strikes(self, initiator):
         """Counts a command that meets it. Whether it does something to the command."""
@@ -73,24 +79,25 @@ class Fault:
 
 @dataclass
 class Seen:
-    """A command as faults see it. Its extents are what it reads or writes, after its checks."""
+    """A command as faults see it, after its checks: the extents that it reads, and those that it writes,
+    whatever they contain."""
 
     code: int | None
-    extents: list = field(default_factory=list)
-    writes: bool = False  # it replaces its blocks, and reads none of them before
+    read: list = field(default_factory=list)
+    overwritten: list = field(default_factory=list)
     moves: bool = False  # it is a READ, a WRITE or a WRITE SAME that writes
     marks: int | None = None  # it is a WRITE LONG: READs of its block end with this code then
 
     def reaches_the_medium(self):
         """Whether it reads or writes a block. Faults at the medium meet only such commands."""
-        return any(count for _, count in self.extents)
+        return any(count for _, count in self.read + self.overwritten)
 
 
 class Reached(Exception):
     """The checks have passed a command that reads or writes blocks."""
 
-    def __init__(self, extents, writes, moves=False, marks=None):
-        self.found = list(extents), writes, moves, marks
+    def __init__(self, read=(), overwritten=(), moves=False, marks=None):
+        self.found = list(read), list(overwritten), moves, marks
 
 
 class Probe:
@@ -100,31 +107,31 @@ class Probe:
         self.capacity = capacity
 
     def read(self, address, count):
-        raise Reached([(address, count)], False, True)
+        raise Reached(read=[(address, count)], moves=True)
 
     def compare(self, address, count, _data):
-        raise Reached([(address, count)], False)
+        raise Reached(read=[(address, count)])
 
     def compare_and_write(self, address, count, _data):
-        raise Reached([(address, count)], False)  # a bad block can't be compared, so it stays bad
+        raise Reached(read=[(address, count)])  # a bad block can't be compared, so it stays bad
 
     def orwrite(self, address, count, _data):
-        raise Reached([(address, count)], False)  # it needs the bits that a bad block has
+        raise Reached(read=[(address, count)])  # it needs the bits that a bad block has
 
     def copy(self, source, destination, count):
-        raise Reached([(source, count), (destination, count)], False)  # it needs what the source has
+        raise Reached(read=[(source, count)], overwritten=[(destination, count)])
 
     def write(self, address, count, _block):
-        raise Reached([(address, count)], True, True)
+        raise Reached(overwritten=[(address, count)], moves=True)
 
     def unmap(self, extents):
-        raise Reached(extents, True)
+        raise Reached(overwritten=extents)
 
     def anchor(self, extents):
-        raise Reached(extents, True)
+        raise Reached(overwritten=extents)
 
     def mark(self, address, code):
-        raise Reached([(address, 1)], True, marks=code)
+        raise Reached(overwritten=[(address, 1)], marks=code)
 
     def status_extents(self, _start):
         return []  # it reads no block
@@ -191,7 +198,8 @@ def execute(device, initiator, cdb, data_out):
         return CHECK_CONDITION, b"", sense.data(device.modes.d_sense)
     moved = fault.value if fault else ALL_BLOCKS
     if seen.moves:
-        seen.extents = [(address, min(count, moved)) for address, count in seen.extents]
+        for extents in (seen.read, seen.overwritten):
+            extents[:] = [(address, min(count, moved)) for address, count in extents]
     device.provisioning.most_moved = moved
     status, data_in, sense = device.executed(initiator, cdb, data_out)
     device.provisioning.most_moved = ALL_BLOCKS
@@ -200,7 +208,7 @@ def execute(device, initiator, cdb, data_out):
     faults.slots = faults.healed(seen)
     if seen.marks:
         faults.arm(Fault("medium", "code", (MEDIUM_ERROR, seen.marks),
-                         blocks=seen.extents[0], healed=True))
+                         blocks=seen.overwritten[0], healed=True))
     fault = faults.ask("after", initiator, seen)
     if not fault:
         return status, data_in, sense

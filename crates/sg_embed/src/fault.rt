@@ -38,7 +38,7 @@ pub struct FaultRecord {
     pub has_code: u8,
     /// That operation code.
     pub code: u8,
-    /// 1 if a command that writes all of its blocks heals them, 0 if not.
+    /// 1 if a command that overwrites all of its blocks heals them, 0 if not.
     pub healed_by_writes: u8,
     /// The sense key that it reports, at most 15.
     pub key: u8,

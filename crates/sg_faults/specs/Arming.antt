@@ -3,10 +3,10 @@ use Rattle.std.specs.Prelude.{ℕ, ◌-◌, ◌==◌, Bool, false, ◌&&◌, not
 use Rattle.std.specs.Prelude.{true, nat_lt, Option, Some, None, if◌then◌else◌}
 use Rattle.std.specs.Prelude.{option_and_then, option_map, slice_index_or, slice_set}
 use Rattle.std.specs.List.{list_any, range_with_len}
-use Rattle.std.specs.Option.{option_map_or}
+use Rattle.std.specs.Option.{option_map_or, option_or}
 use Rattle.sg_wire.specs.Initiator.{initiator_count}
 use Rattle.sg_units.specs.Initiators.{all_initiators, is_member}
-use Rattle.sg_faults.specs.Meeting.{Seen, first_in, heals}
+use Rattle.sg_faults.specs.Meeting.{Seen, first_overwritten, first_read, heals}
 use Rattle.sg_faults.specs.declared.fault.ArmedFault.{ArmedFault}
 use Rattle.sg_faults.specs.declared.fault.BadBlocks.{BadBlocks}
 use Rattle.sg_faults.specs.declared.fault.Count.{Count}
@@ -77,7 +77,10 @@ lasts a = list_any (λ count. not (is_spent count)) a.counts
 abbrev pub is_healed_by : Seen → ArmedFault → Bool
 is_healed_by command a = option_map_or (heals command) a.fault.blocks false
 
--- The first bad block that a command names, if a fault lies on blocks.
+-- The first bad block that a command reads, or otherwise the first that it overwrites, if the fault lies on
+-- blocks.
+abbrev pub first_bad_of : Seen → BadBlocks → Option ℕ
+first_bad_of command bad = option_or (first_read command bad.extent) (first_overwritten command bad.extent)
+
 abbrev pub first_bad : Seen → Fault → Option ℕ
-first_bad command fault =
-    option_and_then (λ (bad : BadBlocks). first_in command.extents bad.extent) fault.blocks
+first_bad command fault = option_and_then (first_bad_of command) fault.blocks

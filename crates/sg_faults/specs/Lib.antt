@@ -1,7 +1,7 @@
 -- Modules that public contracts cite. Read them in this order.
 pub mod SenseCode
 pub mod Places
-pub mod Accessed
+pub mod Overwritten
 pub mod Meeting
 pub mod Arming
 pub mod Faults

@@ -1,28 +1,33 @@
 -- Which commands a fault meets.
 use Rattle.std.specs.Prelude.{ℕ, ◌+◌, ◌==◌, Bool, true, false, ◌&&◌, not, List, [], ◌∷◌, max, nat_le, nat_lt}
-use Rattle.std.specs.Prelude.{Option, Some, None, if◌then◌else◌, is_some}
+use Rattle.std.specs.Prelude.{◌||◌, Option, Some, None, option_and_then, if◌then◌else◌, is_some}
 use Rattle.std.specs.List.{list_any}
+use Rattle.std.specs.Option.{option_map_or}
 use Rattle.sg_wire.specs.declared.extent.Extent.{Extent}
 use Rattle.sg_store.specs.Disk.{lies_in}
 use Rattle.sg_faults.specs.declared.fault.BadBlocks.{BadBlocks}
 use Rattle.sg_faults.specs.declared.fault.Fault.{Fault}
 
--- What a fault knows of a command.
+-- What a fault knows of a command. A command that a check refuses reads and writes no block.
 pub record Seen : Type 0 where
   -- who sends it
   pub initiator : ℕ
   -- its operation code, if its CDB has a byte
   pub code : Option ℕ
-  -- the blocks that it reads or writes; none if a check refuses it
-  pub extents : List Extent
-  -- whether it writes them, and does not read them first
-  pub writes : Bool
+  -- the blocks that it reads, before it writes any
+  pub read : Option Extent
+  -- the blocks that it writes, whatever they contain
+  pub overwritten : List Extent
 
 -- ---- Blocks
 
 -- A command that reads or writes a block reaches the medium.
+abbrev pub has_block : Extent → Bool
+has_block extent = nat_lt 0 extent.count
+
 abbrev pub reaches_medium : Seen → Bool
-reaches_medium command = list_any (λ (extent : Extent). nat_lt 0 extent.count) command.extents
+reaches_medium command =
+    option_map_or has_block command.read false || list_any has_block command.overwritten
 
 abbrev pub lies_in_extent : Extent → (address : ℕ) → Bool
 lies_in_extent extent address = lies_in extent.lba extent.count address
@@ -46,22 +51,27 @@ contains named blocks =
 abbrev pub one_contains : List Extent → (blocks : Extent) → Bool
 one_contains extents blocks = list_any (λ named. contains named blocks) extents
 
--- A command writes all of some blocks.
-abbrev pub overwrites : Seen → (blocks : Extent) → Bool
-overwrites command blocks = command.writes && one_contains command.extents blocks
+-- The first of some blocks that a command reads, and the first that it overwrites.
+abbrev pub first_read : Seen → (blocks : Extent) → Option ℕ
+first_read command blocks =
+    option_and_then (λ (named : Extent). first_common named blocks) command.read
+
+abbrev pub first_overwritten : Seen → (blocks : Extent) → Option ℕ
+first_overwritten command blocks = first_in command.overwritten blocks
 
 -- ---- Faults
 
--- A command heals blocks that a write heals, if it writes all of them.
+-- A command heals blocks that a write heals, if it overwrites all of them.
 abbrev pub heals : Seen → BadBlocks → Bool
-heals command bad = bad.healed_by_writes && overwrites command bad.extent
+heals command bad = bad.healed_by_writes && one_contains command.overwritten bad.extent
 
--- A fault that names blocks meets only commands that name one of them. It does not meet a command
--- that heals them.
+-- A fault that names blocks meets only commands that read one of them, or overwrite one without healing
+-- them.
 abbrev pub names_one : Seen → Option BadBlocks → Bool
 names_one command None = true
 names_one command (Some bad) =
-    is_some (first_in command.extents bad.extent) && not (heals command bad)
+    is_some (first_read command bad.extent)
+    || (is_some (first_overwritten command bad.extent) && not (heals command bad))
 
 -- A fault that names an operation code meets only commands with that code.
 abbrev pub has_code : (code wanted : Option ℕ) → Bool

@@ -17,8 +17,8 @@ use sg_wire::{Extent, Initiator};
 pub struct BadBlocks {
     /// The blocks.
     pub extent: Extent,
-    /// Whether a command that writes all of them heals them: the fault does not meet it, and is gone
-    /// after it if it ends with GOOD.
+    /// Whether a command that overwrites all of them heals them. If it reads none of them, the fault does
+    /// not meet it. If it ends with GOOD, the fault is gone.
     pub healed_by_writes: bool,
 }
 
@@ -99,7 +99,10 @@ fn names_one(command: &SeenCommand<'_>, blocks: &Option<BadBlocks>) -> bool
     ensures { result ≡ names_one command.now blocks.now }
 {
     match blocks {
-        Some(bad) => command.first_in(bad.extent).is_some() && !bad.is_healed_by(command),
+        Some(bad) => {
+            command.first_read(bad.extent).is_some()
+                || (command.first_overwritten(bad.extent).is_some() && !bad.is_healed_by(command))
+        }
         None => true,
     }
 }
@@ -217,10 +220,12 @@ impl ArmedFault {
         }
     }
 
-    /// The first bad block that a command names, if it lies on blocks.
+    /// The first bad block that a command reads, or otherwise the first that it overwrites, if it lies on
+    /// blocks.
     pub(crate) fn first_bad(&self, command: &SeenCommand<'_>) -> Option<u64>
         ensures { result ≡ first_bad command.now self.now.fault }
     {
-        command.first_in(self.fault.blocks.as_ref()?.extent)
+        let bad = self.fault.blocks.as_ref()?.extent;
+        command.first_read(bad).or(command.first_overwritten(bad))
     }
 }

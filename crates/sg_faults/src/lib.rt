@@ -12,5 +12,5 @@ mod sense_code;
 pub use fault::{ArmedFault, BadBlocks, Count, Fault};
 pub use faults::{Faults, MAX_FAULTS};
 pub use outcome::{Afterwards, AtMedium, OnArrival, Outcome, Place, Struck};
-pub use seen::{Accessed, SeenCommand};
+pub use seen::{Overwritten, SeenCommand};
 pub use sense_code::{SenseCode, SenseKey};

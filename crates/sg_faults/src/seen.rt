@@ -1,45 +1,79 @@
 // A command as faults see it.
+ghost use Rattle.std.specs.List.{list_any};
 ghost use Rattle.std.specs.Prelude.{◌≡◌};
 ghost use Rattle.sg_store.specs.Disk.{lies_in};
-ghost use Rattle.sg_faults.specs.Meeting.{contains, first_common, first_in};
-ghost use Rattle.sg_faults.specs.Meeting.{one_contains, overwrites, reaches_medium};
+ghost use Rattle.sg_faults.specs.Meeting.{contains, first_common, first_in, first_overwritten};
+ghost use Rattle.sg_faults.specs.Meeting.{first_read, has_block, one_contains, reaches_medium};
+ghost use Rattle.sg_faults.specs.Overwritten.{extents_of};
 
 use sg_wire::{Extent, Initiator};
 use std::marker::Model;
 
-/// The blocks that a command reads or writes.
+/// The blocks that a command writes, whatever they contain.
 #[derive(Drop)]
-pub enum Accessed<'a> {
+pub enum Overwritten<'a> {
     /// The blocks of these extents.
     Extents(&'a [Extent]),
-    /// All blocks of the disk. It has so many, which no extent may name.
+    /// All blocks of a disk with this number of blocks. They may be more than an extent can name.
     Disk(u64),
 }
 
-/// What a fault knows of a command.
+impl Overwritten<'_> {
+    /// Returns `true` if there is a block.
+    fn has_block(&self) -> bool
+        ensures { result ≡ list_any has_block (extents_of self.now) }
+    {
+        match self {
+            Overwritten::Extents(extents) => extents.iter().any(|extent| extent.count > 0),
+            Overwritten::Disk(count) => *count > 0,
+        }
+    }
+
+    /// The first of some blocks that is overwritten. If several extents have one, the first extent decides.
+    fn first_in(&self, blocks: Extent) -> Option<u64>
+        ensures { result ≡ first_in (extents_of self.now) blocks }
+    {
+        match self {
+            Overwritten::Extents(extents) => first_in_extents(extents, blocks),
+            Overwritten::Disk(count) => first_common(0, *count, blocks),
+        }
+    }
+
+    /// Returns `true` if one of the extents contains some blocks whole.
+    fn one_contains(&self, blocks: Extent) -> bool
+        ensures { result ≡ one_contains (extents_of self.now) blocks }
+    {
+        match self {
+            Overwritten::Extents(extents) => one_contains(extents, blocks),
+            Overwritten::Disk(count) => contains(0, *count, blocks),
+        }
+    }
+}
+
+/// What a fault knows of a command. A command that a check refuses reads and writes no block.
 #[derive(Drop)]
 pub struct SeenCommand<'a> {
     /// The initiator that sends it.
     pub initiator: Initiator,
     /// Its operation code, the first byte of its CDB. None if the CDB has no byte.
     pub code: Option<u8>,
-    /// The blocks that it reads or writes. There are none if a check refuses it.
-    pub blocks: Accessed<'a>,
-    /// Whether it writes them, and does not read them first.
-    pub writes: bool,
+    /// The blocks that it reads, before it writes any.
+    pub read: Option<Extent>,
+    /// The blocks that it writes, whatever they contain.
+    pub overwritten: Overwritten<'a>,
 }
 
 impl<'a> Model for SeenCommand<'a> {
-    ghost use Rattle.sg_faults.specs.Accessed.{extents_of};
     ghost use Rattle.sg_faults.specs.Meeting.{Seen};
+    ghost use Rattle.sg_faults.specs.Overwritten.{extents_of};
 
     ghost Value = { Seen };
 
     ghost view = { λ c. record {
       initiator = c.initiator;
       code = c.code;
-      extents = extents_of c.blocks;
-      writes = c.writes;
+      read = c.read;
+      overwritten = extents_of c.overwritten;
     } };
 }
 
@@ -48,32 +82,29 @@ impl SeenCommand<'_> {
     pub fn reaches_medium(&self) -> bool
         ensures { result ≡ reaches_medium self.now }
     {
-        match self.blocks {
-            Accessed::Extents(extents) => extents.iter().any(|extent| extent.count > 0),
-            Accessed::Disk(count) => count > 0,
-        }
+        self.read.is_some_and(|extent| extent.count > 0) || self.overwritten.has_block()
     }
 
-    /// The first of some blocks that it names. If several of its extents have one, the first extent
-    /// decides.
-    pub(crate) fn first_in(&self, blocks: Extent) -> Option<u64>
-        ensures { result ≡ first_in self.now.extents blocks }
+    /// The first of some blocks that it reads.
+    pub(crate) fn first_read(&self, blocks: Extent) -> Option<u64>
+        ensures { result ≡ first_read self.now blocks }
     {
-        match self.blocks {
-            Accessed::Extents(extents) => first_in_extents(extents, blocks),
-            Accessed::Disk(count) => first_common(0, count, blocks),
-        }
+        let read = self.read?;
+        first_common(read.lba, u64::from(read.count), blocks)
     }
 
-    /// Returns `true` if it writes, and one of its extents contains some blocks.
+    /// The first of some blocks that it overwrites.
+    pub(crate) fn first_overwritten(&self, blocks: Extent) -> Option<u64>
+        ensures { result ≡ first_overwritten self.now blocks }
+    {
+        self.overwritten.first_in(blocks)
+    }
+
+    /// Returns `true` if it overwrites all of some blocks.
     pub(crate) fn overwrites(&self, blocks: Extent) -> bool
-        ensures { result ≡ overwrites self.now blocks }
+        ensures { result ≡ one_contains self.now.overwritten blocks }
     {
-        self.writes
-            && match self.blocks {
-                Accessed::Extents(extents) => one_contains(extents, blocks),
-                Accessed::Disk(count) => contains(0, count, blocks),
-            }
+        self.overwritten.one_contains(blocks)
     }
 }
 

@@ -167,16 +167,16 @@ module _ (law : RemappingTakesWhatIsNeeded) (s : State) (x : Contents) (i : ℕ)
       (executed (storing t second))).answer)
       sizes
 
-  operation-alike : (o : Operation) → (medium_use o).reads ≡ false
+  operation-alike : (o : Operation) → (medium_use o).read ≡ None
       → (step_by s i o).answer ≡ (step_by t i o).answer
   unfolding selected_modes reservation_change
-  operation-alike (operation.Read extent) r = absurd (false≢true (sym r))
-  operation-alike (operation.Verify extent) r = absurd (false≢true (sym r))
-  operation-alike (operation.Compare out) r = absurd (false≢true (sym r))
-  operation-alike (operation.CompareEach extent block) r = absurd (false≢true (sym r))
-  operation-alike (operation.CompareAndWrite exchange) r = absurd (false≢true (sym r))
-  operation-alike (operation.OrWrite out) r = absurd (false≢true (sym r))
-  operation-alike (operation.Copy segment) r = absurd (false≢true (sym r))
+  operation-alike (operation.Read extent) r = cc
+  operation-alike (operation.Verify extent) r = cc
+  operation-alike (operation.Compare out) r = cc
+  operation-alike (operation.CompareEach extent block) r = cc
+  operation-alike (operation.CompareAndWrite exchange) r = cc
+  operation-alike (operation.OrWrite out) r = cc
+  operation-alike (operation.Copy segment) r = cc
   operation-alike (operation.Write out) r =
       stored-alike _ _ (remapped-alike law m x out.extent.lba out.extent.count
       (λ index. Data (block_at out.bytes index)) (λ index. Data (block_at out.bytes index)) used).size

@@ -4,10 +4,11 @@ use Rattle.std.proofs.Common.{Option, Some, None, Result, Ok, Err, refl, sym, ap
 use Rattle.std.specs.Prelude.{if◌then◌else◌, is_some, map, option_and_then}
 use Rattle.std.specs.List.{list_any}
 use Rattle.std.specs.Option.{option_map_or}
-use Rattle.std.proofs.lemmas.Bool.{and_left, and_right, or_parts}
+use Rattle.std.proofs.lemmas.Bool.{and_right, or_parts}
 use Rattle.std.proofs.lemmas.List.{get_or-set_other}
 use Rattle.sg_wire.specs.Laws.{CommandsHaveTheirClass}
 use Rattle.sg_wire.specs.declared.command.Class.TheVariants.{Writes}
+use Rattle.sg_wire.specs.declared.extent.Extent.{Extent}
 use Rattle.sg_faults.specs.Arming.{count_for, counted, is_spent, lasts, next_count, spent}
 use Rattle.sg_faults.specs.Faults.{Faults, after_asking, asked, decided, healed, met}
 use Rattle.sg_faults.specs.Faults.{struck_in}
@@ -25,7 +26,7 @@ use Rattle.sg_units.specs.Access.{allows}
 use Rattle.sg_target.specs.Armed.{Armed, Attempt, afterwards_step, armed_step, arrival_attempt}
 use Rattle.sg_target.specs.Armed.{attempt, attempt_of, checked_attempt, fault_by, finished_if_good}
 use Rattle.sg_target.specs.Armed.{first_blocks, lacks_room, marked_by, medium_attempt, medium_of, seen}
-use Rattle.sg_target.specs.Armed.{only_writes, step_of_checked}
+use Rattle.sg_target.specs.Armed.{step_of_checked}
 use Rattle.sg_target.specs.Checks.{checked_cdb}
 use Rattle.sg_target.specs.Semantics.{medium_use}
 use Rattle.sg_target.specs.Step.{Step}
@@ -96,15 +97,14 @@ module _ {A : Type 0} (at : At A) (command : Seen) (k : ℕ) (other : k ≡ comm
       one-more (is_some (struck_in at command slot)) slot faults (asked at command faults)
       (asked-left faults)
 
--- a command that does not write heals nothing
-heals-none : (command : Seen) → command.writes ≡ false → (blocks : Option BadBlocks)
+-- a command that overwrites nothing heals nothing
+heals-none : (command : Seen) → command.overwritten ≡ [] → (blocks : Option BadBlocks)
     → option_map_or (heals command) blocks false ≡ false
 heals-none command e None = refl
 heals-none command e (Some bad) =
-    and_right bad.healed_by_writes _
-    (and_left command.writes (one_contains command.extents bad.extent) e)
+    and_right bad.healed_by_writes _ (ap (λ (extents : List Extent). one_contains extents bad.extent) e)
 
-healed-none : (command : Seen) → command.writes ≡ false → (faults : Faults)
+healed-none : (command : Seen) → command.overwritten ≡ [] → (faults : Faults)
     → healed command faults ≡ faults
 unfolding healed
 healed-none command e [] = refl
@@ -150,7 +150,7 @@ module _ (k : ℕ) (command : Seen) (other : k ≡ command.initiator → ⊥) wh
   afterwards-faults None done faults = refl
   afterwards-faults (Some struck) done faults = refl
 
-  finished-left : command.writes ≡ false → (status : Status) (faults : Faults) (done : Step)
+  finished-left : command.overwritten ≡ [] → (status : Status) (faults : Faults) (done : Step)
       → left_of k (finished_if_good status None command faults done).after.faults ≡ left_of k faults
   finished-left e Good faults done =
       let left = healed command faults in
@@ -168,24 +168,22 @@ first-writes-nothing : (n : ℕ) (operation : Operation) → WritesNothing opera
     → WritesNothing (first_blocks n operation)
 first-writes-nothing n operation h = λ e. h (sym (first-class n operation) ∙ e)
 
-no-writes : (o : Operation) → WritesNothing o → (medium_use o).writes ≡ false
-no-writes (operation.CompareAndWrite exchange) h = absurd (h refl)
-no-writes (operation.OrWrite out) h = absurd (h refl)
-no-writes (operation.Copy segment) h = absurd (h refl)
-no-writes (operation.Write out) h = absurd (h refl)
-no-writes (operation.Fill extent block) h = absurd (h refl)
-no-writes (operation.MarkBad lba cor_dis) h = absurd (h refl)
-no-writes (operation.Unmap extents) h = absurd (h refl)
-no-writes (operation.UnmapExtent extent) h = absurd (h refl)
-no-writes (operation.UnmapAll blocks) h = absurd (h refl)
-no-writes (operation.Anchor extents) h = absurd (h refl)
-no-writes (operation.AnchorExtent extent) h = absurd (h refl)
-no-writes _ h = refl
+overwrites-nothing : (o : Operation) → WritesNothing o → (medium_use o).overwritten ≡ []
+overwrites-nothing (operation.Copy segment) h = absurd (h refl)
+overwrites-nothing (operation.Write out) h = absurd (h refl)
+overwrites-nothing (operation.Fill extent block) h = absurd (h refl)
+overwrites-nothing (operation.MarkBad lba cor_dis) h = absurd (h refl)
+overwrites-nothing (operation.Unmap extents) h = absurd (h refl)
+overwrites-nothing (operation.UnmapExtent extent) h = absurd (h refl)
+overwrites-nothing (operation.UnmapAll blocks) h = absurd (h refl)
+overwrites-nothing (operation.Anchor extents) h = absurd (h refl)
+overwrites-nothing (operation.AnchorExtent extent) h = absurd (h refl)
+overwrites-nothing _ h = refl
 
-seen-writes : (result : Result Operation Refusal) → Holds WritesNothing first-writes-nothing result
-    → only_writes (medium_of result) ≡ false
-seen-writes (Ok o) h = ap (λ (b : Bool). b && not (medium_use o).reads) (no-writes o h)
-seen-writes (Err refusal) h = refl
+none-overwritten : (result : Result Operation Refusal) → Holds WritesNothing first-writes-nothing result
+    → (medium_of result).overwritten ≡ []
+none-overwritten (Ok o) h = overwrites-nothing o h
+none-overwritten (Err refusal) h = refl
 
 -- and marks no block as bad
 no-mark : (o : Operation) → WritesNothing o → fault_by o ≡ None
@@ -221,6 +219,6 @@ module _ (classes : CommandsHaveTheirClass) (disk : Armed) (j : ℕ)
       (λ (mark : Option Fault). faults_for
       (finished_if_good done.answer.status mark command' tried.faults done).after k)
       (unmarked tried.result nothing)
-      ∙ finished-left k command' other (seen-writes tried.result nothing) done.answer.status tried.faults
+      ∙ finished-left k command' other (none-overwritten tried.result nothing) done.answer.status tried.faults
       done
       ∙ attempt-left k command other checked disk.faults

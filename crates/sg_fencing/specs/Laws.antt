@@ -51,7 +51,7 @@ OnlyReadsReturnData =
     (state : State) (contents : Contents) (initiator : ℕ) (operation : Operation)
     → IsWithinLimits state → IsWithinLimits (with_contents state contents)
     → HaveTheSameStatuses state.disk.contents contents
-    → (medium_use operation).reads ≡ false
+    → (medium_use operation).read ≡ None
     → let others = with_contents state contents in
     (outcome others initiator (effect_of others initiator operation)).answer
     ≡ (outcome state initiator (effect_of state initiator operation)).answer

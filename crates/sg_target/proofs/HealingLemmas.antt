@@ -11,7 +11,7 @@ use Rattle.sg_wire.specs.declared.extent.Extent.{Extent}
 use Rattle.sg_faults.specs.Arming.{is_spent, next_count, spent}
 use Rattle.sg_faults.specs.Faults.{Faults, after_asking, asked, decided, healed, healed_slot, met}
 use Rattle.sg_faults.specs.Faults.{struck_in}
-use Rattle.sg_faults.specs.Meeting.{Seen, heals, meets, one_contains, overwrites, reaches_medium}
+use Rattle.sg_faults.specs.Meeting.{Seen, heals, meets, one_contains, reaches_medium}
 use Rattle.sg_faults.specs.Places.{At, afterwards, at_medium, on_arrival}
 use Rattle.sg_faults.specs.declared.fault.ArmedFault.{ArmedFault}
 use Rattle.sg_faults.specs.declared.fault.BadBlocks.{BadBlocks}
@@ -27,7 +27,8 @@ use Rattle.sg_target.specs.Armed.{fault_by, finished_if_good, first_blocks, lack
 use Rattle.sg_target.specs.Armed.{medium_attempt, seen, step_of_checked}
 use Rattle.sg_target.specs.Checks.{checked_cdb}
 use Rattle.sg_target.specs.FaultLaws.{HealsByWrites, HealsWhatItOverwrites, IsExecutedAs}
-use Rattle.sg_target.specs.FaultLaws.{OnlyOverwritingHeals, is_write_long, overwritten}
+use Rattle.sg_target.specs.FaultLaws.{OnlyOverwritingHeals, is_write_long}
+use Rattle.sg_target.specs.Semantics.{medium_use}
 use Rattle.sg_target.specs.State.{profile_of}
 use Rattle.sg_target.specs.Step.{Step}
 use Rattle.sg_target.specs.declared.operation.Operation.{Operation}
@@ -177,7 +178,7 @@ module _ (fault : Fault) (blocks : Extent) where
   healed-at command (first ∷ faults) (suc n) slot h = healed-at command faults n slot h
 
   abbrev is_healed : Seen → Bool
-  is_healed command = overwrites command blocks
+  is_healed command = one_contains command.overwritten blocks
 
   slot-healed : (command : Seen) (faults : Faults) (n : ℕ) (h : HealsByWrites faults n fault blocks)
       → slice_get (healed command faults) n
@@ -266,12 +267,6 @@ module _ (fault : Fault) (blocks : Extent) where
 
 -- ---- The law
 
--- a command heals what its operation overwrites
-heals-overwritten : (i : ℕ) (cdb : List ℕ) (o : Operation) (blocks : Extent)
-    → overwrites (seen i cdb (Ok o)) blocks ≡ one_contains (overwritten o) blocks
-heals-overwritten i cdb (operation.Write out) blocks = refl
-heals-overwritten i cdb o blocks = refl
-
 -- the first blocks of an operation mark no block if it marks none
 first-mark : (n : ℕ) (o : Operation) → fault_by (first_blocks n o) ≡ fault_by o
 first-mark n (operation.Read e) = refl
@@ -319,12 +314,11 @@ module _ (disk : Armed) (i : ℕ) (cdb data_out : List ℕ)
         attempt-stays fault blocks disk.faults (seen i cdb checked) checked number h
 
     spares : ((o : Operation) → IsExecutedAs disk i cdb data_out o
-        → one_contains (overwritten o) blocks ≡ false)
+        → one_contains (medium_use o).overwritten blocks ≡ false)
         → (result : Result Operation Refusal) → tried.result ≡ result
         → (step_of_checked disk.state i result).answer.status ≡ Good
-        → overwrites (seen i cdb result) blocks ≡ false
-    spares none (Ok o) e good =
-        heals-overwritten i cdb o blocks ∙ none o (record { result = e; good = good })
+        → one_contains (seen i cdb result).overwritten blocks ≡ false
+    spares none (Ok o) e good = none o (record { result = e; good = good })
     spares none (Err refusal) e good = absurd (not_good disk.state i refusal good)
 
     pub heals-these : HealsWhatItOverwrites disk i cdb data_out number fault blocks
@@ -339,8 +333,7 @@ module _ (disk : Armed) (i : ℕ) (cdb data_out : List ℕ)
           ap (λ (faults : Faults). slice_get faults number) (sym faults-are)
           ∙ finished-goes fault blocks done.answer.status command tried.faults done number
           (ap (λ r. (step_of_checked disk.state i r).answer.status) executed.result ∙ executed.good)
-          (ap (λ r. overwrites (seen i cdb r) blocks) executed.result
-          ∙ (heals-overwritten i cdb o blocks ∙ contained))
+          (ap (λ r. one_contains (seen i cdb r).overwritten blocks) executed.result ∙ contained)
           still;
     }
 

@@ -27,7 +27,7 @@ use Rattle.sg_target.specs.Demands.{demands, extent, extents_out, list_refusal, 
 use Rattle.sg_target.specs.CopyRequest.{copy_asked, list_asked}
 use Rattle.sg_target.specs.Demands.{unmap_extent, unmap_extents, verify, verify_only}
 use Rattle.sg_target.specs.Effect.{Effect, returning_up_to, with_contents}
-use Rattle.sg_target.specs.FaultLaws.{CommandsOverwriteTheirBlocks, overwritten, reads_first}
+use Rattle.sg_target.specs.FaultLaws.{CommandsOverwriteTheirBlocks, reads_first}
 use Rattle.sg_target.specs.Laws.{AnchorsEachExtent, UnmapsEachExtent, lies_in_any}
 use Rattle.sg_target.specs.ModeCommands.{changing_modes, mode_parameters, selected_modes}
 use Rattle.sg_target.specs.PrimaryCommands.{inquiry_page}
@@ -56,7 +56,7 @@ written_by o = cond (medium_use o).writes (medium_use o).extents []
 -- an operation, if a command asks for one, writes these blocks, and overwrites them or none
 abbrev WritesThese : Result Operation Refusal → (first : Bool) → List Extent → Type 0
 WritesThese (Ok o) first extents =
-    (written_by o ≡ extents) × (overwritten o ≡ (if first then [] else extents))
+    (written_by o ≡ extents) × ((medium_use o).overwritten ≡ (if first then [] else extents))
 WritesThese (Err refusal) first extents = Unit {0}
 
 sound-none : {A : Type 0} (sound : Result A Refusal) (becomes : A → Operation)
@@ -99,13 +99,13 @@ format-writes None blocks = (refl, refl)
 format-writes (Some refusal) blocks = tt
 
 segment-writes : (segment : Option Segment)
-    → WritesThese (Ok (option_map_or operation.Copy segment operation.Nothing)) true
+    → WritesThese (Ok (option_map_or operation.Copy segment operation.Nothing)) false
     (option_map_or (λ segment. destination_of segment ∷ []) segment [])
 segment-writes (Some segment) = (refl, refl)
 segment-writes None = (refl, refl)
 
 copy-writes : (found : Result CopyList Refusal)
-    → WritesThese (when_sound found copy_asked) true
+    → WritesThese (when_sound found copy_asked) false
     (option_map_or (λ segment. destination_of segment ∷ []) (segment_asked found) [])
 copy-writes (Ok list) = segment-writes list.segment
 copy-writes (Err refusal) = tt

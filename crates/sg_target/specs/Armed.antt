@@ -4,7 +4,6 @@ use Rattle.std.specs.Prelude.{ℕ, List, Option, Some, None, Result, Ok, Err}
 use Rattle.std.specs.Prelude.{[], Bool, ◌&&◌, ◌||◌, not, if◌then◌else◌, slice_get}
 use Rattle.std.specs.Prelude.{◌++◌, drop, is_some}
 use Rattle.std.specs.Option.{option_map_or}
-use Rattle.sg_wire.specs.declared.extent.Extent.{Extent}
 use Rattle.sg_wire.specs.FirstBytes.{first_bytes}
 use Rattle.sg_wire.specs.SenseData.{sense_data}
 use Rattle.sg_faults.specs.Arming.{unrecovered_error}
@@ -46,22 +45,13 @@ abbrev pub medium_of : Result Operation Refusal → MediumUse
 medium_of (Ok operation) = medium_use operation
 medium_of (Err refusal) = uses_no_block
 
--- The blocks that it reads or writes.
-abbrev pub accessed : MediumUse → List Extent
-accessed used = if used.reads || used.writes then used.extents else []
-
--- It writes its blocks and does not read them first, as COMPARE AND WRITE and ORWRITE do. EXTENDED COPY reads
--- other blocks first.
-abbrev pub only_writes : MediumUse → Bool
-only_writes used = used.writes && not used.reads
-
 -- The faults see these blocks of a command, and its operation code.
 abbrev pub seen : (initiator : ℕ) → (cdb : List ℕ) → Result Operation Refusal → Seen
 seen initiator cdb checked = record {
   initiator = initiator;
   code = slice_get cdb 0;
-  extents = accessed (medium_of checked);
-  writes = only_writes (medium_of checked);
+  read = (medium_of checked).read;
+  overwritten = (medium_of checked).overwritten;
 }
 
 -- ---- On arrival, and at the medium

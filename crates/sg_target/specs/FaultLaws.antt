@@ -1,5 +1,6 @@
 -- Laws of armed faults.
-use Rattle.std.specs.Prelude.{◌≡◌, ◌⊎◌, ℕ, Bool, true, false, List, [], ◌∷◌, not, Some, None}
+use Rattle.std.specs.Option.{option_map_or}
+use Rattle.std.specs.Prelude.{◌≡◌, ◌⊎◌, ℕ, Bool, true, false, List, [], ◌∷◌, ◌++◌, not, Some, None}
 use Rattle.std.specs.Prelude.{Result, Ok, Err, if◌then◌else◌, is_none, slice_get}
 use Rattle.std.specs.List.{list_all, list_any}
 use Rattle.sg_wire.specs.CdbDecoding.{command_in, command_of}
@@ -20,18 +21,17 @@ use Rattle.sg_target.specs.Armed.{Armed, ArmedStep, armed_step, attempt_of, firs
 use Rattle.sg_target.specs.Armed.{refusal_on_arrival, seen, step_of_checked, whole_answer}
 use Rattle.sg_target.specs.Checks.{checked_cdb}
 use Rattle.sg_target.specs.CommandLaws.{blocks_written}
-use Rattle.sg_target.specs.Demands.{extent}
 use Rattle.sg_target.specs.Runs.{after_events, answers_to, answers_to_events, armed_disk}
 use Rattle.sg_target.specs.Runs.{state_after_events}
+use Rattle.sg_target.specs.Semantics.{MediumUse, medium_use}
 use Rattle.sg_target.specs.State.{State, config_of, profile_of}
 use Rattle.sg_target.specs.Step.{refused, step}
 use Rattle.sg_target.specs.declared.event.Event.{Event}
 use Rattle.sg_target.specs.declared.event.Event.TheVariants as event
 use Rattle.sg_target.specs.declared.happening.Happening.TheVariants.{Arm}
 use Rattle.sg_target.specs.declared.operation.Operation.{Operation}
-use Rattle.sg_target.specs.declared.operation.Operation.TheVariants.{Write, Fill, MarkBad, Unmap}
-use Rattle.sg_target.specs.declared.operation.Operation.TheVariants.{UnmapExtent, UnmapAll, Anchor}
-use Rattle.sg_target.specs.declared.operation.Operation.TheVariants.{AnchorExtent}
+use Rattle.sg_target.specs.declared.operation.Operation.TheVariants.{Fill, PreFetch, ReturnLbaStatus}
+use Rattle.sg_target.specs.declared.operation.Operation.TheVariants.{Synchronize, Write}
 use Rattle.sg_target.specs.declared.refusal.Refusal.{Refusal}
 use Rattle.sg_target.specs.declared.reply.Status.TheVariants.{Good}
 
@@ -164,25 +164,31 @@ ArrivalChangesOnlyCounts =
     → (armed_step disk initiator cdb data_out).after
     ≡ record disk { faults = asked on_arrival command disk.faults }
 
+-- ---- The blocks that faults see
+
+-- The blocks that an operation reads, and then those that it overwrites.
+abbrev pub used_blocks : MediumUse → List Extent
+used_blocks used = option_map_or (λ (extent : Extent). extent ∷ []) used.read [] ++ used.overwritten
+
+-- PRE-FETCH, SYNCHRONIZE CACHE and GET LBA STATUS name blocks, and use none.
+abbrev pub uses_none : Operation → Bool
+uses_none (PreFetch extent) = true
+uses_none (Synchronize extent) = true
+uses_none (ReturnLbaStatus start n) = true
+uses_none _ = false
+
+-- Each other operation uses the blocks that the checks look at, and no more.
+abbrev pub OperationsUseTheBlocksThatAreChecked : Type 0
+OperationsUseTheBlocksThatAreChecked =
+    (operation : Operation) → used_blocks (medium_use operation)
+    ≡ (if uses_none operation then [] else (medium_use operation).extents)
+
 -- ---- What heals a fault
 
--- The blocks that an operation overwrites: it writes them, and does not read them first.
-abbrev pub overwritten : Operation → List Extent
-overwritten (Write out) = out.extent ∷ []
-overwritten (Fill extent block) = extent ∷ []
-overwritten (MarkBad lba cor_dis) = extent lba 1 ∷ []
-overwritten (Unmap extents) = extents
-overwritten (UnmapExtent extent) = extent ∷ []
-overwritten (UnmapAll blocks) = extent 0 blocks ∷ []
-overwritten (Anchor extents) = extents
-overwritten (AnchorExtent extent) = extent ∷ []
-overwritten _ = []
-
--- COMPARE AND WRITE and ORWRITE read their blocks first, and EXTENDED COPY reads its source.
+-- COMPARE AND WRITE and ORWRITE read their blocks first.
 abbrev pub reads_first : Result Command CdbFault → Bool
 reads_first (Ok (command.CompareAndWrite c)) = true
 reads_first (Ok (command.OrWrite16 c)) = true
-reads_first (Ok (command.ExtendedCopy c)) = true
 reads_first _ = false
 
 -- So each other command that writes blocks overwrites them, and no command overwrites other blocks.
@@ -190,7 +196,7 @@ abbrev pub CommandsOverwriteTheirBlocks : Type 0
 CommandsOverwriteTheirBlocks =
     (state : State) (initiator : ℕ) (cdb data_out : List ℕ) (operation : Operation)
     → checked_cdb state initiator cdb data_out ≡ Ok operation
-    → overwritten operation
+    → (medium_use operation).overwritten
     ≡ (if reads_first (command_of cdb) then []
     else blocks_written (config_of state) (command_of cdb) data_out)
 
@@ -215,10 +221,10 @@ pub record IsExecutedAs (disk : Armed) (initiator : ℕ) (cdb data_out : List �
 pub record HealsWhatItOverwrites (disk : Armed) (initiator : ℕ) (cdb data_out : List ℕ) (number : ℕ)
     (fault : Fault) (blocks : Extent) : Type 0 where
   pub stays : ((operation : Operation) → IsExecutedAs disk initiator cdb data_out operation
-      → one_contains (overwritten operation) blocks ≡ false)
+      → one_contains (medium_use operation).overwritten blocks ≡ false)
       → HealsByWrites (armed_step disk initiator cdb data_out).after.faults number fault blocks
   pub goes : (operation : Operation) → IsExecutedAs disk initiator cdb data_out operation
-      → one_contains (overwritten operation) blocks ≡ true
+      → one_contains (medium_use operation).overwritten blocks ≡ true
       → slice_get (armed_step disk initiator cdb data_out).after.faults number ≡ Some None
 
 -- A WRITE LONG may arm another fault under the number that it has freed.

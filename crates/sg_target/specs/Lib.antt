@@ -39,7 +39,7 @@ pub mod AlertLaws
 -- Modules that only private contracts cite.
 pub mod DataIn
 pub mod Extents
-pub mod AccessedBlocks
+pub mod OverwrittenBlocks
 pub mod Joining
 pub mod Anchoring
 pub mod MadeReplies

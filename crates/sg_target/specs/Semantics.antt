@@ -1,5 +1,5 @@
 -- The meaning of each operation: the blocks that it names, and its effect.
-use Rattle.std.specs.Prelude.{ℕ, List, [], ◌∷◌, Bool, true, false, nat_lt, Result, Ok}
+use Rattle.std.specs.Prelude.{ℕ, List, [], ◌∷◌, Bool, true, false, nat_lt, Option, Some, None, Result, Ok}
 use Rattle.std.specs.List.{list_any}
 use Rattle.sg_wire.specs.declared.extent.Extent.{Extent}
 use Rattle.sg_target.specs.BlockCommands.{comparing, comparing_each, copying, destination_of, exchanging}
@@ -40,8 +40,10 @@ use Rattle.sg_target.specs.declared.refusal.Refusal.{Refusal}
 pub record MediumUse : Type 0 where
   -- the blocks that have to be on the disk, in the order of their checks
   pub extents : List Extent
-  -- whether it reads the data of blocks
-  pub reads : Bool
+  -- the blocks whose data it reads, before it writes any
+  pub read : Option Extent
+  -- the blocks that it writes, whatever they contain
+  pub overwritten : List Extent
   -- whether it writes to the medium
   pub writes : Bool
   -- whether the unit has to be ready for it: a stopped unit is not
@@ -50,7 +52,7 @@ pub record MediumUse : Type 0 where
 -- An operation that names blocks, or a list that may be empty, needs a unit that is ready.
 abbrev pub only_names : List Extent → MediumUse
 only_names extents =
-    record { extents = extents; reads = false; writes = false; needs_ready = true }
+    record { extents = extents; read = None; overwritten = []; writes = false; needs_ready = true }
 
 -- TEST UNIT READY needs it, too, and names no block.
 abbrev pub only_needs_ready : MediumUse
@@ -59,15 +61,22 @@ only_needs_ready = only_names []
 abbrev pub uses_no_block : MediumUse
 uses_no_block = record only_needs_ready { needs_ready = false }
 
-abbrev pub reads_from : List Extent → MediumUse
-reads_from extents = record (only_names extents) { reads = true }
+abbrev pub reads_from : Extent → MediumUse
+reads_from extent = record (only_names (extent ∷ [])) { read = Some extent }
 
 abbrev pub writes_to : List Extent → MediumUse
-writes_to extents = record (only_names extents) { writes = true }
+writes_to extents = record (only_names extents) { overwritten = extents; writes = true }
 
--- COMPARE AND WRITE, ORWRITE and EXTENDED COPY do both.
-abbrev pub exchanges : List Extent → MediumUse
-exchanges extents = record (reads_from extents) { writes = true }
+-- COMPARE AND WRITE and ORWRITE need what their blocks contain, so they overwrite none.
+abbrev pub exchanges : Extent → MediumUse
+exchanges extent = record (reads_from extent) { writes = true }
+
+-- EXTENDED COPY overwrites its destination.
+abbrev pub copies : (source destination : Extent) → MediumUse
+copies source destination = record (writes_to (destination ∷ [])) {
+  extents = source ∷ destination ∷ [];
+  read = Some source;
+}
 
 abbrev pub names_some_block : List Extent → Bool
 names_some_block = list_any (λ (extent : Extent). nat_lt 0 extent.count)
@@ -86,14 +95,14 @@ medium_use (ReturnLuns listed n) = uses_no_block
 medium_use (ReturnReport report n) = uses_no_block
 medium_use ReturnCapacity10 = uses_no_block
 medium_use (ReturnCapacity16 n) = uses_no_block
-medium_use (Read extent) = reads_from (extent ∷ [])
+medium_use (Read extent) = reads_from extent
 medium_use (Write out) = writes_to (out.extent ∷ [])
-medium_use (Verify extent) = reads_from (extent ∷ [])
-medium_use (Compare out) = reads_from (out.extent ∷ [])
-medium_use (CompareEach extent block) = reads_from (extent ∷ [])
-medium_use (CompareAndWrite exchange) = exchanges (exchange.extent ∷ [])
-medium_use (OrWrite out) = exchanges (out.extent ∷ [])
-medium_use (Copy segment) = exchanges (source_of segment ∷ destination_of segment ∷ [])
+medium_use (Verify extent) = reads_from extent
+medium_use (Compare out) = reads_from out.extent
+medium_use (CompareEach extent block) = reads_from extent
+medium_use (CompareAndWrite exchange) = exchanges exchange.extent
+medium_use (OrWrite out) = exchanges out.extent
+medium_use (Copy segment) = copies (source_of segment) (destination_of segment)
 medium_use (PreFetch extent) = only_names (extent ∷ [])
 medium_use (Synchronize extent) = only_names (extent ∷ [])
 medium_use (Fill extent block) = writes_to (extent ∷ [])

@@ -1,10 +1,9 @@
 // Commands on a disk on which faults are armed.
 ghost use Rattle.std.specs.Prelude.{◌≡◌, ◌≤◌, [], ◌∷◌, Ok, IfOk, is_some, length, min};
-ghost use Rattle.sg_faults.specs.Accessed.{extents_of};
 ghost use Rattle.sg_faults.specs.Faults.{asked, decided};
+ghost use Rattle.sg_faults.specs.Overwritten.{extents_of};
 ghost use Rattle.sg_faults.specs.Places.{afterwards};
-ghost use Rattle.sg_target.specs.AccessedBlocks.{extents_in};
-ghost use Rattle.sg_target.specs.Armed.{accessed, armed_step_by, attempt, attempt_by, checked_attempt};
+ghost use Rattle.sg_target.specs.Armed.{armed_step_by, attempt, attempt_by, checked_attempt};
 ghost use Rattle.sg_target.specs.Armed.{faults_left, first_blocks, marked_by, marked_code};
 ghost use Rattle.sg_target.specs.Armed.{medium_of, refusal_on_arrival, result_at_medium, seen};
 ghost use Rattle.sg_target.specs.Armed.{step_of_checked};
@@ -16,6 +15,7 @@ ghost use Rattle.sg_target.specs.Executed.{executed_by, executed_operation};
 ghost use Rattle.sg_target.specs.Execution.{IsExecuted};
 ghost use Rattle.sg_target.specs.Extents.{AreOnDisk};
 ghost use Rattle.sg_target.specs.MadeReplies.{finished_reply};
+ghost use Rattle.sg_target.specs.OverwrittenBlocks.{extents_in};
 ghost use Rattle.sg_target.specs.Ranges.{ranges_if_passed};
 ghost use Rattle.sg_target.specs.Semantics.{medium_use};
 ghost use Rattle.sg_target.specs.State.{IsWithinLimits};
@@ -33,9 +33,10 @@ use crate::reply::{Reply, Status};
 use crate::room::data_in_bound;
 use crate::target::Target;
 use sg_faults::{
-    Accessed, Afterwards, ArmedFault, AtMedium, Fault, OnArrival, SeenCommand, SenseCode, SenseKey,
+    Afterwards, ArmedFault, AtMedium, Fault, OnArrival, Overwritten, SeenCommand, SenseCode,
+    SenseKey,
 };
-use sg_store::{Counts, MAX_CAPACITY, Store};
+use sg_store::{Counts, Store};
 use sg_wire::{Command, Extent, Initiator, UnmapList};
 
 /// The first blocks of an extent, at most this many.
@@ -48,71 +49,74 @@ pub(crate) fn first_of(blocks: u32, extent: Extent) -> Extent
     }
 }
 
-/// The blocks that a command reads or writes.
+/// The blocks that a command writes, whatever they contain.
 #[derive(Drop)]
-enum AccessedBlocks {
+enum OverwrittenBlocks {
     /// The blocks of these extents.
     Extents(UnmapList),
-    /// All blocks of the disk, so many.
+    /// All blocks of a disk with this number of blocks.
     Disk(u64),
 }
 
-impl AccessedBlocks {
+impl OverwrittenBlocks {
     /// No block.
-    fn none() -> AccessedBlocks
+    fn none() -> OverwrittenBlocks
         ensures { extents_in result ≡ [] }
     {
-        AccessedBlocks::Extents(UnmapList::new())
+        OverwrittenBlocks::Extents(UnmapList::new())
+    }
+
+    /// The blocks of one extent.
+    fn one(extent: Extent) -> OverwrittenBlocks
+        ensures { extents_in result ≡ extent ∷ [] }
+    {
+        let mut list = UnmapList::new();
+        list.push(extent);
+        OverwrittenBlocks::Extents(list)
     }
 
     /// How faults see them.
-    fn seen(&self) -> Accessed<'_>
+    fn seen(&self) -> Overwritten<'_>
         ensures { extents_of result ≡ extents_in self.now }
     {
         match self {
-            AccessedBlocks::Extents(extents) => Accessed::Extents(extents.as_slice()),
-            AccessedBlocks::Disk(blocks) => Accessed::Disk(*blocks),
+            OverwrittenBlocks::Extents(extents) => Overwritten::Extents(extents.as_slice()),
+            OverwrittenBlocks::Disk(blocks) => Overwritten::Disk(*blocks),
         }
     }
 }
 
 impl<'a> Operation<'a> {
-    /// The blocks that it reads or writes.
-    fn accessed(&self) -> AccessedBlocks
-        ensures { extents_in result ≡ accessed (medium_use self.now) }
+    /// The blocks that it reads, before it writes any.
+    fn read(&self) -> Option<Extent>
+        ensures { result ≡ (medium_use self.now).read }
+    {
+        match self {
+            Operation::Read(blocks) => Some(blocks.extent),
+            Operation::Compare(blocks) | Operation::OrWrite(blocks) => Some(blocks.extent),
+            Operation::CompareAndWrite(exchange) => Some(exchange.extent),
+            Operation::Copy(blocks) => Some(blocks.source()),
+            Operation::Verify(extent) | Operation::CompareEach { extent, .. } => Some(*extent),
+            _ => None,
+        }
+    }
+
+    /// The blocks that it writes, whatever they contain.
+    fn overwritten(&self) -> OverwrittenBlocks
+        ensures { extents_in result ≡ (medium_use self.now).overwritten }
     {
         match self {
             Operation::Unmap(extents) | Operation::Anchor(extents) => {
-                AccessedBlocks::Extents(extents.to_list())
+                OverwrittenBlocks::Extents(extents.to_list())
             }
-            Operation::UnmapAll(blocks) => AccessedBlocks::Disk(*blocks),
-            Operation::Read(blocks) => one_extent(blocks.extent),
-            Operation::Write(blocks) | Operation::Compare(blocks) | Operation::OrWrite(blocks) =>
-                one_extent(blocks.extent),
-            Operation::CompareAndWrite(exchange) => one_extent(exchange.extent),
-            Operation::Copy(blocks) => two_extents(blocks.source(), blocks.destination()),
-            Operation::Verify(extent)
-            | Operation::CompareEach { extent, .. }
-            | Operation::Fill { extent, .. }
+            Operation::UnmapAll(blocks) => OverwrittenBlocks::Disk(*blocks),
+            Operation::Write(blocks) => OverwrittenBlocks::one(blocks.extent),
+            Operation::Copy(blocks) => OverwrittenBlocks::one(blocks.destination()),
+            Operation::Fill { extent, .. }
             | Operation::UnmapExtent(extent)
-            | Operation::AnchorExtent(extent) => one_extent(*extent),
-            Operation::MarkBad { lba, .. } => one_extent(one_block(*lba)),
-            Operation::Nothing
-            | Operation::TestReady
-            | Operation::StartStop { .. }
-            | Operation::ReturnSense { .. }
-            | Operation::ReturnInquiry { .. }
-            | Operation::ReturnLuns { .. }
-            | Operation::ReturnReport { .. }
-            | Operation::ReturnModes { .. }
-            | Operation::ChangeModes { .. }
-            | Operation::ReturnCapacity10
-            | Operation::ReturnCapacity16(_)
-            | Operation::PreFetch(_)
-            | Operation::Synchronize(_)
-            | Operation::ReturnLbaStatus { .. }
-            | Operation::ReturnReservations { .. }
-            | Operation::ChangeReservations { .. } => AccessedBlocks::none(),
+            | Operation::AnchorExtent(extent) => OverwrittenBlocks::one(*extent),
+            Operation::MarkBad { lba, .. } => OverwrittenBlocks::one(one_block(*lba)),
+            _ => OverwrittenBlocks::none(),
         }
     }
 
@@ -132,30 +136,13 @@ impl<'a> Operation<'a> {
     }
 }
 
-fn one_extent(extent: Extent) -> AccessedBlocks
-    ensures { extents_in result ≡ extent ∷ [] }
-{
-    let mut list = UnmapList::new();
-    list.push(extent);
-    AccessedBlocks::Extents(list)
-}
-
-fn two_extents(first: Extent, second: Extent) -> AccessedBlocks
-    ensures { extents_in result ≡ first ∷ second ∷ [] }
-{
-    let mut list = UnmapList::new();
-    list.push(first);
-    list.push(second);
-    AccessedBlocks::Extents(list)
-}
-
-/// The blocks that a command reads or writes. A refused one has none.
-fn accessed_by(checked: &Result<Operation<'_>, Refusal>) -> AccessedBlocks
-    ensures { extents_in result ≡ accessed (medium_of checked.now) }
+/// The blocks that a command overwrites. A refused command overwrites none.
+fn overwritten_by(checked: &Result<Operation<'_>, Refusal>) -> OverwrittenBlocks
+    ensures { extents_in result ≡ (medium_of checked.now).overwritten }
 {
     match checked {
-        Ok(operation) => operation.accessed(),
-        Err(_) => AccessedBlocks::none(),
+        Ok(operation) => operation.overwritten(),
+        Err(_) => OverwrittenBlocks::none(),
     }
 }
 
@@ -190,29 +177,24 @@ fn marked_code(cor_dis: bool) -> SenseCode
     }
 }
 
-/// What the faults see of a command on a disk of `capacity` blocks. `blocks` are those that it reads or
-/// writes.
+/// What the faults see of a command. `overwritten` are the blocks that it overwrites.
 fn seen<'a>(
     initiator: Initiator,
     cdb: &[u8],
     checked: &Result<Operation<'_>, Refusal>,
-    capacity: u64,
-    blocks: &'a AccessedBlocks,
+    overwritten: &'a OverwrittenBlocks,
 ) -> SeenCommand<'a>
-    requires capacity { capacity ≤ MAX_CAPACITY }
-    requires blocks { extents_in blocks.now ≡ accessed (medium_of checked.now) }
+    requires { extents_in overwritten.now ≡ (medium_of checked.now).overwritten }
     ensures { result ≡ seen initiator cdb.now checked.now }
 {
-    let writes = match checked {
-        Ok(Operation::CompareAndWrite(_) | Operation::OrWrite(_) | Operation::Copy(_)) => false,
-        Ok(operation) => operation.medium_use(capacity).writes,
-        Err(_) => false,
-    };
     SeenCommand {
         initiator,
         code: cdb.first().copied(),
-        blocks: blocks.seen(),
-        writes,
+        read: match checked {
+            Ok(operation) => operation.read(),
+            Err(_) => None,
+        },
+        overwritten: overwritten.seen(),
     }
 }
 
@@ -326,12 +308,11 @@ impl<S: Store> Target<S> {
         ensures operation { result.operation ≡ executed_by self.old.state initiator
             (attempt_by (disk_of self.old) initiator cdb.now checked.entry).result }
     {
-        let capacity = self.config.blocks();
-        let blocks = accessed_by(&checked);
-        let command = seen(initiator, cdb, &checked, capacity, &blocks);
+        let overwritten = overwritten_by(&checked);
+        let command = seen(initiator, cdb, &checked, &overwritten);
         let tried = self.attempt(&command, checked);
-        let blocks = accessed_by(&tried);
-        let command = seen(initiator, cdb, &tried, capacity, &blocks);
+        let overwritten = overwritten_by(&tried);
+        let command = seen(initiator, cdb, &tried, &overwritten);
         let mark = marked_by(&tried);
         let reply = self.perform(initiator, &tried, buf);
         if reply.status == Status::Good {

@@ -12,6 +12,7 @@ ghost use Rattle.sg_target.specs.Laws.{FoundRefusalsChangeNothing, HappeningsLea
 ghost use Rattle.sg_target.specs.FaultLaws.{ArrivalChangesOnlyCounts, CommandsOverwriteTheirBlocks};
 ghost use Rattle.sg_target.specs.FaultLaws.{FaultsOnlyDropOrShorten, OnlyOverwritingHeals};
 ghost use Rattle.sg_target.specs.FaultLaws.{OnlyMetCommandsChange, OnlyPassedCommandsEndWithGood};
+ghost use Rattle.sg_target.specs.FaultLaws.{OperationsUseTheBlocksThatAreChecked};
 ghost use Rattle.sg_target.specs.FaultLaws.{OthersMeetNoFault, RefusedCommandsStayRefused};
 ghost use Rattle.sg_target.specs.FaultLaws.{WithoutFaultsARunIsSound, WithoutFaultsNothingChanges};
 ghost use Rattle.sg_target.specs.Laws.{LimitsAreKept, UnmapsEachExtent};
@@ -213,8 +214,14 @@ pub fn commands_write_only_their_blocks()
     an_anchoring_anchors_each_extent();
 }
 
-/// A command overwrites the blocks that it writes: all commands but COMPARE AND WRITE and ORWRITE, which
-/// read their blocks first, do not read them. No command overwrites other blocks.
+/// An operation reads or overwrites the blocks that its checks look at, and no others. But PRE-FETCH,
+/// SYNCHRONIZE CACHE and GET LBA STATUS use none of the blocks that they name.
+pub fn operations_use_the_blocks_that_are_checked()
+    ensures { OperationsUseTheBlocksThatAreChecked }
+{}
+
+/// Each command that writes blocks overwrites them, except COMPARE AND WRITE and ORWRITE, which read them
+/// first. No command overwrites other blocks.
 pub fn commands_overwrite_their_blocks()
     ensures { CommandsOverwriteTheirBlocks }
 {}

@@ -96,7 +96,7 @@ pub struct mdl_fault {
     pub has_code: u8,
     /// This operation code, if `has_code` is 1.
     pub code: u8,
-    /// 1 if a command that writes all of its blocks heals them, 0 if none does; 0 without blocks.
+    /// 1 if a command that overwrites all of its blocks heals them, 0 if none does; 0 without blocks.
     pub healed_by_writes: u8,
     /// The sense key that it reports, 0 to 15 but 12.
     pub key: u8,
